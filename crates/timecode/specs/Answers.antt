@@ -1,0 +1,123 @@
+-- Document 01, "Numbers a call refuses with": the number and the values of each case of each answer.
+use mathlib.Core.Bool.{Bool, true, false}
+use mathlib.Core.List.{List, [], _∷_}
+use Prim.Native.Nat.{ℕ, _-_}
+use lib.IntN.{ℤ, pos}
+use lib.ListN.{getD}
+use Rattle.timecode.specs.declared.Answer.{Answer}
+use Rattle.timecode.specs.declared.Answer.the-variants.{Quiet, Report}
+use Rattle.timecode.specs.declared.Classified.{Classified}
+use Rattle.timecode.specs.declared.Classified.the-variants.{Symbol}
+use Rattle.timecode.specs.declared.Reading.{Reading}
+use Rattle.timecode.specs.declared.Reading.the-variants.{Accepted}
+use Rattle.timecode.specs.declared.Refusal.{Refusal}
+use Rattle.timecode.specs.declared.Refusal.the-variants.{
+  UnknownFormat,
+  InvalidTime,
+  WrongLength,
+  UnknownSymbol,
+  MisplacedMark,
+  InvalidElement,
+  InvalidDigit,
+  SecondsDiffer,
+  ControlTooLong,
+  InvalidInterval,
+  InvalidYearLength,
+  StartPastEnd,
+  InvalidReader,
+}
+use Rattle.timecode.specs.declared.Scanned.{Scanned}
+use Rattle.timecode.specs.declared.Scanned.the-variants.{Found, None}
+use Rattle.timecode.specs.declared.Stepped.{Stepped}
+use Rattle.timecode.specs.declared.Stepped.the-variants.{Next}
+use Rattle.timecode.specs.declared.Subtracted.{Subtracted}
+use Rattle.timecode.specs.declared.Subtracted.the-variants.{Hundredths}
+use Rattle.timecode.specs.declared.Time.{Time}
+use Rattle.timecode.specs.declared.Written.{Written}
+use Rattle.timecode.specs.declared.Written.the-variants.{Done}
+
+-- the number of a refusal
+abbrev pub number : Refusal → ℕ
+number UnknownFormat = 1
+number InvalidTime = 2
+number WrongLength = 3
+number UnknownSymbol = 4
+number (MisplacedMark i) = 5
+number (InvalidElement i) = 6
+number InvalidDigit = 7
+number SecondsDiffer = 8
+number ControlTooLong = 9
+number InvalidInterval = 10
+number InvalidYearLength = 11
+number StartPastEnd = 12
+number InvalidReader = 13
+
+-- the refusal with the number k; i is the index that 5 and 6 carry
+abbrev pub refusal : ℕ → ℕ → Refusal
+refusal k i =
+    getD
+    (UnknownFormat ∷ InvalidTime ∷ WrongLength ∷ UnknownSymbol ∷ MisplacedMark i ∷ InvalidElement i ∷ InvalidDigit
+    ∷ SecondsDiffer ∷ ControlTooLong ∷ InvalidInterval ∷ InvalidYearLength ∷ StartPastEnd ∷ InvalidReader ∷ [])
+    (k - 1)
+    UnknownFormat
+
+-- One check of a call: the answer goes on where it passes, and refuses with the number k where it fails.
+abbrev pub check : {Any : Type 0} → (Refusal → Any) → ℕ → Bool → Any → Any
+check refused k true answer = answer
+check refused k false answer = refused (refusal k 0)
+
+-- What an answer says: 0 and its values, or the number of a refusal and the value beside it.
+pub record Said : Type 0 where
+  pub number : ℕ
+  pub values : List ℤ
+
+abbrev index : Refusal → List ℤ
+index UnknownFormat = []
+index InvalidTime = []
+index WrongLength = []
+index UnknownSymbol = []
+index (MisplacedMark i) = pos i ∷ []
+index (InvalidElement i) = pos i ∷ []
+index InvalidDigit = []
+index SecondsDiffer = []
+index ControlTooLong = []
+index InvalidInterval = []
+index InvalidYearLength = []
+index StartPastEnd = []
+index InvalidReader = []
+
+abbrev refused : Refusal → Said
+refused r = record { number = number r; values = index r }
+
+abbrev said : List ℤ → Said
+said vs = record { number = 0; values = vs }
+
+abbrev pub writtenSaid : Written → Said
+writtenSaid Done = said []
+writtenSaid (Written.Refused r) = refused r
+
+abbrev pub readingSaid : Reading → Said
+readingSaid (Accepted t w) = said (pos (t .day) ∷ pos (t .hundredths) ∷ pos w ∷ [])
+readingSaid (Reading.Refused r) = refused r
+
+abbrev pub steppedSaid : Stepped → Said
+steppedSaid (Next t) = said (pos (t .day) ∷ pos (t .hundredths) ∷ [])
+steppedSaid (Stepped.Refused r) = refused r
+
+abbrev pub subtractedSaid : Subtracted → Said
+subtractedSaid (Hundredths d) = said (d ∷ [])
+subtractedSaid (Subtracted.Refused r) = refused r
+
+abbrev pub classifiedSaid : Classified → Said
+classifiedSaid (Symbol s) = said (pos s ∷ [])
+classifiedSaid (Classified.Refused r) = refused r
+
+abbrev pub scannedSaid : Scanned → Said
+scannedSaid (Found a t w) = said (pos a ∷ pos (t .day) ∷ pos (t .hundredths) ∷ pos w ∷ [])
+scannedSaid None = said []
+scannedSaid (Scanned.Refused r) = refused r
+
+abbrev pub answerSaid : Answer → Said
+answerSaid Quiet = said []
+answerSaid (Report t w) = said (pos (t .day) ∷ pos (t .hundredths) ∷ pos w ∷ [])
+answerSaid (Answer.Refused r) = refused r

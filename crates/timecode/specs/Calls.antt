@@ -1,0 +1,95 @@
+-- Document 01, "Classifier, difference, scan, program": what the classifier, Difference and Scan answer.
+use mathlib.Core.Bool.{Bool, true, false, cond, _&&_}
+use mathlib.Core.List.{List, [], _∷_}
+use Prim.Native.Nat.{ℕ, zero, suc, _+_, _*_, _-_}
+use lib.Dec.{leb, eqb}
+use lib.IntN.{ℤ, pos, _+ℤ_, _-ℤ_, _*ℤ_}
+use lib.ListN.{getD, length, take, drop}
+use Rattle.timecode.specs.Answers.{check}
+use Rattle.timecode.specs.Formats.{known, size, dayLength, inRange}
+use Rattle.timecode.specs.Frames.{left, readOf}
+use Rattle.timecode.specs.declared.Classified.{Classified}
+use Rattle.timecode.specs.declared.Classified.the-variants.{Symbol}
+use Rattle.timecode.specs.declared.Format.{Format}
+use Rattle.timecode.specs.declared.Reading.{Reading}
+use Rattle.timecode.specs.declared.Reading.the-variants.{Accepted}
+use Rattle.timecode.specs.declared.Scanned.{Scanned}
+use Rattle.timecode.specs.declared.Scanned.the-variants.{Found, None}
+use Rattle.timecode.specs.declared.Subtracted.{Subtracted}
+use Rattle.timecode.specs.declared.Subtracted.the-variants.{Hundredths}
+use Rattle.timecode.specs.declared.Time.{Time}
+use Rattle.timecode.specs.declared.Written.{Written}
+use Rattle.timecode.specs.declared.Written.the-variants.{Done}
+
+-- ---- Classifier
+
+-- x is from a to b, ends included
+abbrev pub within : ℕ → ℕ → ℕ → Bool
+within a b x = leb a x && leb x b
+
+-- With 100p from 95T to 105T: 100w from 15T to 25T gives 0, 45T to 55T gives 1, 75T to 85T gives 2; all else 3.
+unfoldable pub symbolOf : ℕ → ℕ → ℕ → ℕ
+symbolOf T width period =
+    cond (within (95 * T) (105 * T) (100 * period))
+    (cond (within (15 * T) (25 * T) (100 * width)) 0
+    (cond (within (45 * T) (55 * T) (100 * width)) 1
+    (cond (within (75 * T) (85 * T) (100 * width)) 2 3)))
+    3
+
+-- number 10: T, the nominal element interval, is 100 to 10,000,000 counter ticks
+unfoldable pub isInterval : ℕ → Bool
+isInterval T = within 100 10000000 T
+
+unfoldable pub classifyOf : ℕ → ℕ → ℕ → Classified
+classifyOf T width period = check Classified.Refused 10 (isInterval T) (Symbol (symbolOf T width period))
+
+-- pulse by pulse
+unfoldable pub symbolsOf : ℕ → List ℕ → List ℕ → List ℕ
+symbolsOf T [] periods = []
+symbolsOf T (w ∷ ws) [] = []
+symbolsOf T (w ∷ ws) (p ∷ ps) = symbolOf T w p ∷ symbolsOf T ws ps
+
+-- over lists 10, then 3: all of one length
+unfoldable pub classifyListOf : ℕ → List ℕ → List ℕ → List ℕ → Written
+classifyListOf T widths periods lent =
+    check Written.Refused 10 (isInterval T)
+    (check Written.Refused 3 (eqb (length widths) (length lent) && eqb (length periods) (length lent))
+    Done)
+
+unfoldable pub classifyListLeaves : ℕ → List ℕ → List ℕ → List ℕ → List ℕ
+classifyListLeaves T widths periods lent = left (classifyListOf T widths periods lent) (symbolsOf T widths periods) lent
+
+-- ---- Difference: 8,640,000 times the days' difference, plus the c's; number 2 for a range, never for a grid
+
+unfoldable pub differenceOf : Time → Time → Subtracted
+differenceOf t u =
+    check Subtracted.Refused 2 (inRange t && inRange u)
+    (Hundredths (pos dayLength *ℤ (pos (t .day) -ℤ pos (u .day)) +ℤ (pos (t .hundredths) -ℤ pos (u .hundredths))))
+
+-- ---- Scan
+
+-- the part from a to a + n
+unfoldable pub partAt : Format → List ℕ → ℕ → List ℕ
+partAt f recording a = take (size f) (drop a recording)
+
+-- a is found where element a - 1 is a mark and the frame beginning at a is accepted; else the places after it are looked at
+abbrev pub found : Bool → Reading → ℕ → Scanned → Scanned
+found true (Accepted t w) a after = Found a t w
+found true (Reading.Refused r) a after = after
+found false reading a after = after
+
+-- the lowest of k places, a the first of them
+unfoldable pub lowestOf : Format → List ℕ → ℕ → ℕ → Scanned
+lowestOf f recording zero a = None
+lowestOf f recording (suc k) a = found (eqb (getD recording (a - 1) 0) 2) (readOf f (partAt f recording a)) a (lowestOf f recording k (suc a))
+
+-- at least 1 and at least the start
+abbrev pub firstPlace : ℕ → ℕ
+firstPlace start = cond (leb 1 start) start 1
+
+-- Scan checks 1, 12; a frame at a has room where a + n is at most the recording's length.
+unfoldable pub scanOf : Format → List ℕ → ℕ → Scanned
+scanOf f recording start =
+    check Scanned.Refused 1 (known f)
+    (check Scanned.Refused 12 (leb start (length recording))
+    (lowestOf f recording (length recording + 1 - (firstPlace start + size f)) (firstPlace start)))

@@ -1,0 +1,101 @@
+-- Document 01, "Elements and formats": the formats, their table, and the times that lie on them.
+use mathlib.Core.Bool.{Bool, true, false, cond, _&&_, _||_}
+use mathlib.Core.List.{List, [], _∷_}
+use Prim.Native.Nat.{ℕ, _%_}
+use lib.Dec.{leb, eqb}
+use Rattle.timecode.specs.declared.Format.{Format}
+use Rattle.timecode.specs.declared.Time.{Time}
+
+-- is k one of these
+abbrev pub member : ℕ → List ℕ → Bool
+member k [] = false
+member k (x ∷ xs) = eqb k x || member k xs
+
+-- A symbol is 0 (zero or index marker), 1 (one), 2 (mark: position identifier or reference bit) or 3 (spoiled).
+abbrev pub isSymbol : ℕ → Bool
+isSymbol s = leb s 3
+
+-- the rate letters in ASCII
+abbrev pub A : ℕ
+A = 65
+
+abbrev pub B : ℕ
+B = 66
+
+abbrev pub D : ℕ
+D = 68
+
+abbrev pub E : ℕ
+E = 69
+
+abbrev pub G : ℕ
+G = 71
+
+abbrev pub H : ℕ
+H = 72
+
+-- A line of the table: the letter, the expressions that it takes, n, S, and where each nine control bits begin.
+pub record Row : Type 0 where
+  pub letter : ℕ
+  pub expressions : List ℕ
+  pub elements : ℕ
+  pub interval : ℕ
+  pub control : List ℕ
+
+unfoldable pub table : List Row
+table =
+    record { letter = A; expressions = 0 ∷ 1 ∷ 2 ∷ 3 ∷ []; elements = 100; interval = 10; control = 50 ∷ 60 ∷ 70 ∷ [] }
+    ∷ record { letter = B; expressions = 0 ∷ 1 ∷ 2 ∷ 3 ∷ []; elements = 100; interval = 100; control = 50 ∷ 60 ∷ 70 ∷ [] }
+    ∷ record { letter = D; expressions = 1 ∷ 2 ∷ []; elements = 60; interval = 360000; control = 50 ∷ [] }
+    ∷ record { letter = E; expressions = 1 ∷ 2 ∷ []; elements = 100; interval = 1000; control = 50 ∷ 60 ∷ 70 ∷ 80 ∷ 90 ∷ [] }
+    ∷ record { letter = G; expressions = 1 ∷ 2 ∷ []; elements = 100; interval = 1; control = 60 ∷ 70 ∷ 80 ∷ 90 ∷ [] }
+    ∷ record { letter = H; expressions = 1 ∷ 2 ∷ []; elements = 60; interval = 6000; control = 50 ∷ [] }
+    ∷ []
+
+-- Any other letter takes no expression, so every call refuses it before it asks for the rest.
+abbrev pub noRow : Row
+noRow = record { letter = 0; expressions = []; elements = 100; interval = 1; control = [] }
+
+unfoldable pub lookUp : ℕ → List Row → Row
+lookUp l [] = noRow
+lookUp l (r ∷ rs) = cond (eqb (r .letter) l) r (lookUp l rs)
+
+unfoldable pub rowOf : Format → Row
+rowOf f = lookUp (f .letter) table
+
+-- number 1: the letter and the expression are ones of the table
+unfoldable pub known : Format → Bool
+known f = member (f .expression) (rowOf f .expressions)
+
+-- n, the elements in a frame
+unfoldable pub size : Format → ℕ
+size f = rowOf f .elements
+
+-- S, the frame interval in hundredths
+unfoldable pub interval : Format → ℕ
+interval f = rowOf f .interval
+
+-- 0 = BCD, CF, SBS; 1 = BCD, CF; 2 = BCD; 3 = BCD, SBS
+unfoldable pub carriesControl : Format → Bool
+carriesControl f = member (f .expression) (0 ∷ 1 ∷ [])
+
+unfoldable pub carriesSeconds : Format → Bool
+carriesSeconds f = member (f .expression) (0 ∷ 3 ∷ [])
+
+-- A time is a day (1 to 366) and c, hundredths of a second since midnight (0 to 8,639,999).
+abbrev pub lastDay : ℕ
+lastDay = 366
+
+abbrev pub lastHundredth : ℕ
+lastHundredth = 8639999
+
+-- every day has 86,400 seconds
+abbrev pub dayLength : ℕ
+dayLength = 8640000
+
+unfoldable pub inRange : Time → Bool
+inRange t = leb 1 (t .day) && (leb (t .day) lastDay && leb (t .hundredths) lastHundredth)
+
+-- number 2: day and c are in range, and S divides c
+unfoldable pub onFormat : Format → Time → Bool
+onFormat f t = inRange t && eqb (t .hundredths % interval f) 0

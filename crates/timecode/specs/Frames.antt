@@ -1,0 +1,181 @@
+-- Document 01, "Stepping, writing, reading": Step and next after, Write, Read, and the generator.
+use mathlib.Core.Path.{_≡_}
+use mathlib.Core.Bool.{Bool, true, false, cond, _&&_, _||_}
+use mathlib.Core.List.{List, [], _∷_, _++_}
+use Prim.Native.Nat.{ℕ, zero, suc, _+_, _*_, _/_, _^_, _<_}
+use lib.Dec.{leb, ltb, eqb}
+use lib.ListN.{getD, length}
+use Rattle.timecode.specs.Answers.{refusal, check}
+use Rattle.timecode.specs.Formats.{member, isSymbol, known, size, interval, lastDay, dayLength, onFormat}
+use Rattle.timecode.specs.Layout.{Run, Field, seconds, minutes, hours, days, tenths, hundredths, hasSeconds, straightSeconds, control, timeFields, fields, flatten, runs, numbers, spread, inRun, rest, encode, digitIn, numberIn}
+use Rattle.timecode.specs.declared.Format.{Format}
+use Rattle.timecode.specs.declared.Reading.{Reading}
+use Rattle.timecode.specs.declared.Reading.the-variants.{Accepted}
+use Rattle.timecode.specs.declared.Stepped.{Stepped}
+use Rattle.timecode.specs.declared.Stepped.the-variants.{Next}
+use Rattle.timecode.specs.declared.Time.{Time}
+use Rattle.timecode.specs.declared.Written.{Written}
+use Rattle.timecode.specs.declared.Written.the-variants.{Done}
+
+-- ---- Step
+
+abbrev pub yearLengths : List ℕ
+yearLengths = 365 ∷ 366 ∷ []
+
+-- number 11: the year's length is 365 or 366, and the day is not beyond it
+unfoldable pub inYear : Time → ℕ → Bool
+inYear t year = member year yearLengths && leb (t .day) year
+
+-- day + 1, and after the year's last day day 1
+unfoldable pub dayAfter : ℕ → ℕ → ℕ
+dayAfter day year = cond (eqb day year) 1 (day + 1)
+
+-- c + S, or at 8,640,000 the day after and c = 0
+unfoldable pub following : Format → Time → ℕ → Time
+following f t year =
+    cond (eqb (t .hundredths + interval f) dayLength)
+    (record { day = dayAfter (t .day) year; hundredths = 0 })
+    (record { day = t .day; hundredths = t .hundredths + interval f })
+
+-- Step checks 1, 2, 11.
+unfoldable pub stepOf : Format → Time → ℕ → Stepped
+stepOf f t year =
+    check Stepped.Refused 1 (known f)
+    (check Stepped.Refused 2 (onFormat f t)
+    (check Stepped.Refused 11 (inYear t year)
+    (Next (following f t year))))
+
+-- u is the step of t for a year length that Step takes
+abbrev pub Follows : Format → Time → Time → Type 0
+Follows f t u = (year : ℕ) × (stepOf f t year ≡ Next u)
+
+abbrev pub sameTime : Time → Time → Bool
+sameTime t u = eqb (t .day) (u .day) && eqb (t .hundredths) (u .hundredths)
+
+abbrev pub gives : Stepped → Time → Bool
+gives (Next v) u = sameTime v u
+gives (Stepped.Refused r) u = false
+
+abbrev pub any : (ℕ → Bool) → List ℕ → Bool
+any p [] = false
+any p (x ∷ xs) = p x || any p xs
+
+-- Without a known year, u is next after t if one of the two lengths gives it. Day 366 counts only with 366: Step refuses it with 365.
+unfoldable pub nextAfter : Format → Time → Time → Bool
+nextAfter f t u = any (λ year. gives (stepOf f t year) u) yearLengths
+
+-- ---- Write
+
+-- the bytes as which a time and a control word are written
+unfoldable pub written : Format → Time → ℕ → List ℕ
+written f t w = encode (size f) (rest f) (runs f) (spread (fields f) (numbers t w))
+
+-- how many control bits the format carries
+abbrev pub totalWidth : Field → ℕ
+totalWidth [] = 0
+totalWidth (r ∷ rs) = r .width + totalWidth rs
+
+-- number 9: the control word needs no more bits than are carried
+unfoldable pub controlFits : Format → ℕ → Bool
+controlFits f w = ltb w (2 ^ totalWidth (control f))
+
+-- Write checks 1, 2, 9, 3.
+unfoldable pub writeOf : Format → Time → ℕ → List ℕ → Written
+writeOf f t w lent =
+    check Written.Refused 1 (known f)
+    (check Written.Refused 2 (onFormat f t)
+    (check Written.Refused 9 (controlFits f w)
+    (check Written.Refused 3 (eqb (length lent) (size f))
+    Done)))
+
+-- lent memory after a call: new contents where it was done, and the old where it was refused
+abbrev pub left : Written → List ℕ → List ℕ → List ℕ
+left Done new old = new
+left (Written.Refused r) new old = old
+
+-- the lent frame after Write: every byte is set, or none
+unfoldable pub writeLeaves : Format → Time → ℕ → List ℕ → List ℕ
+writeLeaves f t w lent = left (writeOf f t w lent) (written f t w) lent
+
+-- ---- Read
+
+-- number 4: no symbol above 3
+abbrev pub areSymbols : List ℕ → Bool
+areSymbols [] = true
+areSymbols (s ∷ ss) = isSymbol s && areSymbols ss
+
+-- some run holds the index
+abbrev pub held : List Run → ℕ → Bool
+held [] i = false
+held (r ∷ rs) i = inRun r i || held rs i
+
+-- What is wrong with symbol s at index i: 0, nothing; 5, a mark missing or where none belongs; 6, another symbol than the index marker's, or a 3 in the place of a digit, SBS or control bit.
+unfoldable pub offence : (ℕ → ℕ) → List Run → ℕ → ℕ → ℕ
+offence rests rs i s =
+    cond (held rs i)
+    (cond (ltb s 2) 0 (cond (eqb s 2) 5 6))
+    (cond (eqb s (rests i)) 0 (cond (eqb s 2 || eqb (rests i) 2) 5 6))
+
+-- numbers 5 and 6: the lowest index that offends, counted from i on, decides
+unfoldable pub checkElements : (ℕ → ℕ) → List Run → ℕ → List ℕ → Reading → Reading
+checkElements rests rs i [] answer = answer
+checkElements rests rs i (s ∷ ss) answer =
+    cond (eqb (offence rests rs i s) 0) (checkElements rests rs (suc i) ss answer) (Reading.Refused (refusal (offence rests rs i s) i))
+
+-- every digit is at most 9
+abbrev pub areDigits : List ℕ → List Run → Bool
+areDigits frame [] = true
+areDigits frame (r ∷ rs) = leb (digitIn frame r) 9 && areDigits frame rs
+
+-- number 7: no digit over 9, hours over 23, minutes or seconds over 59, day 0 or over 366
+unfoldable pub isTime : Format → List ℕ → Bool
+isTime f frame =
+    areDigits frame (flatten (timeFields f))
+    && (leb (numberIn frame (hours f)) 23
+    && (leb (numberIn frame (minutes f)) 59
+    && (leb (numberIn frame (seconds f)) 59
+    && (leb 1 (numberIn frame (days f)) && leb (numberIn frame (days f)) lastDay))))
+
+-- the time that the digits say
+unfoldable pub timeIn : Format → List ℕ → Time
+timeIn f frame =
+    record {
+      day = numberIn frame (days f);
+      hundredths = ((numberIn frame (hours f) * 60 + numberIn frame (minutes f)) * 60 + numberIn frame (seconds f)) * 100 + numberIn frame (tenths f) * 10 + numberIn frame (hundredths f);
+    }
+
+-- number 8: where SBS is carried it is the seconds that the digits say
+unfoldable pub secondsAgree : Format → List ℕ → Bool
+secondsAgree f frame = cond (hasSeconds f) (eqb (numberIn frame (straightSeconds f)) (timeIn f frame .hundredths / 100)) true
+
+-- Read checks 1, 3, 4, then the lowest index that offends with 5 or 6, then 7, 8.
+unfoldable pub readOf : Format → List ℕ → Reading
+readOf f frame =
+    check Reading.Refused 1 (known f)
+    (check Reading.Refused 3 (eqb (length frame) (size f))
+    (check Reading.Refused 4 (areSymbols frame)
+    (checkElements (rest f) (runs f) 0 frame
+    (check Reading.Refused 7 (isTime f frame)
+    (check Reading.Refused 8 (secondsAgree f frame)
+    (Accepted (timeIn f frame) (numberIn frame (control f))))))))
+
+-- ---- Generator
+
+-- a frame that a generator sends
+pub record Sent : Type 0 where
+  pub time : Time
+  pub control : ℕ
+
+-- stands for a frame past the last, which nothing asks for
+abbrev pub noFrame : Sent
+noFrame = record { time = record { day = 0; hundredths = 0 }; control = 0 }
+
+-- Its first time and all its control words are any that Write takes. Each time is the step of the last for a year length that Step takes.
+pub record Generator (f : Format) (sent : List Sent) : Type 0 where
+  pub takes : (j : ℕ) → j < length sent → (lent : List ℕ) → length lent ≡ size f → writeOf f (getD sent 0 noFrame .time) (getD sent j noFrame .control) lent ≡ Done
+  pub steps : (j : ℕ) → suc j < length sent → Follows f (getD sent j noFrame .time) (getD sent (suc j) noFrame .time)
+
+-- Its elements are the bytes of its frames, one after another.
+unfoldable pub elements : Format → List Sent → List ℕ
+elements f [] = []
+elements f (s ∷ ss) = written f (s .time) (s .control) ++ elements f ss

@@ -1,0 +1,50 @@
+-- A chain of checks taken apart: an answer that is no refusal passed them all.
+use mathlib.Core.Path.{_≡_, refl, ap, sym, _∙_, subst}
+use mathlib.Core.Bool.{Bool, true, false}
+use mathlib.Core.List.{List, [], _∷_, map}
+use Prim.Native.Nat.{ℕ}
+use native.Mathlib.Omega.{arith}
+use Rattle.timecode.specs.Answers.{number, refusal, check}
+use Rattle.timecode.specs.declared.Answer.{Answer}
+use Rattle.timecode.specs.declared.Answer.the-variants.{Quiet, Report}
+use Rattle.timecode.specs.declared.Reading.{Reading}
+use Rattle.timecode.specs.declared.Reading.the-variants.{Accepted}
+use Rattle.timecode.specs.declared.Refusal.{Refusal}
+use Rattle.timecode.specs.declared.Stepped.{Stepped}
+use Rattle.timecode.specs.declared.Stepped.the-variants.{Next}
+use Rattle.timecode.specs.declared.Time.{Time}
+use Rattle.timecode.specs.declared.Written.{Written}
+use Rattle.timecode.specs.declared.Written.the-variants.{Done}
+
+-- the refusal with the number k has the number k
+pub numbered : (i : ℕ) → map (λ k. number (refusal k i)) (1 ∷ 2 ∷ 3 ∷ 4 ∷ 5 ∷ 6 ∷ 7 ∷ 8 ∷ 9 ∷ 10 ∷ 11 ∷ 12 ∷ 13 ∷ []) ≡ 1 ∷ 2 ∷ 3 ∷ 4 ∷ 5 ∷ 6 ∷ 7 ∷ 8 ∷ 9 ∷ 10 ∷ 11 ∷ 12 ∷ 13 ∷ []
+numbered i = refl
+
+-- the answer a is none of the refusals
+abbrev pub Taken : {Any : Type 0} → (Refusal → Any) → Any → Type 0
+Taken refused a = (r : Refusal) → refused r ≡ a → ⊥
+
+pub passed : {Any : Type 0} (refused : Refusal → Any) (k : ℕ) (b : Bool) (a x : Any) → Taken refused x → check refused k b a ≡ x → (b ≡ true) × (a ≡ x)
+passed refused k true a x t h = (refl, h)
+passed refused k false a x t h = absurd (t (refusal k 0) h)
+
+pub passes : {Any : Type 0} (refused : Refusal → Any) (k : ℕ) (b : Bool) (a : Any) → b ≡ true → check refused k b a ≡ a
+passes refused k b a h = rw h
+
+no-path : _≡_ {A = ℕ} 0 1 → ⊥
+no-path z = omega arith
+
+pub accepted : (t : Time) (w : ℕ) → Taken Reading.Refused (Accepted t w)
+accepted t w r h = no-path cc
+
+pub done : Taken Written.Refused Done
+done r h = no-path cc
+
+pub next : (t : Time) → Taken Stepped.Refused (Next t)
+next t r h = no-path cc
+
+pub quiet-no-report : {P : Type 0} (t : Time) (w : ℕ) → Quiet ≡ Report t w → P
+quiet-no-report t w h = absurd (no-path cc)
+
+pub refused-no-report : {P : Type 0} (r : Refusal) (t : Time) (w : ℕ) → Answer.Refused r ≡ Report t w → P
+refused-no-report r t w h = absurd (no-path cc)

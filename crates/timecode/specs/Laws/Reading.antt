@@ -1,0 +1,220 @@
+-- Read accepts exactly the bytes as which a time and a control word are written, and gives those.
+use mathlib.Core.Path.{_≡_, refl, sym, ap, ap₂, _∙_, subst, subst₂}
+use mathlib.Core.Bool.{Bool, true, false, cond, _&&_}
+use mathlib.Core.List.{List, [], _∷_, _++_}
+use Prim.Native.Nat.{ℕ, zero, suc, _+_, _*_, _/_, _%_, _^_, _<_, _≤_}
+use native.Mathlib.Nat.{not-suc-le-zero, add-zero, zero-add, add-suc, suc-add, mod-eq-of-lt, mod-one}
+use native.Mathlib.Omega.{arith}
+use borrow.Author.Tests.{ltb-true, leb-true, eqb-true, lt-ltb, le-leb, eq-eqb}
+use lib.Dec.{leb, ltb, eqb}
+use lib.ListN.{getD, length}
+use Rattle.timecode.specs.Answers.{refusal}
+use Rattle.timecode.specs.Formats.{known, size, interval, lastDay, lastHundredth, onFormat}
+use Rattle.timecode.specs.Frames.{totalWidth, controlFits, written, areSymbols, offence, checkElements, areDigits, isTime, timeIn, secondsAgree, readOf}
+use Rattle.timecode.specs.Laws.Checks.{passed, passes, accepted}
+use Rattle.timecode.specs.Laws.Digits.{Below, Positive, capacity, joined, decode, digits-below, joined-lt, digits-agree, number-joined}
+use Rattle.timecode.specs.Laws.Fields.{Each, fields-apart, fields-together, number-back, digits-back, AreDigits, are-digits, digits-are, Binary, binary-positive, binary-capacity, binary-small, binary-below}
+use Rattle.timecode.specs.Laws.Runs.{length-tabulate, length-encode, Small, small-append, held-inside, symbol-free, symbol-held, Clean, clean-bits, decode-encode, encode-decode, encode-clean, small-decoded, small-front, small-back}
+use Rattle.timecode.specs.Laws.Table.{layout-proper}
+use Rattle.timecode.specs.Laws.Tests.{by-test, clash, and-left, and-right}
+use Rattle.timecode.specs.Laws.Times.{OnFormat, on-format, is-on-format, time-small, time-grid}
+use Rattle.timecode.specs.Layout.{Run, Field, seconds, minutes, hours, days, tenths, hundredths, hasSeconds, straightSeconds, controlRange, control, timeFields, fields, flatten, runs, second, minute, hour, timeNumbers, numbers, digitsOf, spread, rest, isMark, symbolAt, tabulate, encode, numberIn}
+use Rattle.timecode.specs.declared.Format.{Format}
+use Rattle.timecode.specs.declared.Reading.{Reading}
+use Rattle.timecode.specs.declared.Reading.the-variants.{Accepted}
+use Rattle.timecode.specs.declared.Time.{Time}
+
+-- the time and the control word are ones that Write takes in the format
+pub record Valid (f : Format) (t : Time) (w : ℕ) : Type 0 where
+  pub format : known f ≡ true
+  pub time : OnFormat f t
+  pub room : w < 2 ^ totalWidth (control f)
+
+-- ---- elements that offend
+
+elements-head : (rests : ℕ → ℕ) (rs : List Run) (s : ℕ) (ss : List ℕ) (i : ℕ) (a : Reading) (t : Time) (w : ℕ) → checkElements rests rs i (s ∷ ss) a ≡ Accepted t w → eqb (offence rests rs i s) 0 ≡ true
+unfolding checkElements
+elements-head rests rs s ss i a t w h =
+    by-test (eqb (offence rests rs i s) 0) (λ y. y) (λ m. absurd (accepted t w (refusal (offence rests rs i s) i) (rw m at h)))
+
+elements-passed : (rests : ℕ → ℕ) (rs : List Run) (ss : List ℕ) (i : ℕ) (a : Reading) (t : Time) (w : ℕ) → checkElements rests rs i ss a ≡ Accepted t w
+    → ((k : ℕ) → k < length ss → offence rests rs (i + k) (getD ss k 0) ≡ 0) × (a ≡ Accepted t w)
+unfolding checkElements
+elements-passed rests rs [] i a t w h = (λ k l. absurd (not-suc-le-zero l), h)
+elements-passed rests rs (s ∷ ss) i a t w h =
+    let here = elements-head rests rs s ss i a t w h in
+    let later = elements-passed rests rs ss (suc i) a t w (rw here at h) in
+    (clean (eqb-true (offence rests rs i s) 0 here) (later .0), later .1)
+  where
+    clean : offence rests rs i s ≡ 0 → ((k : ℕ) → k < length ss → offence rests rs (suc i + k) (getD ss k 0) ≡ 0) → (k : ℕ) → k < suc (length ss) → offence rests rs (i + k) (getD (s ∷ ss) k 0) ≡ 0
+    clean z c zero l = rw (add-zero i) z
+    clean z c (suc k) l = rw (add-suc i k, ← suc-add i k) (c k (omega arith))
+
+pub elements-pass : (rests : ℕ → ℕ) (rs : List Run) (ss : List ℕ) (i : ℕ) (a : Reading) → ((k : ℕ) → k < length ss → offence rests rs (i + k) (getD ss k 0) ≡ 0) → checkElements rests rs i ss a ≡ a
+unfolding checkElements
+elements-pass rests rs [] i a c = refl
+elements-pass rests rs (s ∷ ss) i a c =
+    let z : offence rests rs i s ≡ 0 = rw (add-zero i) at (c 0 (omega arith)) in
+    rw (eq-eqb (offence rests rs i s) 0 z) (elements-pass rests rs ss (suc i) a (λ k l. rw (suc-add i k, ← add-suc i k) (c (suc k) (omega arith))))
+
+-- ---- what Read accepts was written
+
+-- hours, minutes, seconds, tenths and hundredths of the hundredths that they make
+clock : (h m s t u : ℕ) → m ≤ 59 → s ≤ 59 → t ≤ 9 → u ≤ 9 → (c : ℕ) → c ≡ ((h * 60 + m) * 60 + s) * 100 + t * 10 + u
+    → (second c ≡ s) × (minute c ≡ m) × (hour c ≡ h) × (c / 10 % 10 ≡ t) × (c % 10 ≡ u)
+clock h m s t u a b d e c q = omega arith
+
+pub record IsTime (f : Format) (frame : List ℕ) : Type 0 where
+  pub digits : AreDigits (decode (flatten (timeFields f)) frame)
+  pub hour-is : numberIn frame (hours f) ≤ 23
+  pub minute-is : numberIn frame (minutes f) ≤ 59
+  pub second-is : numberIn frame (seconds f) ≤ 59
+  pub first : 1 ≤ numberIn frame (days f)
+  pub last : numberIn frame (days f) ≤ lastDay
+
+pub is-time : (f : Format) (frame : List ℕ) → isTime f frame ≡ true → IsTime f frame
+unfolding isTime
+is-time f frame h =
+    let H = leb (numberIn frame (hours f)) 23 in
+    let M = leb (numberIn frame (minutes f)) 59 in
+    let S = leb (numberIn frame (seconds f)) 59 in
+    let F = leb 1 (numberIn frame (days f)) in
+    let L = leb (numberIn frame (days f)) lastDay in
+    let a = and-right (areDigits frame (flatten (timeFields f))) (H && (M && (S && (F && L)))) h in
+    let b = and-right H (M && (S && (F && L))) a in
+    let c = and-right M (S && (F && L)) b in
+    let d = and-right S (F && L) c in
+    record {
+      digits = are-digits frame (flatten (timeFields f)) (and-left (areDigits frame (flatten (timeFields f))) (H && (M && (S && (F && L)))) h);
+      hour-is = leb-true (numberIn frame (hours f)) 23 (and-left H (M && (S && (F && L))) a);
+      minute-is = leb-true (numberIn frame (minutes f)) 59 (and-left M (S && (F && L)) b);
+      second-is = leb-true (numberIn frame (seconds f)) 59 (and-left S (F && L) c);
+      first = leb-true 1 (numberIn frame (days f)) (and-left F L d);
+      last = leb-true (numberIn frame (days f)) lastDay (and-right F L d);
+    }
+
+pub straight-binary : (f : Format) → Binary (straightSeconds f)
+unfolding straightSeconds
+straight-binary f = (refl, (refl, tt))
+
+pub control-binary : (f : Format) → Binary (control f)
+unfolding control controlRange
+control-binary f = (refl, (refl, (refl, (refl, (refl, tt)))))
+
+pub straight-wide : (f : Format) → hasSeconds f ≡ true → capacity (straightSeconds f) ≡ 131072
+unfolding straightSeconds
+straight-wide f y = rw y
+
+straight-absent : (f : Format) → hasSeconds f ≡ false → capacity (straightSeconds f) ≡ 1
+unfolding straightSeconds
+straight-absent f m = rw m
+
+seconds-agree : (f : Format) (frame : List ℕ) → secondsAgree f frame ≡ true → hasSeconds f ≡ true → numberIn frame (straightSeconds f) ≡ timeIn f frame .hundredths / 100
+unfolding secondsAgree
+seconds-agree f frame h y = eqb-true (numberIn frame (straightSeconds f)) (timeIn f frame .hundredths / 100) (rw y at h)
+
+module _ (f : Format) (frame : List ℕ) (k : known f ≡ true) (n : length frame ≡ size f) (clean : Clean (size f) (rest f) (runs f) frame) (time : IsTime f frame) (agree : secondsAgree f frame ≡ true) where
+  small : Small (runs f) (decode (runs f) frame)
+  small = small-decoded frame (runs f) (clean-bits (size f) (rest f) (runs f) frame (layout-proper f k) clean)
+
+  time-part : Small (flatten (timeFields f)) (decode (flatten (timeFields f)) frame)
+  unfolding runs fields timeFields seconds minutes hours days tenths hundredths
+  time-part = small-front frame (flatten (timeFields f)) (straightSeconds f ++ (control f ++ [])) small
+
+  other-part : Small (straightSeconds f ++ (control f ++ [])) (decode (straightSeconds f ++ (control f ++ [])) frame)
+  unfolding runs fields timeFields seconds minutes hours days tenths hundredths
+  other-part = small-back frame (flatten (timeFields f)) (straightSeconds f ++ (control f ++ [])) small
+
+  straight-below : Below (straightSeconds f) (decode (straightSeconds f) frame)
+  straight-below = binary-below (straightSeconds f) (decode (straightSeconds f) frame) (straight-binary f) (small-front frame (straightSeconds f) (control f ++ []) other-part)
+
+  control-below : Below (control f) (decode (control f) frame)
+  control-below =
+      binary-below (control f) (decode (control f) frame) (control-binary f)
+      (small-front frame (control f) [] (small-back frame (straightSeconds f) (control f ++ []) other-part))
+
+  -- SBS holds the seconds of the time, as far as it is carried
+  straight-agrees : joined (straightSeconds f) (decode (straightSeconds f) frame) ≡ timeIn f frame .hundredths / 100 % capacity (straightSeconds f)
+  straight-agrees =
+      let below = joined-lt (straightSeconds f) (decode (straightSeconds f) frame) straight-below in
+      by-test (hasSeconds f)
+      (λ y.
+      let q = sym (number-joined frame (straightSeconds f)) ∙ seconds-agree f frame agree y in
+      q ∙ sym (mod-eq-of-lt (rw q at below)))
+      (λ m.
+      let one = straight-absent f m in
+      let zero-is : joined (straightSeconds f) (decode (straightSeconds f) frame) ≡ 0 = omega (arith, below, one) in
+      zero-is ∙ sym (ap (λ (x : ℕ). timeIn f frame .hundredths / 100 % x) one ∙ mod-one (timeIn f frame .hundredths / 100)))
+
+  abbrev read-time : Time
+  read-time = timeIn f frame
+
+  abbrev read-control : ℕ
+  read-control = numberIn frame (control f)
+
+  digits-same : spread (fields f) (numbers read-time read-control) ≡ decode (runs f) frame
+  unfolding runs fields timeFields numbers timeNumbers timeIn seconds minutes hours days tenths hundredths
+  digits-same =
+      let c =
+      clock (numberIn frame (hours f)) (numberIn frame (minutes f)) (numberIn frame (seconds f)) (numberIn frame (tenths f)) (numberIn frame (hundredths f)) (time .minute-is) (time .second-is) (omega (arith, time .digits)) (omega (arith, time .digits)) (read-time .hundredths) refl in
+      fields-together frame (fields f) (numbers read-time read-control) (
+        ap (digitsOf (seconds f)) (c .0) ∙ digits-back frame (seconds f) (omega (arith, time .digits)),
+        (
+          ap (digitsOf (minutes f)) (c .1) ∙ digits-back frame (minutes f) (omega (arith, time .digits)),
+          (
+            ap (digitsOf (hours f)) (c .2) ∙ digits-back frame (hours f) (omega (arith, time .digits)),
+            (
+              digits-back frame (days f) (omega (arith, time .digits)),
+              (
+                ap (digitsOf (tenths f)) (c .3) ∙ digits-back frame (tenths f) (omega (arith, time .digits)),
+                (
+                  ap (digitsOf (hundredths f)) (c .4) ∙ digits-back frame (hundredths f) (omega (arith, time .digits)),
+                  (
+                    digits-agree (straightSeconds f) (decode (straightSeconds f) frame) (read-time .hundredths / 100) (binary-positive (straightSeconds f) (straight-binary f)) straight-below straight-agrees,
+                    (digits-back frame (control f) control-below, tt),
+                  ),
+                ),
+              ),
+            ),
+          ),
+        ),
+      )
+
+  read-on-format : OnFormat f read-time
+  unfolding timeIn timeFields tenths hundredths seconds minutes hours days
+  read-on-format =
+      record {
+        first = time .first;
+        last = time .last;
+        below = omega (arith, time .hour-is, time .minute-is, time .second-is, time .digits);
+        grid = time-grid f frame k time-part;
+      }
+
+  read-valid : Valid f read-time read-control
+  read-valid =
+      record {
+        format = k;
+        time = read-on-format;
+        room = subst (λ (x : ℕ). read-control < x) (binary-capacity (control f) (control-binary f)) (rw (number-joined frame (control f)) (joined-lt (control f) (decode (control f) frame) control-below));
+      }
+
+  read-written : written f read-time read-control ≡ frame
+  unfolding written
+  read-written = ap (encode (size f) (rest f) (runs f)) digits-same ∙ encode-decode (size f) (rest f) (runs f) frame (layout-proper f k) n clean
+
+pub accepted-was-written : (f : Format) (frame : List ℕ) (t : Time) (w : ℕ) → readOf f frame ≡ Accepted t w → Valid f t w × (written f t w ≡ frame)
+unfolding readOf
+accepted-was-written f frame t w h =
+    let a = passed Reading.Refused 1 (known f) _ (Accepted t w) (accepted t w) h in
+    let b = passed Reading.Refused 3 (eqb (length frame) (size f)) _ (Accepted t w) (accepted t w) (a .1) in
+    let c = passed Reading.Refused 4 (areSymbols frame) _ (Accepted t w) (accepted t w) (b .1) in
+    let d = elements-passed (rest f) (runs f) frame 0 _ t w (c .1) in
+    let e = passed Reading.Refused 7 (isTime f frame) _ (Accepted t w) (accepted t w) (d .1) in
+    let g = passed Reading.Refused 8 (secondsAgree f frame) _ (Accepted t w) (accepted t w) (e .1) in
+    let last = g .1 in
+    let same-time : timeIn f frame ≡ t = cc in
+    let same-control : numberIn frame (control f) ≡ w = cc in
+    let n = eqb-true (length frame) (size f) (b .0) in
+    let clean : Clean (size f) (rest f) (runs f) frame = λ i l. rw (zero-add i) at (d .0 i (omega arith)) in
+    subst₂ (λ (x : Time) (y : ℕ). Valid f x y × (written f x y ≡ frame)) same-time same-control
+    (read-valid f frame (a .0) n clean (is-time f frame (e .0)) (g .0), read-written f frame (a .0) n clean (is-time f frame (e .0)) (g .0))

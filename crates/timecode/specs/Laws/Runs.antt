@@ -1,0 +1,213 @@
+-- Writing digits at runs and reading them from there are inverse, at any layout that passes the test `proper`.
+use mathlib.Core.Path.{_≡_, refl, sym, ap, ap₂, _∙_}
+use mathlib.Core.Bool.{Bool, true, false, cond, not, _&&_, _||_}
+use mathlib.Core.List.{List, [], _∷_, _++_, map}
+use Prim.Native.Nat.{ℕ, zero, suc, _+_, _-_, _/_, _%_, _^_, _<_, _≤_}
+use native.Mathlib.Nat.{add-zero, add-suc, suc-add, zero-add, not-suc-le-zero, mod-eq-of-lt}
+use native.Mathlib.Omega.{arith}
+use borrow.Author.Tests.{ltb-true, leb-true, eqb-true, not-true, lt-ltb, le-leb, eq-eqb}
+use lib.Dec.{leb, ltb, eqb}
+use lib.ListN.{getD, length}
+use lib.Seq.{ext-getD}
+use Rattle.timecode.specs.Frames.{held, offence}
+use Rattle.timecode.specs.Laws.Bits.{value-of-bits, value-small, bits-of-value}
+use Rattle.timecode.specs.Laws.Digits.{decode}
+use Rattle.timecode.specs.Laws.Tests.{by-test, clash, and-left, and-right, or-other, or-first, or-second, neither-first, neither-second}
+use Rattle.timecode.specs.Layout.{Run, inRun, bitOf, placeOf, symbolAt, tabulate, encode, digitIn}
+
+-- ---- a list by its index
+
+pub length-tabulate {ℓ} : {A : Type ℓ} (n i : ℕ) (g : ℕ → A) → length (tabulate n i g) ≡ n
+length-tabulate zero i g = refl
+length-tabulate (suc n) i g = ap suc (length-tabulate n (suc i) g)
+
+pub getD-tabulate {ℓ} : {A : Type ℓ} (n i : ℕ) (g : ℕ → A) (d : A) (k : ℕ) → k < n → getD (tabulate n i g) k d ≡ g (i + k)
+getD-tabulate zero i g d k h = absurd (not-suc-le-zero h)
+getD-tabulate (suc n) i g d zero h = ap g (sym (add-zero i))
+getD-tabulate (suc n) i g d (suc k) h = getD-tabulate n (suc i) g d k (omega arith) ∙ ap g (suc-add i k ∙ sym (add-suc i k))
+
+pub getD-encode : (n : ℕ) (rests : ℕ → ℕ) (rs : List Run) (xs : List ℕ) (i : ℕ) → i < n → getD (encode n rests rs xs) i 0 ≡ symbolAt rests rs xs i
+unfolding encode
+getD-encode n rests rs xs i h = getD-tabulate n 0 (symbolAt rests rs xs) 0 i h ∙ ap (symbolAt rests rs xs) (zero-add i)
+
+pub length-encode : (n : ℕ) (rests : ℕ → ℕ) (rs : List Run) (xs : List ℕ) → length (encode n rests rs xs) ≡ n
+unfolding encode
+length-encode n rests rs xs = length-tabulate n 0 (symbolAt rests rs xs)
+
+-- ---- one run
+
+in-run : (r : Run) (i : ℕ) → inRun r i ≡ true → (r .start ≤ i) × (i < r .start + r .width)
+in-run r i h = (
+  leb-true (r .start) i (and-left (leb (r .start) i) (ltb i (r .start + r .width)) h),
+  ltb-true i (r .start + r .width) (and-right (leb (r .start) i) (ltb i (r .start + r .width)) h),
+)
+
+place-in : (r : Run) (b : ℕ) → b < r .width → inRun r (placeOf r b) ≡ true
+place-in r b h = simp (le-leb (r .start) (r .start + b) (omega arith), lt-ltb (r .start + b) (r .start + r .width) (omega arith))
+
+bit-of-place : (r : Run) (b : ℕ) → bitOf r (placeOf r b) ≡ b
+bit-of-place r b = omega arith
+
+place-of-bit : (r : Run) (i : ℕ) → inRun r i ≡ true → (placeOf r (bitOf r i) ≡ i) × (bitOf r i < r .width)
+place-of-bit r i h = let p = in-run r i h in omega arith
+
+-- ---- the test of a layout: each element of a run lies in the frame, is no mark and is in no later run
+
+unfoldable pub clear : ℕ → (ℕ → ℕ) → List Run → ℕ → ℕ → Bool
+clear n rests rs i zero = true
+clear n rests rs i (suc w) = (ltb i n && (not (eqb (rests i) 2) && not (held rs i))) && clear n rests rs (suc i) w
+
+unfoldable pub proper : ℕ → (ℕ → ℕ) → List Run → Bool
+proper n rests [] = true
+proper n rests (r ∷ rs) = clear n rests rs (r .start) (r .width) && proper n rests rs
+
+-- each digit fits the elements of its run
+abbrev pub Small : List Run → List ℕ → Type 0
+Small [] [] = Unit
+Small [] (x ∷ xs) = ⊥
+Small (r ∷ rs) [] = ⊥
+Small (r ∷ rs) (x ∷ xs) = (x < 2 ^ r .width) × Small rs xs
+
+pub small-append : (rs qs : List Run) (xs ys : List ℕ) → Small rs xs → Small qs ys → Small (rs ++ qs) (xs ++ ys)
+small-append [] qs [] ys a b = b
+small-append [] qs (x ∷ xs) ys a b = absurd a
+small-append (r ∷ rs) qs [] ys a b = absurd a
+small-append (r ∷ rs) qs (x ∷ xs) ys a b = (a .0, small-append rs qs xs ys (a .1) b)
+
+module _ (n : ℕ) (rests : ℕ → ℕ) where
+  Clear : List Run → ℕ → Type 0
+  Clear rs i = (i < n) × (eqb (rests i) 2 ≡ false) × (held rs i ≡ false)
+
+  clear-at : (rs : List Run) (s w : ℕ) → clear n rests rs s w ≡ true → (b : ℕ) → b < w → Clear rs (s + b)
+  unfolding clear Clear
+  clear-at rs s zero t b h = absurd (not-suc-le-zero h)
+  clear-at rs s (suc w) t zero h =
+      let here = and-left (ltb s n && (not (eqb (rests s) 2) && not (held rs s))) (clear n rests rs (suc s) w) t in
+      let free = and-right (ltb s n) (not (eqb (rests s) 2) && not (held rs s)) here in
+      rw (add-zero s) (
+        ltb-true s n (and-left (ltb s n) (not (eqb (rests s) 2) && not (held rs s)) here),
+        not-true (eqb (rests s) 2) (and-left (not (eqb (rests s) 2)) (not (held rs s)) free),
+        not-true (held rs s) (and-right (not (eqb (rests s) 2)) (not (held rs s)) free),
+      )
+  clear-at rs s (suc w) t (suc b) h =
+      rw (add-suc s b, ← suc-add s b) (clear-at rs (suc s) w (and-right (ltb s n && (not (eqb (rests s) 2) && not (held rs s))) (clear n rests rs (suc s) w) t) b (omega arith))
+
+  clear-in : (rs : List Run) (r : Run) → proper n rests (r ∷ rs) ≡ true → (i : ℕ) → inRun r i ≡ true → Clear rs i
+  unfolding proper
+  clear-in rs r t i h =
+      let p = place-of-bit r i h in
+      rw (p .0) at (clear-at rs (r .start) (r .width) (and-left (clear n rests rs (r .start) (r .width)) (proper n rests rs) t) (bitOf r i) (p .1))
+
+  later-proper : (rs : List Run) (r : Run) → proper n rests (r ∷ rs) ≡ true → proper n rests rs ≡ true
+  unfolding proper
+  later-proper rs r t = and-right (clear n rests rs (r .start) (r .width)) (proper n rests rs) t
+
+  pub held-inside : (rs : List Run) → proper n rests rs ≡ true → (i : ℕ) → held rs i ≡ true → (i < n) × (eqb (rests i) 2 ≡ false)
+  unfolding Clear
+  held-inside [] t i h = clash h refl
+  held-inside (r ∷ rs) t i h =
+      by-test (inRun r i)
+      (λ y. let a = clear-in rs r t i y in (a .0, a .1))
+      (λ m. held-inside rs (later-proper rs r t) i (or-other (inRun r i) (held rs i) m h))
+
+  -- ---- digits to frame to digits
+
+  read-back : (frame : List ℕ) (rs : List Run) (xs : List ℕ) → proper n rests rs ≡ true → Small rs xs → ((i : ℕ) → held rs i ≡ true → getD frame i 0 ≡ symbolAt rests rs xs i) → decode rs frame ≡ xs
+  unfolding symbolAt Clear
+  read-back frame [] [] t s h = refl
+  read-back frame [] (x ∷ xs) t s h = absurd s
+  read-back frame (r ∷ rs) [] t s h = absurd s
+  read-back frame (r ∷ rs) (x ∷ xs) t s h =
+      ap₂ (λ (y : ℕ) (ys : List ℕ). y ∷ ys)
+      (value-of-bits (r .width) (λ b. getD frame (placeOf r b) 0) x
+      (λ b l.
+      let y = place-in r b l in
+      h (placeOf r b) (or-first (inRun r (placeOf r b)) (held rs (placeOf r b)) y) ∙ rw (y, bit-of-place r b))
+      ∙ mod-eq-of-lt (s .0))
+      (read-back frame rs xs (later-proper rs r t) (s .1)
+      (λ i k.
+      let m : inRun r i ≡ false = by-test (inRun r i) (λ y. clash k (clear-in rs r t i y .2)) (λ m. m) in
+      h i (or-second (inRun r i) (held rs i) k) ∙ rw m))
+
+  pub decode-encode : (rs : List Run) (xs : List ℕ) → proper n rests rs ≡ true → Small rs xs → decode rs (encode n rests rs xs) ≡ xs
+  decode-encode rs xs t s = read-back (encode n rests rs xs) rs xs t s (λ i k. getD-encode n rests rs xs i (held-inside rs t i k .0))
+
+  -- ---- frame to digits to frame
+
+  pub symbol-free : (rs : List Run) (xs : List ℕ) (i : ℕ) → held rs i ≡ false → symbolAt rests rs xs i ≡ rests i
+  unfolding symbolAt
+  symbol-free [] xs i h = refl
+  symbol-free (r ∷ rs) [] i h = refl
+  symbol-free (r ∷ rs) (x ∷ xs) i h = rw (neither-first (inRun r i) (held rs i) h) (symbol-free rs xs i (neither-second (inRun r i) (held rs i) h))
+
+  pub symbol-held : (rs : List Run) (xs : List ℕ) → Small rs xs → (i : ℕ) → held rs i ≡ true → symbolAt rests rs xs i < 2
+  unfolding symbolAt
+  symbol-held [] xs s i h = clash h refl
+  symbol-held (r ∷ rs) [] s i h = absurd s
+  symbol-held (r ∷ rs) (x ∷ xs) s i h = by-test (inRun r i) (λ y. rw y (omega arith)) (λ m. rw m (symbol-held rs xs (s .1) i (or-other (inRun r i) (held rs i) m h)))
+
+  -- nothing in the frame offends
+  abbrev pub Clean : List Run → List ℕ → Type 0
+  Clean rs frame = (i : ℕ) → i < n → offence rests rs i (getD frame i 0) ≡ 0
+
+  clean-held : (rs : List Run) (i s : ℕ) → offence rests rs i s ≡ 0 → held rs i ≡ true → s < 2
+  unfolding offence
+  clean-held rs i s h y =
+      by-test (ltb s 2)
+      (λ u. ltb-true s 2 u)
+      (λ u. by-test (eqb s 2) (λ z. let k : _≡_ {A = ℕ} 5 0 = rw (y, u, z) at h in omega arith) (λ z. let k : _≡_ {A = ℕ} 6 0 = rw (y, u, z) at h in omega arith))
+
+  clean-free : (rs : List Run) (i s : ℕ) → offence rests rs i s ≡ 0 → held rs i ≡ false → s ≡ rests i
+  unfolding offence
+  clean-free rs i s h y =
+      by-test (eqb s (rests i))
+      (λ u. eqb-true s (rests i) u)
+      (λ u. by-test (eqb s 2 || eqb (rests i) 2) (λ z. let k : _≡_ {A = ℕ} 5 0 = rw (y, u, z) at h in omega arith) (λ z. let k : _≡_ {A = ℕ} 6 0 = rw (y, u, z) at h in omega arith))
+
+  pub clean-bits : (rs : List Run) (frame : List ℕ) → proper n rests rs ≡ true → Clean rs frame → (i : ℕ) → held rs i ≡ true → getD frame i 0 < 2
+  clean-bits rs frame t c i h = clean-held rs i (getD frame i 0) (c i (held-inside rs t i h .0)) h
+
+  symbol-decoded : (frame : List ℕ) (rs : List Run) → ((i : ℕ) → held rs i ≡ true → getD frame i 0 < 2) → (i : ℕ) → held rs i ≡ true → symbolAt rests rs (decode rs frame) i ≡ getD frame i 0
+  unfolding symbolAt
+  symbol-decoded frame [] b i h = clash h refl
+  symbol-decoded frame (r ∷ rs) b i h =
+      by-test (inRun r i)
+      (λ y.
+      let p = place-of-bit r i y in
+      rw y
+      (bits-of-value (r .width) (λ k. getD frame (placeOf r k) 0) (λ k l. b (placeOf r k) (or-first (inRun r (placeOf r k)) (held rs (placeOf r k)) (place-in r k l))) (bitOf r i) (p .1)
+      ∙ ap (λ (k : ℕ). getD frame k 0) (p .0)))
+      (λ m. rw m (symbol-decoded frame rs (λ k l. b k (or-second (inRun r k) (held rs k) l)) i (or-other (inRun r i) (held rs i) m h)))
+
+  pub encode-decode : (rs : List Run) (frame : List ℕ) → proper n rests rs ≡ true → length frame ≡ n → Clean rs frame → encode n rests rs (decode rs frame) ≡ frame
+  encode-decode rs frame t l c =
+      ext-getD 0 (encode n rests rs (decode rs frame)) frame (length-encode n rests rs (decode rs frame) ∙ sym l)
+      (λ i h.
+      let k : i < n = rw (length-encode n rests rs (decode rs frame)) at h in
+      getD-encode n rests rs (decode rs frame) i k
+      ∙ by-test (held rs i)
+      (λ y. symbol-decoded frame rs (clean-bits rs frame t c) i y)
+      (λ m. symbol-free rs (decode rs frame) i m ∙ sym (clean-free rs i (getD frame i 0) (c i k) m)))
+
+  pub encode-clean : (rs : List Run) (xs : List ℕ) → Small rs xs → Clean rs (encode n rests rs xs)
+  unfolding offence
+  encode-clean rs xs s i h =
+      rw (getD-encode n rests rs xs i h)
+      (by-test (held rs i)
+      (λ y. rw (y, lt-ltb (symbolAt rests rs xs i) 2 (symbol-held rs xs s i y)))
+      (λ m. rw (m, eq-eqb (symbolAt rests rs xs i) (rests i) (symbol-free rs xs i m))))
+
+pub small-decoded : (frame : List ℕ) (rs : List Run) → ((i : ℕ) → held rs i ≡ true → getD frame i 0 < 2) → Small rs (decode rs frame)
+small-decoded frame [] b = tt
+small-decoded frame (r ∷ rs) b = (
+  value-small (r .width) (λ k. getD frame (placeOf r k) 0) (λ k l. b (placeOf r k) (or-first (inRun r (placeOf r k)) (held rs (placeOf r k)) (place-in r k l))),
+  small-decoded frame rs (λ i h. b i (or-second (inRun r i) (held rs i) h)),
+)
+
+pub small-front : (frame : List ℕ) (rs qs : List Run) → Small (rs ++ qs) (decode (rs ++ qs) frame) → Small rs (decode rs frame)
+small-front frame [] qs s = tt
+small-front frame (r ∷ rs) qs s = (s .0, small-front frame rs qs (s .1))
+
+pub small-back : (frame : List ℕ) (rs qs : List Run) → Small (rs ++ qs) (decode (rs ++ qs) frame) → Small qs (decode qs frame)
+small-back frame [] qs s = s
+small-back frame (r ∷ rs) qs s = small-back frame rs qs (s .1)

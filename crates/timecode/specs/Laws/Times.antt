@@ -1,0 +1,64 @@
+-- A time on a format has digits that fit the format's runs, and the digits that stand in those runs say a time on the format.
+use mathlib.Core.Path.{_≡_, refl, sym, ap, _∙_, subst}
+use mathlib.Core.Bool.{Bool, true, false, _&&_}
+use mathlib.Core.List.{List, [], _∷_, _++_}
+use Prim.Native.Nat.{ℕ, _+_, _*_, _/_, _%_, _^_, _<_, _≤_}
+use native.Mathlib.Omega.{arith}
+use borrow.Author.Tests.{leb-true, eqb-true, le-leb, eq-eqb}
+use lib.Dec.{leb, eqb}
+use Rattle.timecode.specs.Formats.{A, B, D, E, G, H, table, lookUp, rowOf, known, interval, lastDay, lastHundredth, inRange, onFormat}
+use Rattle.timecode.specs.Frames.{timeIn}
+use Rattle.timecode.specs.Laws.Digits.{decode}
+use Rattle.timecode.specs.Laws.Runs.{Small}
+use Rattle.timecode.specs.Laws.Table.{by-letter}
+use Rattle.timecode.specs.Laws.Tests.{and-left, and-right}
+use Rattle.timecode.specs.Layout.{seconds, minutes, hours, days, tenths, hundredths, timeFields, flatten, timeNumbers, spread}
+use Rattle.timecode.specs.declared.Format.{Format}
+use Rattle.timecode.specs.declared.Time.{Time}
+
+pub record OnFormat (f : Format) (t : Time) : Type 0 where
+  pub first : 1 ≤ t .day
+  pub last : t .day ≤ lastDay
+  pub below : t .hundredths ≤ lastHundredth
+  pub grid : t .hundredths % interval f ≡ 0
+
+pub on-format : (f : Format) (t : Time) → onFormat f t ≡ true → OnFormat f t
+unfolding onFormat inRange
+on-format f t h =
+    let range = and-left (leb 1 (t .day) && (leb (t .day) lastDay && leb (t .hundredths) lastHundredth)) (eqb (t .hundredths % interval f) 0) h in
+    let ends = and-right (leb 1 (t .day)) (leb (t .day) lastDay && leb (t .hundredths) lastHundredth) range in
+    record {
+      first = leb-true 1 (t .day) (and-left (leb 1 (t .day)) (leb (t .day) lastDay && leb (t .hundredths) lastHundredth) range);
+      last = leb-true (t .day) lastDay (and-left (leb (t .day) lastDay) (leb (t .hundredths) lastHundredth) ends);
+      below = leb-true (t .hundredths) lastHundredth (and-right (leb (t .day) lastDay) (leb (t .hundredths) lastHundredth) ends);
+      grid = eqb-true (t .hundredths % interval f) 0 (and-right (leb 1 (t .day) && (leb (t .day) lastDay && leb (t .hundredths) lastHundredth)) (eqb (t .hundredths % interval f) 0) h);
+    }
+
+pub is-on-format : (f : Format) (t : Time) → OnFormat f t → onFormat f t ≡ true
+unfolding onFormat inRange
+is-on-format f t o = rw (le-leb 1 (t .day) (o .first), le-leb (t .day) lastDay (o .last), le-leb (t .hundredths) lastHundredth (o .below), eq-eqb (t .hundredths % interval f) 0 (o .grid))
+
+abbrev at : ℕ → ℕ → Format
+at l e = record { letter = l; expression = e }
+
+abbrev Fits : ℕ → Type 0
+Fits l = (e : ℕ) (t : Time) → OnFormat (at l e) t → Small (flatten (timeFields (at l e))) (spread (timeFields (at l e)) (timeNumbers t))
+
+fits : (f : Format) → known f ≡ true → Fits (f .letter)
+unfolding timeFields seconds minutes hours days tenths hundredths timeNumbers interval rowOf lookUp table
+fits = by-letter Fits (λ e t o. omega arith) (λ e t o. omega arith) (λ e t o. omega arith) (λ e t o. omega arith) (λ e t o. omega arith) (λ e t o. omega arith)
+
+-- the digits of a time on the format fit their runs
+pub time-small : (f : Format) (t : Time) → known f ≡ true → OnFormat f t → Small (flatten (timeFields f)) (spread (timeFields f) (timeNumbers t))
+time-small f t k o = fits f k (f .expression) t o
+
+abbrev Grid : ℕ → Type 0
+Grid l = (e : ℕ) (frame : List ℕ) → Small (flatten (timeFields (at l e))) (decode (flatten (timeFields (at l e))) frame) → timeIn (at l e) frame .hundredths % interval (at l e) ≡ 0
+
+grids : (f : Format) → known f ≡ true → Grid (f .letter)
+unfolding timeFields seconds minutes hours days tenths hundredths timeIn interval rowOf lookUp table
+grids = by-letter Grid (λ e frame s. omega arith) (λ e frame s. omega arith) (λ e frame s. omega arith) (λ e frame s. omega arith) (λ e frame s. omega arith) (λ e frame s. omega arith)
+
+-- the interval divides the hundredths that the digits say
+pub time-grid : (f : Format) (frame : List ℕ) → known f ≡ true → Small (flatten (timeFields f)) (decode (flatten (timeFields f)) frame) → timeIn f frame .hundredths % interval f ≡ 0
+time-grid f frame k s = grids f k (f .expression) frame s

@@ -1,0 +1,177 @@
+-- What is written is accepted, and read as it was written. Demand 2 follows, and Write's answer taken apart.
+use mathlib.Core.Path.{_≡_, refl, sym, ap, ap₂, _∙_, subst}
+use mathlib.Core.Bool.{Bool, true, false, cond, _&&_}
+use mathlib.Core.List.{List, [], _∷_, _++_}
+use Prim.Native.Nat.{ℕ, zero, suc, _+_, _*_, _/_, _%_, _^_, _<_, _≤_}
+use native.Mathlib.Nat.{zero-add}
+use native.Mathlib.Omega.{arith}
+use borrow.Author.Tests.{ltb-true, eqb-true, lt-ltb, le-leb, eq-eqb}
+use lib.Dec.{leb, ltb, eqb}
+use lib.ListN.{length}
+use Rattle.timecode.specs.Formats.{isSymbol, known, size, lastDay, onFormat}
+use Rattle.timecode.specs.Frames.{totalWidth, controlFits, written, writeOf, writeLeaves, areSymbols, checkElements, areDigits, isTime, timeIn, secondsAgree, readOf}
+use Rattle.timecode.specs.Laws.Checks.{passed, passes, done}
+use Rattle.timecode.specs.Laws.Digits.{decode}
+use Rattle.timecode.specs.Laws.Fields.{Each, fields-apart, fields-together, number-back, AreDigits, digits-are, binary-positive, binary-capacity, binary-small}
+use Rattle.timecode.specs.Laws.Reading.{Valid, elements-pass, straight-binary, control-binary, straight-wide}
+use Rattle.timecode.specs.Laws.Runs.{length-encode, getD-encode, Small, small-append, symbol-free, symbol-held, decode-encode, encode-clean}
+use Rattle.timecode.specs.Laws.Table.{layout-proper}
+use Rattle.timecode.specs.Laws.Tests.{by-test}
+use Rattle.timecode.specs.Laws.Times.{OnFormat, on-format, is-on-format, time-small}
+use Rattle.timecode.specs.Layout.{Run, seconds, minutes, hours, days, tenths, hundredths, hasSeconds, straightSeconds, control, timeFields, fields, flatten, runs, second, minute, hour, timeNumbers, numbers, digitsOf, spread, inRun, isMark, rest, symbolAt, tabulate, encode, numberIn}
+use Rattle.timecode.specs.declared.Format.{Format}
+use Rattle.timecode.specs.declared.Reading.{Reading}
+use Rattle.timecode.specs.declared.Reading.the-variants.{Accepted}
+use Rattle.timecode.specs.declared.Time.{Time}
+use Rattle.timecode.specs.declared.Written.{Written}
+use Rattle.timecode.specs.declared.Written.the-variants.{Done}
+
+-- ---- each symbol of a written frame is at most 3
+
+rest-symbol : (f : Format) (i : ℕ) → rest f i ≤ 3
+unfolding rest
+rest-symbol f i = by-test (isMark i) (λ y. rw y (omega arith)) (λ m. rw m (omega arith))
+
+pub symbol-small : (f : Format) (rs : List Run) (xs : List ℕ) (i : ℕ) → symbolAt (rest f) rs xs i ≤ 3
+unfolding symbolAt
+symbol-small f [] xs i = rest-symbol f i
+symbol-small f (r ∷ rs) [] i = rest-symbol f i
+symbol-small f (r ∷ rs) (x ∷ xs) i = by-test (inRun r i) (λ y. rw y (omega arith)) (λ m. rw m (symbol-small f rs xs i))
+
+symbols-tabulate : (n i : ℕ) (g : ℕ → ℕ) → ((k : ℕ) → g k ≤ 3) → areSymbols (tabulate n i g) ≡ true
+symbols-tabulate zero i g h = refl
+symbols-tabulate (suc n) i g h = rw (le-leb (g i) 3 (h i)) (symbols-tabulate n (suc i) g h)
+
+pub length-written : (f : Format) (t : Time) (w : ℕ) → length (written f t w) ≡ size f
+unfolding written
+length-written f t w = length-encode (size f) (rest f) (runs f) (spread (fields f) (numbers t w))
+
+written-symbols : (f : Format) (t : Time) (w : ℕ) → areSymbols (written f t w) ≡ true
+unfolding written encode
+written-symbols f t w = symbols-tabulate (size f) 0 (symbolAt (rest f) (runs f) (spread (fields f) (numbers t w))) (symbol-small f (runs f) (spread (fields f) (numbers t w)))
+
+time-digits : (f : Format) (t : Time) → AreDigits (spread (timeFields f) (timeNumbers t))
+unfolding timeFields timeNumbers seconds minutes hours days tenths hundredths
+time-digits f t = omega arith
+
+module _ (f : Format) (t : Time) (w : ℕ) (v : Valid f t w) where
+  abbrev frame : List ℕ
+  frame = written f t w
+
+  pub written-small : Small (runs f) (spread (fields f) (numbers t w))
+  unfolding runs fields timeFields numbers timeNumbers seconds minutes hours days tenths hundredths
+  written-small =
+      small-append (flatten (timeFields f)) (straightSeconds f ++ (control f ++ [])) (spread (timeFields f) (timeNumbers t)) (digitsOf (straightSeconds f) (t .hundredths / 100) ++ (digitsOf (control f) w ++ []))
+      (time-small f t (v .format) (v .time))
+      (small-append (straightSeconds f) (control f ++ []) (digitsOf (straightSeconds f) (t .hundredths / 100)) (digitsOf (control f) w ++ []) (binary-small (straightSeconds f) (t .hundredths / 100) (straight-binary f))
+      (small-append (control f) [] (digitsOf (control f) w) [] (binary-small (control f) w (control-binary f)) tt))
+
+  decoded : Each (λ d x. decode d frame ≡ digitsOf d x) (fields f) (numbers t w)
+  unfolding written fields timeFields numbers timeNumbers runs
+  decoded = fields-apart frame (fields f) (numbers t w) refl (decode-encode (size f) (rest f) (runs f) (spread (fields f) (numbers t w)) (layout-proper f (v .format)) written-small)
+
+  second-back : numberIn frame (seconds f) ≡ second (t .hundredths)
+  unfolding fields timeFields numbers timeNumbers seconds
+  second-back = number-back frame (seconds f) (second (t .hundredths)) (omega arith) (omega arith) (decoded .0)
+
+  minute-back : numberIn frame (minutes f) ≡ minute (t .hundredths)
+  unfolding fields timeFields numbers timeNumbers minutes
+  minute-back = number-back frame (minutes f) (minute (t .hundredths)) (omega arith) (omega arith) (decoded .1 .0)
+
+  hour-back : numberIn frame (hours f) ≡ hour (t .hundredths)
+  unfolding fields timeFields numbers timeNumbers hours
+  hour-back = number-back frame (hours f) (hour (t .hundredths)) (omega arith) (omega (arith, v .time .below)) (decoded .1 .1 .0)
+
+  day-back : numberIn frame (days f) ≡ t .day
+  unfolding fields timeFields numbers timeNumbers days
+  day-back = number-back frame (days f) (t .day) (omega arith) (omega (arith, v .time .last)) (decoded .1 .1 .1 .0)
+
+  tenth-back : numberIn frame (tenths f) ≡ t .hundredths / 10 % 10
+  unfolding fields timeFields numbers timeNumbers tenths
+  tenth-back = number-back frame (tenths f) (t .hundredths / 10 % 10) (omega arith) (omega arith) (decoded .1 .1 .1 .1 .0)
+
+  hundredth-back : numberIn frame (hundredths f) ≡ t .hundredths % 10
+  unfolding fields timeFields numbers timeNumbers hundredths
+  hundredth-back = number-back frame (hundredths f) (t .hundredths % 10) (omega arith) (omega arith) (decoded .1 .1 .1 .1 .1 .0)
+
+  straight-back : hasSeconds f ≡ true → numberIn frame (straightSeconds f) ≡ t .hundredths / 100
+  unfolding fields timeFields numbers timeNumbers
+  straight-back y =
+      number-back frame (straightSeconds f) (t .hundredths / 100) (binary-positive (straightSeconds f) (straight-binary f)) (omega (arith, straight-wide f y, v .time .below)) (decoded .1 .1 .1 .1 .1 .1 .0)
+
+  control-back : numberIn frame (control f) ≡ w
+  unfolding fields timeFields numbers timeNumbers
+  control-back =
+      number-back frame (control f) w (binary-positive (control f) (control-binary f)) (rw (binary-capacity (control f) (control-binary f)) (v .room)) (decoded .1 .1 .1 .1 .1 .1 .1 .0)
+
+  time-back : timeIn f frame ≡ t
+  unfolding timeIn
+  time-back = λ i. record { day = day-back i; hundredths = clock-back i }
+    where
+      clock-back : ((numberIn frame (hours f) * 60 + numberIn frame (minutes f)) * 60 + numberIn frame (seconds f)) * 100 + numberIn frame (tenths f) * 10 + numberIn frame (hundredths f) ≡ t .hundredths
+      clock-back = rw (hour-back, minute-back, second-back, tenth-back, hundredth-back) (omega arith)
+
+  time-decoded : spread (timeFields f) (timeNumbers t) ≡ decode (flatten (timeFields f)) frame
+  unfolding fields timeFields numbers timeNumbers
+  time-decoded =
+      fields-together frame (timeFields f) (timeNumbers t)
+      (sym (decoded .0), (sym (decoded .1 .0), (sym (decoded .1 .1 .0), (sym (decoded .1 .1 .1 .0), (sym (decoded .1 .1 .1 .1 .0), (sym (decoded .1 .1 .1 .1 .1 .0), tt))))))
+
+  digits-said : areDigits frame (flatten (timeFields f)) ≡ true
+  digits-said = digits-are frame (flatten (timeFields f)) (subst AreDigits time-decoded (time-digits f t))
+
+  time-said : isTime f frame ≡ true
+  unfolding isTime
+  time-said =
+      rw (
+        digits-said,
+        hour-back,
+        minute-back,
+        second-back,
+        day-back,
+        le-leb (hour (t .hundredths)) 23 (omega (arith, v .time .below)),
+        le-leb (minute (t .hundredths)) 59 (omega arith),
+        le-leb (second (t .hundredths)) 59 (omega arith),
+        le-leb 1 (t .day) (v .time .first),
+        le-leb (t .day) lastDay (v .time .last),
+      )
+
+  seconds-said : secondsAgree f frame ≡ true
+  unfolding secondsAgree
+  seconds-said =
+      by-test (hasSeconds f)
+      (λ y. rw (y, time-back) (eq-eqb (numberIn frame (straightSeconds f)) (t .hundredths / 100) (straight-back y)))
+      (λ m. rw m)
+
+  pub written-is-accepted : readOf f frame ≡ Accepted t w
+  unfolding readOf written
+  written-is-accepted =
+      passes Reading.Refused 1 (known f) _ (v .format)
+      ∙ passes Reading.Refused 3 (eqb (length frame) (size f)) _ (eq-eqb (length frame) (size f) (length-written f t w))
+      ∙ passes Reading.Refused 4 (areSymbols frame) _ (written-symbols f t w)
+      ∙ elements-pass (rest f) (runs f) frame 0 _ (λ i h. rw (zero-add i) (encode-clean (size f) (rest f) (runs f) (spread (fields f) (numbers t w)) written-small i (rw (length-written f t w) at h)))
+      ∙ passes Reading.Refused 7 (isTime f frame) _ time-said
+      ∙ passes Reading.Refused 8 (secondsAgree f frame) _ seconds-said
+      ∙ ap₂ Accepted time-back control-back
+
+-- ---- Write's answer
+
+pub taken : (f : Format) (t : Time) (w : ℕ) (lent : List ℕ) → writeOf f t w lent ≡ Done → Valid f t w × (length lent ≡ size f)
+unfolding writeOf controlFits
+taken f t w lent h =
+    let a = passed Written.Refused 1 (known f) _ Done done h in
+    let b = passed Written.Refused 2 (onFormat f t) _ Done done (a .1) in
+    let c = passed Written.Refused 9 (ltb w (2 ^ totalWidth (control f))) _ Done done (b .1) in
+    let d = passed Written.Refused 3 (eqb (length lent) (size f)) _ Done done (c .1) in (
+      record { format = a .0; time = on-format f t (b .0); room = ltb-true w (2 ^ totalWidth (control f)) (c .0) },
+      eqb-true (length lent) (size f) (d .0),
+    )
+
+pub takes : (f : Format) (t : Time) (w : ℕ) (lent : List ℕ) → Valid f t w → length lent ≡ size f → writeOf f t w lent ≡ Done
+unfolding writeOf controlFits
+takes f t w lent v n =
+    rw (v .format, is-on-format f t (v .time), lt-ltb w (2 ^ totalWidth (control f)) (v .room), eq-eqb (length lent) (size f) n)
+
+pub leaves : (f : Format) (t : Time) (w : ℕ) (lent : List ℕ) → writeOf f t w lent ≡ Done → writeLeaves f t w lent ≡ written f t w
+unfolding writeLeaves
+leaves f t w lent h = rw h

@@ -1,0 +1,165 @@
+-- Document 01, "Where each element stands": the runs of elements that carry digits and bits, and the symbol at each index of a frame.
+use mathlib.Core.Bool.{Bool, true, false, cond, _&&_, _||_}
+use mathlib.Core.List.{List, [], _∷_, _++_, map}
+use Prim.Native.Nat.{ℕ, zero, suc, _+_, _*_, _-_, _/_, _%_, _^_}
+use lib.Dec.{leb, ltb, eqb}
+use lib.ListN.{getD}
+use Rattle.timecode.specs.Formats.{A, B, E, G, H, member, rowOf, carriesControl, carriesSeconds}
+use Rattle.timecode.specs.declared.Format.{Format}
+use Rattle.timecode.specs.declared.Time.{Time}
+
+-- A run of elements that carries one digit: its first index, its number of elements (0 where the format does not carry it) and the digit's radix.
+pub record Run : Type 0 where
+  pub start : ℕ
+  pub width : ℕ
+  pub radix : ℕ
+
+-- A field carries one number: the runs of its digits, lowest digit first.
+abbrev pub Field : Type 0
+Field = List Run
+
+-- ---- where the digits and bits of a format stand
+
+-- a decimal digit in the weights 1, 2, 4, 8
+abbrev pub decimal : ℕ → ℕ → Run
+decimal start width = record { start = start; width = width; radix = 10 }
+
+-- the same, carried by these letters
+abbrev pub decimalIn : List ℕ → Format → ℕ → ℕ → Run
+decimalIn letters f start width = decimal start (cond (member (f .letter) letters) width 0)
+
+-- bits of a binary number, where they are carried
+abbrev pub binaryIf : Bool → ℕ → ℕ → Run
+binaryIf carried start width = record { start = start; width = cond carried width 0; radix = 2 ^ cond carried width 0 }
+
+-- units 1-4, tens 6-8 (A, B, G; E has only the tens)
+unfoldable pub seconds : Format → Field
+seconds f = decimalIn (A ∷ B ∷ G ∷ []) f 1 4 ∷ decimalIn (A ∷ B ∷ E ∷ G ∷ []) f 6 3 ∷ []
+
+-- units 10-13, tens 15-17 (all but D)
+unfoldable pub minutes : Format → Field
+minutes f = decimalIn (A ∷ B ∷ E ∷ G ∷ H ∷ []) f 10 4 ∷ decimalIn (A ∷ B ∷ E ∷ G ∷ H ∷ []) f 15 3 ∷ []
+
+-- units 20-23, tens 25-26
+unfoldable pub hours : Format → Field
+hours f = decimal 20 4 ∷ decimal 25 2 ∷ []
+
+-- units 30-33, tens 35-38, hundreds 40-41
+unfoldable pub days : Format → Field
+days f = decimal 30 4 ∷ decimal 35 4 ∷ decimal 40 2 ∷ []
+
+-- 45-48 (A, G)
+unfoldable pub tenths : Format → Field
+tenths f = decimalIn (A ∷ G ∷ []) f 45 4 ∷ []
+
+-- 50-53 (G)
+unfoldable pub hundredths : Format → Field
+hundredths f = decimalIn (G ∷ []) f 50 4 ∷ []
+
+-- SBS, straight binary seconds: weights 1 to 256 at 80-88, 512 to 65,536 at 90-97 (A, B, expressions 0 and 3)
+unfoldable pub hasSeconds : Format → Bool
+hasSeconds f = member (f .letter) (A ∷ B ∷ []) && carriesSeconds f
+
+unfoldable pub straightSeconds : Format → Field
+straightSeconds f = binaryIf (hasSeconds f) 80 9 ∷ binaryIf (hasSeconds f) 90 8 ∷ []
+
+-- Control bit 1, the lowest, takes the first place of the ranges of nine that the table lists; the rest follow in rising index.
+unfoldable pub controlRange : Format → ℕ → Run
+controlRange f start = binaryIf (carriesControl f && member start (rowOf f .control)) start 9
+
+unfoldable pub control : Format → Field
+control f = map (controlRange f) (50 ∷ 60 ∷ 70 ∷ 80 ∷ 90 ∷ [])
+
+unfoldable pub timeFields : Format → List Field
+timeFields f = seconds f ∷ minutes f ∷ hours f ∷ days f ∷ tenths f ∷ hundredths f ∷ []
+
+unfoldable pub fields : Format → List Field
+fields f = timeFields f ++ (straightSeconds f ∷ control f ∷ [])
+
+abbrev pub flatten : List Field → List Run
+flatten [] = []
+flatten (d ∷ ds) = d ++ flatten ds
+
+unfoldable pub runs : Format → List Run
+runs f = flatten (fields f)
+
+-- ---- the numbers that the fields carry
+
+-- seconds, minutes and hours of c
+abbrev pub second : ℕ → ℕ
+second c = c / 100 % 60
+
+abbrev pub minute : ℕ → ℕ
+minute c = c / 100 / 60 % 60
+
+abbrev pub hour : ℕ → ℕ
+hour c = c / 100 / 60 / 60
+
+unfoldable pub timeNumbers : Time → List ℕ
+timeNumbers t = second (t .hundredths) ∷ minute (t .hundredths) ∷ hour (t .hundredths) ∷ t .day ∷ t .hundredths / 10 % 10 ∷ t .hundredths % 10 ∷ []
+
+-- SBS is the whole seconds c / 100
+unfoldable pub numbers : Time → ℕ → List ℕ
+numbers t w = timeNumbers t ++ (t .hundredths / 100 ∷ w ∷ [])
+
+-- the digits of a number in a field, lowest first
+abbrev pub digitsOf : Field → ℕ → List ℕ
+digitsOf [] x = []
+digitsOf (r ∷ rs) x = x % r .radix ∷ digitsOf rs (x / r .radix)
+
+-- the digits of all numbers
+abbrev pub spread : List Field → List ℕ → List ℕ
+spread [] xs = []
+spread (d ∷ ds) [] = []
+spread (d ∷ ds) (x ∷ xs) = digitsOf d x ++ spread ds xs
+
+-- ---- the symbol at each index
+
+abbrev pub inRun : Run → ℕ → Bool
+inRun r i = leb (r .start) i && ltb i (r .start + r .width)
+
+-- which bit of its digit stands at index i of a run, and where bit b stands: lowest weight first
+abbrev pub bitOf : Run → ℕ → ℕ
+bitOf r i = i - r .start
+
+abbrev pub placeOf : Run → ℕ → ℕ
+placeOf r b = r .start + b
+
+-- Marks stand at 0 (Pr) and at 9, 19, .. up to n - 1 (P0), nowhere else.
+unfoldable pub isMark : ℕ → Bool
+isMark i = eqb i 0 || eqb (i % 10) 9
+
+-- what stands where no digit or bit does: a mark, or an index marker, symbol 0
+unfoldable pub rest : Format → ℕ → ℕ
+rest f i = cond (isMark i) 2 0
+
+-- the symbol at index i: the bit of the digit whose run holds i, else what rests
+unfoldable pub symbolAt : (ℕ → ℕ) → List Run → List ℕ → ℕ → ℕ
+symbolAt rests [] xs i = rests i
+symbolAt rests (r ∷ rs) [] i = rests i
+symbolAt rests (r ∷ rs) (x ∷ xs) i = cond (inRun r i) (x / 2 ^ bitOf r i % 2) (symbolAt rests rs xs i)
+
+-- g i, g (i + 1), .., n of them
+abbrev pub tabulate {ℓ} : {Any : Type ℓ} → ℕ → ℕ → (ℕ → Any) → List Any
+tabulate zero i g = []
+tabulate (suc n) i g = g i ∷ tabulate n (suc i) g
+
+-- the n symbols in which the digits xs stand at the runs rs
+unfoldable pub encode : ℕ → (ℕ → ℕ) → List Run → List ℕ → List ℕ
+encode n rests rs xs = tabulate n 0 (symbolAt rests rs xs)
+
+-- ---- what the symbols of a frame say
+
+-- the number whose bits are g 0, g 1, .., w of them, lowest first
+unfoldable pub value : ℕ → (ℕ → ℕ) → ℕ
+value zero g = 0
+value (suc w) g = g 0 + 2 * value w (λ b. g (suc b))
+
+-- the digit that stands at a run
+abbrev pub digitIn : List ℕ → Run → ℕ
+digitIn frame r = value (r .width) (λ b. getD frame (placeOf r b) 0)
+
+-- the number that stands in a field
+abbrev pub numberIn : List ℕ → Field → ℕ
+numberIn frame [] = 0
+numberIn frame (r ∷ rs) = digitIn frame r + r .radix * numberIn frame rs

@@ -1,0 +1,7 @@
+pub mod Answers
+pub mod Formats
+pub mod Layout
+pub mod Frames
+pub mod Stream
+pub mod Calls
+pub mod Laws

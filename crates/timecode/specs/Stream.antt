@@ -1,0 +1,61 @@
+-- Document 01, "Stream reader": the plain machine, fed one symbol and a list of them.
+use mathlib.Core.Bool.{Bool, true, false, cond}
+use mathlib.Core.List.{List, [], _∷_, _++_}
+use Prim.Native.Nat.{ℕ, _+_, _*_, _-_}
+use lib.Dec.{leb, eqb}
+use lib.ListN.{getD, length, take, drop}
+use Rattle.timecode.specs.Answers.{refusal}
+use Rattle.timecode.specs.Formats.{isSymbol, size}
+use Rattle.timecode.specs.Frames.{nextAfter, readOf}
+use Rattle.timecode.specs.declared.Answer.{Answer}
+use Rattle.timecode.specs.declared.Answer.the-variants.{Quiet, Report}
+use Rattle.timecode.specs.declared.Format.{Format}
+use Rattle.timecode.specs.declared.Reading.{Reading}
+use Rattle.timecode.specs.declared.Reading.the-variants.{Accepted}
+
+-- the window: 2n + 1 symbols
+unfoldable pub windowLength : Format → ℕ
+windowLength f = 2 * size f + 1
+
+-- frame 0 or 1 of a window: the n symbols behind its first symbol and the frames before
+unfoldable pub frameIn : Format → List ℕ → ℕ → List ℕ
+frameIn f window j = take (size f) (drop (1 + size f * j) window)
+
+-- Report if both frames are accepted and the second's time is next after the first's; it carries what Read gives for the second.
+unfoldable pub confirm : Format → Reading → Reading → Answer
+confirm f (Accepted s v) (Accepted t w) = cond (nextAfter f s t) (Report t w) Quiet
+confirm f (Accepted s v) (Reading.Refused r) = Quiet
+confirm f (Reading.Refused r) second = Quiet
+
+-- a symbol 2 and two such frames
+unfoldable pub windowAnswer : Format → List ℕ → Answer
+windowAnswer f window = cond (eqb (getD window 0 0) 2) (confirm f (readOf f (frameIn f window 0)) (readOf f (frameIn f window 1))) Quiet
+
+-- the last k of a list
+unfoldable pub lastOf : ℕ → List ℕ → List ℕ
+lastOf k xs = drop (length xs - k) xs
+
+-- the answer to the newest of the symbols held
+unfoldable pub plainAnswer : Format → List ℕ → Answer
+plainAnswer f held = cond (leb (windowLength f) (length held)) (windowAnswer f (lastOf (windowLength f) held)) Quiet
+
+-- The plain machine holds the list of the symbols that it accepted, oldest first, and gives an answer.
+pub record Plain : Type 0 where
+  pub held : List ℕ
+  pub answer : Answer
+
+-- A symbol of 0 to 3 joins the end of the list; one above 3 is refused with 4, and the list stays.
+unfoldable pub plainFeed : Format → List ℕ → ℕ → Plain
+plainFeed f held s =
+    cond (isSymbol s)
+    (record { held = held ++ (s ∷ []); answer = plainAnswer f (held ++ (s ∷ [])) })
+    (record { held = held; answer = Answer.Refused (refusal 4 0) })
+
+-- the answers to a list of Feeds, and the list held after them
+unfoldable pub plainAnswers : Format → List ℕ → List ℕ → List Answer
+plainAnswers f held [] = []
+plainAnswers f held (s ∷ ss) = plainFeed f held s .answer ∷ plainAnswers f (plainFeed f held s .held) ss
+
+unfoldable pub plainHeld : Format → List ℕ → List ℕ → List ℕ
+plainHeld f held [] = held
+plainHeld f held (s ∷ ss) = plainHeld f (plainFeed f held s .held) ss
