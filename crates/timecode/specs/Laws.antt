@@ -9,3 +9,10 @@ pub mod Checks
 pub mod Fields
 pub mod Reading
 pub mod Writing
+pub mod Stepping
+pub mod Marks
+pub mod Places
+pub mod Successors
+pub mod Generators
+pub mod Windows
+pub mod Damage

@@ -50,16 +50,16 @@ by-letter P a b d e g h f k =
 
 -- ---- format by format
 
-abbrev everyExpression : (Format → Bool) → ℕ → List ℕ → Bool
+abbrev pub everyExpression : (Format → Bool) → ℕ → List ℕ → Bool
 everyExpression p l [] = true
 everyExpression p l (e ∷ es) = p (record { letter = l; expression = e }) && everyExpression p l es
 
-abbrev everyLine : (Format → Bool) → List Row → Bool
+abbrev pub everyLine : (Format → Bool) → List Row → Bool
 everyLine p [] = true
 everyLine p (r ∷ rs) = everyExpression p (r .letter) (r .expressions) && everyLine p rs
 
 -- every format passes the test
-pub everyFormat : (Format → Bool) → Bool
+unfoldable pub everyFormat : (Format → Bool) → Bool
 everyFormat p = everyLine p table
 
 of-expression : (p : Format → Bool) (f : Format) (es : List ℕ) → everyExpression p (f .letter) es ≡ true → member (f .expression) es ≡ true → p f ≡ true

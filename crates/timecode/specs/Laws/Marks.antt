@@ -1,0 +1,86 @@
+-- Where the marks of a written frame stand, and of an accepted one: a frame begins and ends with a mark, and has no other two side by side.
+use mathlib.Core.Path.{_≡_, refl, sym, ap, _∙_}
+use mathlib.Core.Bool.{Bool, true, false, cond, _||_}
+use mathlib.Core.List.{List, [], _∷_}
+use mathlib.Core.Logic.{_⊎_, inl, inr}
+use Prim.Native.Nat.{ℕ, zero, suc, _+_, _-_, _%_, _<_, _≤_}
+use native.Mathlib.Omega.{arith}
+use borrow.Author.Tests.{eqb-true, eq-eqb}
+use lib.Dec.{eqb}
+use lib.ListN.{getD}
+use Rattle.timecode.specs.Formats.{known, size}
+use Rattle.timecode.specs.Frames.{held, written, readOf}
+use Rattle.timecode.specs.Laws.Reading.{Valid, accepted-was-written}
+use Rattle.timecode.specs.Laws.Runs.{getD-encode, held-inside, symbol-free, symbol-held}
+use Rattle.timecode.specs.Laws.Table.{two-sizes, layout-proper}
+use Rattle.timecode.specs.Laws.Tests.{by-test, clash, or-other}
+use Rattle.timecode.specs.Laws.Writing.{written-small, symbol-small}
+use Rattle.timecode.specs.Layout.{fields, runs, numbers, spread, isMark, rest, symbolAt}
+use Rattle.timecode.specs.declared.Format.{Format}
+use Rattle.timecode.specs.declared.Reading.the-variants.{Accepted}
+use Rattle.timecode.specs.declared.Time.{Time}
+
+pub size-positive : (f : Format) → 0 < size f
+size-positive f = two-sizes (λ n. 0 < n) (omega arith) (omega arith) f
+
+pub size-large : (f : Format) → 1 < size f
+size-large f = two-sizes (λ n. 1 < n) (omega arith) (omega arith) f
+
+-- an element of a written frame
+pub at-written : (f : Format) (t : Time) (w i : ℕ) → i < size f → getD (written f t w) i 0 ≡ symbolAt (rest f) (runs f) (spread (fields f) (numbers t w)) i
+unfolding written
+at-written f t w i h = getD-encode (size f) (rest f) (runs f) (spread (fields f) (numbers t w)) i h
+
+rest-mark : (f : Format) (i : ℕ) → isMark i ≡ true → rest f i ≡ 2
+unfolding rest
+rest-mark f i h = rw h
+
+mark-rest : (f : Format) (i : ℕ) → rest f i ≡ 2 → isMark i ≡ true
+unfolding rest
+mark-rest f i h = by-test (isMark i) (λ y. y) (λ m. let z : _≡_ {A = ℕ} 0 2 = rw m at h in let n : ⊥ = omega arith in absurd n)
+
+pub mark-there : (f : Format) (t : Time) (w : ℕ) → Valid f t w → (i : ℕ) → i < size f → isMark i ≡ true → getD (written f t w) i 0 ≡ 2
+mark-there f t w v i h m =
+    let xs = spread (fields f) (numbers t w) in
+    at-written f t w i h
+    ∙ by-test (held (runs f) i)
+    (λ y. clash (eq-eqb (rest f i) 2 (rest-mark f i m)) (held-inside (size f) (rest f) (runs f) (layout-proper f (v .format)) i y .1))
+    (λ n. symbol-free (size f) (rest f) (runs f) xs i n ∙ rest-mark f i m)
+
+pub mark-only : (f : Format) (t : Time) (w : ℕ) → Valid f t w → (i : ℕ) → i < size f → getD (written f t w) i 0 ≡ 2 → isMark i ≡ true
+mark-only f t w v i h k =
+    let xs = spread (fields f) (numbers t w) in
+    let s : symbolAt (rest f) (runs f) xs i ≡ 2 = sym (at-written f t w i h) ∙ k in
+    by-test (held (runs f) i)
+    (λ y. let n : ⊥ = omega (arith, s, symbol-held (size f) (rest f) (runs f) xs (written-small f t w v) i y) in absurd n)
+    (λ n. mark-rest f i (sym (symbol-free (size f) (rest f) (runs f) xs i n) ∙ s))
+
+pub mark-index : (i : ℕ) → isMark i ≡ true → (i ≡ 0) ⊎ (i % 10 ≡ 9)
+unfolding isMark
+mark-index i h = by-test (eqb i 0) (λ y. inl (eqb-true i 0 y)) (λ m. inr (eqb-true (i % 10) 9 (or-other (eqb i 0) (eqb (i % 10) 9) m h)))
+
+first-is-mark : isMark 0 ≡ true
+unfolding isMark
+first-is-mark = refl
+
+last-is-mark : (f : Format) → isMark (size f - 1) ≡ true
+unfolding isMark
+last-is-mark f = two-sizes (λ n. isMark (n - 1) ≡ true) refl refl f
+
+pub first-mark : (f : Format) (t : Time) (w : ℕ) → Valid f t w → getD (written f t w) 0 0 ≡ 2
+first-mark f t w v = mark-there f t w v 0 (size-positive f) first-is-mark
+
+pub last-mark : (f : Format) (t : Time) (w : ℕ) → Valid f t w → getD (written f t w) (size f - 1) 0 ≡ 2
+last-mark f t w v = mark-there f t w v (size f - 1) (omega (arith, size-positive f)) (last-is-mark f)
+
+-- ---- an accepted frame
+
+pub accepted-first : (f : Format) (frame : List ℕ) (t : Time) (w : ℕ) → readOf f frame ≡ Accepted t w → getD frame 0 0 ≡ 2
+accepted-first f frame t w h =
+    let p = accepted-was-written f frame t w h in
+    ap (λ (x : List ℕ). getD x 0 0) (sym (p .1)) ∙ first-mark f t w (p .0)
+
+pub accepted-last : (f : Format) (frame : List ℕ) (t : Time) (w : ℕ) → readOf f frame ≡ Accepted t w → getD frame (size f - 1) 0 ≡ 2
+accepted-last f frame t w h =
+    let p = accepted-was-written f frame t w h in
+    ap (λ (x : List ℕ). getD x (size f - 1) 0) (sym (p .1)) ∙ last-mark f t w (p .0)

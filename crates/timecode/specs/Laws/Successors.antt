@@ -1,0 +1,82 @@
+-- Two times that follow one are the same, or are written at least seven elements apart, whatever the control words.
+use mathlib.Core.Path.{_≡_, refl, sym, ap, _∙_}
+use mathlib.Core.Bool.{Bool, true, false, cond, not, _&&_, _||_}
+use mathlib.Core.List.{List, [], _∷_}
+use mathlib.Core.Logic.{_⊎_, inl, inr}
+use Prim.Native.Nat.{ℕ, zero, suc, _+_, _<_}
+use native.Mathlib.Nat.{not-suc-le-zero}
+use native.Mathlib.Omega.{arith}
+use borrow.Author.Tests.{ltb-true, not-true, eqb-false}
+use lib.Dec.{ltb, eqb}
+use lib.ListN.{length, getD}
+use Rattle.timecode.specs.Formats.{member, table, lookUp, rowOf, known, size, carriesControl, carriesSeconds}
+use Rattle.timecode.specs.Frames.{Follows, written}
+use Rattle.timecode.specs.Laws.Marks.{at-written}
+use Rattle.timecode.specs.Laws.Places.{distinct, spared}
+use Rattle.timecode.specs.Laws.Stepping.{time-path, went, YearTurn, Alike, successors}
+use Rattle.timecode.specs.Laws.Table.{everyFormat, of-every}
+use Rattle.timecode.specs.Laws.Tests.{and-left, and-right}
+use Rattle.timecode.specs.Layout.{seconds, minutes, hours, days, tenths, hundredths, hasSeconds, straightSeconds, controlRange, control, timeFields, fields, runs, timeNumbers, numbers, spread, isMark, rest, symbolAt}
+use Rattle.timecode.specs.declared.Format.{Format}
+use Rattle.timecode.specs.declared.Time.{Time}
+
+-- the frames of u and v, with the control words a and b, have other symbols at each of the places
+abbrev differ : Format → Time → ℕ → Time → ℕ → List ℕ → Bool
+differ f u a v b [] = true
+differ f u a v b (p ∷ ps) =
+    (ltb p (size f) && not (eqb (symbolAt (rest f) (runs f) (spread (fields f) (numbers u a)) p) (symbolAt (rest f) (runs f) (spread (fields f) (numbers v b)) p)))
+    && differ f u a v b ps
+
+differ-at : (f : Format) (u : Time) (a : ℕ) (v : Time) (b : ℕ) (ps : List ℕ) → differ f u a v b ps ≡ true → (j : ℕ) → j < length ps
+    → (getD ps j 0 < size f) × (getD (written f u a) (getD ps j 0) 0 ≡ getD (written f v b) (getD ps j 0) 0 → ⊥)
+differ-at f u a v b [] d j h = absurd (not-suc-le-zero h)
+differ-at f u a v b (p ∷ ps) d zero h =
+    let x = symbolAt (rest f) (runs f) (spread (fields f) (numbers u a)) p in
+    let y = symbolAt (rest f) (runs f) (spread (fields f) (numbers v b)) p in
+    let here = and-left (ltb p (size f) && not (eqb x y)) (differ f u a v b ps) d in
+    let inside = ltb-true p (size f) (and-left (ltb p (size f)) (not (eqb x y)) here) in
+    let other = eqb-false x y (not-true (eqb x y) (and-right (ltb p (size f)) (not (eqb x y)) here)) in
+    (inside, λ q. other (sym (at-written f u a p inside) ∙ q ∙ at-written f v b p inside))
+differ-at f u a v b (p ∷ ps) d (suc j) h =
+    let x = symbolAt (rest f) (runs f) (spread (fields f) (numbers u a)) p in
+    let y = symbolAt (rest f) (runs f) (spread (fields f) (numbers v b)) p in
+    differ-at f u a v b ps (and-right (ltb p (size f) && not (eqb x y)) (differ f u a v b ps) d) j (omega arith)
+
+-- the frames of u and v differ in more than six elements, whatever the control words
+abbrev pub Apart : Format → Time → Time → Type 0
+Apart f u v = (a b : ℕ) (qs : List ℕ) → length qs < 7
+    → ((i : ℕ) → i < size f → member i qs ≡ false → getD (written f u a) i 0 ≡ getD (written f v b) i 0) → ⊥
+
+-- day 1 and day 366 differ in seven elements of the days
+abbrev turnPlaces : List ℕ
+turnPlaces = 30 ∷ 31 ∷ 32 ∷ 36 ∷ 37 ∷ 40 ∷ 41 ∷ []
+
+abbrev newYear : Time
+newYear = record { day = 1; hundredths = 0 }
+
+abbrev leapDay : Time
+leapDay = record { day = 366; hundredths = 0 }
+
+turn-differs : (a b : ℕ) → everyFormat (λ f. differ f newYear a leapDay b turnPlaces) ≡ true
+unfolding everyFormat table size rowOf lookUp rest isMark symbolAt runs fields timeFields numbers timeNumbers seconds minutes hours days tenths hundredths straightSeconds hasSeconds carriesSeconds control controlRange carriesControl
+turn-differs a b = refl
+
+turn-apart : (f : Format) (u v : Time) → known f ≡ true → YearTurn u v → Apart f u v
+turn-apart f u v k t a b qs few same =
+    let d = of-every (λ f. differ f newYear a leapDay b turnPlaces) (turn-differs a b) f k in
+    let x = spared turnPlaces qs refl few in
+    let y = differ-at f newYear a leapDay b turnPlaces d (x .0) (x .1) in
+    let p = time-path u newYear (t .new-year) (t .new-midnight) in
+    let q = time-path v leapDay (t .leap-day) (t .leap-midnight) in
+    y .1 (rw (p, q) at (same (getD turnPlaces (x .0) 0) (y .0) (x .2)))
+
+pub apart : (f : Format) (t u v : Time) → Follows f t u → Follows f t v → (u ≡ v) ⊎ Apart f u v
+apart f t u v s r = go (successors f t u v s r)
+  where
+    known-format : known f ≡ true
+    known-format = went f t (s .0) u (s .1) .format
+
+    go : Alike u v → (u ≡ v) ⊎ Apart f u v
+    go (inl p) = inl p
+    go (inr (inl p)) = inr (turn-apart f u v known-format p)
+    go (inr (inr p)) = inr (λ a b qs few same. turn-apart f v u known-format p b a qs few (λ i h m. sym (same i h m)))
