@@ -16,3 +16,7 @@ pub mod Successors
 pub mod Generators
 pub mod Windows
 pub mod Damage
+pub mod Machine
+pub mod Streams
+pub mod Existence
+pub mod Scanning

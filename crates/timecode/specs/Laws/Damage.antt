@@ -80,9 +80,6 @@ module _ (f : Format) (m : ℕ) (sent : List Sent) (gen : Generator f sent) (sta
           sent-follows : Follows f (sentAt sent (q + j) .time) (sentAt sent (q + suc j) .time)
           sent-follows = let u : suc (q + j) ≡ q + suc j = omega arith in rw u at (gen .steps (q + j) (omega (arith, frames-inside)))
 
-          moved : List ℕ
-          moved = map (λ p. p - (1 + size f * suc j)) places
-
           same : (i : ℕ) → i < size f → member i (map (λ p. p - (1 + size f * suc j)) places) ≡ false
               → getD (written f (c .times (suc j)) (c .controls (suc j))) i 0 ≡ getD (written f (sentAt sent (q + suc j) .time) (sentAt sent (q + suc j) .control)) i 0
           same i h d =

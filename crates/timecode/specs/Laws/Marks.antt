@@ -7,14 +7,14 @@ use Prim.Native.Nat.{ℕ, zero, suc, _+_, _-_, _%_, _<_, _≤_}
 use native.Mathlib.Omega.{arith}
 use borrow.Author.Tests.{eqb-true, eq-eqb}
 use lib.Dec.{eqb}
-use lib.ListN.{getD}
+use lib.ListN.{getD, length}
 use Rattle.timecode.specs.Formats.{known, size}
 use Rattle.timecode.specs.Frames.{held, written, readOf}
 use Rattle.timecode.specs.Laws.Reading.{Valid, accepted-was-written}
 use Rattle.timecode.specs.Laws.Runs.{getD-encode, held-inside, symbol-free, symbol-held}
 use Rattle.timecode.specs.Laws.Table.{two-sizes, layout-proper}
 use Rattle.timecode.specs.Laws.Tests.{by-test, clash, or-other}
-use Rattle.timecode.specs.Laws.Writing.{written-small, symbol-small}
+use Rattle.timecode.specs.Laws.Writing.{length-written, written-small}
 use Rattle.timecode.specs.Layout.{fields, runs, numbers, spread, isMark, rest, symbolAt}
 use Rattle.timecode.specs.declared.Format.{Format}
 use Rattle.timecode.specs.declared.Reading.the-variants.{Accepted}
@@ -84,3 +84,6 @@ pub accepted-last : (f : Format) (frame : List ℕ) (t : Time) (w : ℕ) → rea
 accepted-last f frame t w h =
     let p = accepted-was-written f frame t w h in
     ap (λ (x : List ℕ). getD x (size f - 1) 0) (sym (p .1)) ∙ last-mark f t w (p .0)
+
+pub accepted-length : (f : Format) (frame : List ℕ) (t : Time) (w : ℕ) → readOf f frame ≡ Accepted t w → length frame ≡ size f
+accepted-length f frame t w h = ap length (sym (accepted-was-written f frame t w h .1)) ∙ length-written f t w

@@ -1,5 +1,5 @@
 -- A window of a mark and m + 1 frames, each accepted and each time next after the one before. Document 01's window is the case m = 1.
-use mathlib.Core.Path.{_≡_, refl, sym, ap, _∙_, subst}
+use mathlib.Core.Path.{_≡_, refl, sym, ap, _∙_, subst, subst₂}
 use mathlib.Core.Bool.{Bool, true, false, cond}
 use mathlib.Core.List.{List, [], _∷_}
 use mathlib.Core.Logic.{_↔_, _⊎_, inl, inr}
@@ -97,18 +97,19 @@ window-confirmed f window t w h =
     (λ y. to-confirmed f window t w y (both f (readOf f (frameIn f window 0)) (readOf f (frameIn f window 1)) t w (rw y at h)))
     (λ m. quiet-no-report t w (rw m at h))
 
-pub confirmed-window : (f : Format) (window : List ℕ) (t : Time) (w : ℕ) → Confirmed f 1 window t w → windowAnswer f window ≡ Report t w
-unfolding windowAnswer
-confirmed-window f window t w c =
-    rw (eq-eqb (getD window 0 0) 2 (c .begins))
-    (both-report f (readOf f (frameIn f window 0)) (readOf f (frameIn f window 1)) t w
-    (record {
-      before = c .times 0;
-      control-before = c .controls 0;
-      first-is = c .reads 0 (omega arith);
-      second-is = rw (← c .last-time, ← c .last-control) (c .reads 1 (omega arith));
-      follows = rw (← c .last-time) (c .follows 0 (omega arith));
-    }))
+module _ (f : Format) (window : List ℕ) (t : Time) (w : ℕ) (c : Confirmed f 1 window t w) where
+  pub second-reads : readOf f (frameIn f window 1) ≡ Accepted t w
+  second-reads = subst₂ (λ (x : Time) (y : ℕ). readOf f (frameIn f window 1) ≡ Accepted x y) (c .last-time) (c .last-control) (c .reads 1 (omega arith))
+
+  pub second-follows : Follows f (c .times 0) t
+  second-follows = subst (Follows f (c .times 0)) (c .last-time) (c .follows 0 (omega arith))
+
+  pub confirmed-window : windowAnswer f window ≡ Report t w
+  unfolding windowAnswer
+  confirmed-window =
+      rw (eq-eqb (getD window 0 0) 2 (c .begins))
+      (both-report f (readOf f (frameIn f window 0)) (readOf f (frameIn f window 1)) t w
+      (record { before = c .times 0; control-before = c .controls 0; first-is = c .reads 0 (omega arith); second-is = second-reads; follows = second-follows }))
 
 confirm-quiet : (f : Format) (first second : Reading) → ((t : Time) (w : ℕ) → confirm f first second ≡ Report t w → ⊥) → confirm f first second ≡ Quiet
 unfolding confirm

@@ -1,0 +1,218 @@
+-- The plain machine: exactly when it reports, and that its answers depend on the last 2n + 1 symbols alone.
+use mathlib.Core.Path.{_≡_, refl, sym, ap, ap₂, _∙_, subst}
+use mathlib.Core.Bool.{Bool, true, false, cond}
+use mathlib.Core.List.{List, [], _∷_, _++_, append-assoc}
+use mathlib.Core.Logic.{_↔_}
+use Prim.Native.Nat.{ℕ, zero, suc, _+_, _*_, _-_, _<_, _≤_}
+use native.Mathlib.Nat.{not-suc-le-zero}
+use native.Mathlib.Omega.{arith}
+use native.Mathlib.Decide.{decLe}
+use borrow.Author.Tests.{leb-true, le-leb, lt-leb, eqb-true, eq-eqb}
+use lib.Dec.{leb, eqb}
+use lib.ListN.{getD, length, take, drop, length-append, length-drop, take-append-drop}
+use lib.Seq.{drop-cons, drop-drop, drop-at, take-at, take-all, drop-append-le}
+use Rattle.timecode.specs.Answers.{refusal}
+use Rattle.timecode.specs.Formats.{isSymbol, size}
+use Rattle.timecode.specs.Frames.{Follows, nextAfter, written, readOf}
+use Rattle.timecode.specs.Laws.Checks.{quiet-no-report, refused-no-report}
+use Rattle.timecode.specs.Laws.Marks.{accepted-length}
+use Rattle.timecode.specs.Laws.Stepping.{next-follows, follows-next}
+use Rattle.timecode.specs.Laws.Tests.{by-test}
+use Rattle.timecode.specs.Laws.Windows.{long, Confirmed, window-confirmed, second-reads, second-follows, window-quiet}
+use Rattle.timecode.specs.Stream.{windowLength, frameIn, confirm, windowAnswer, lastOf, plainAnswer, Plain, plainFeed, plainAnswers, plainHeld}
+use Rattle.timecode.specs.declared.Answer.{Answer}
+use Rattle.timecode.specs.declared.Answer.the-variants.{Quiet, Report}
+use Rattle.timecode.specs.declared.Format.{Format}
+use Rattle.timecode.specs.declared.Reading.the-variants.{Accepted}
+use Rattle.timecode.specs.declared.Time.{Time}
+
+-- ---- one Feed
+
+pub feed-accepts : (f : Format) (held : List ℕ) (s : ℕ) → s ≤ 3 → plainFeed f held s ≡ record { held = held ++ (s ∷ []); answer = plainAnswer f (held ++ (s ∷ [])) }
+unfolding plainFeed
+feed-accepts f held s h = rw (le-leb s 3 h)
+
+pub feed-refuses : (f : Format) (held : List ℕ) (s : ℕ) → 3 < s → plainFeed f held s ≡ record { held = held; answer = Answer.Refused (refusal 4 0) }
+unfolding plainFeed
+feed-refuses f held s h = rw (lt-leb s 3 h)
+
+-- ---- long and short lists
+
+pub window-long : (f : Format) → windowLength f ≡ long f 1
+unfolding windowLength
+window-long f = omega arith
+
+pub answer-long : (f : Format) (held : List ℕ) → windowLength f ≤ length held → plainAnswer f held ≡ windowAnswer f (lastOf (windowLength f) held)
+unfolding plainAnswer
+answer-long f held h = rw (le-leb (windowLength f) (length held) h)
+
+pub answer-short : (f : Format) (held : List ℕ) → length held < windowLength f → plainAnswer f held ≡ Quiet
+unfolding plainAnswer
+answer-short f held h = rw (lt-leb (windowLength f) (length held) h)
+
+pub answer-quiet : (f : Format) (held : List ℕ) → ((t : Time) (w : ℕ) → plainAnswer f held ≡ Report t w → ⊥) → plainAnswer f held ≡ Quiet
+answer-quiet f held n = go (decLe (windowLength f) (length held))
+  where
+    go : Dec (windowLength f ≤ length held) → plainAnswer f held ≡ Quiet
+    go (no h) = answer-short f held (omega arith)
+    go (yes h) = answer-long f held h ∙ window-quiet f (lastOf (windowLength f) held) (λ t w r. n t w (answer-long f held h ∙ r))
+
+pub report-long : (f : Format) (held : List ℕ) (t : Time) (w : ℕ) → plainAnswer f held ≡ Report t w → windowLength f ≤ length held
+report-long f held t w h = go (decLe (windowLength f) (length held))
+  where
+    go : Dec (windowLength f ≤ length held) → windowLength f ≤ length held
+    go (yes l) = l
+    go (no l) = quiet-no-report t w (sym (answer-short f held (omega arith)) ∙ h)
+
+pub length-last : (k : ℕ) (xs : List ℕ) → k ≤ length xs → length (lastOf k xs) ≡ k
+unfolding lastOf
+length-last k xs h = length-drop (length xs - k) xs ∙ omega arith
+
+-- ---- exactly when a report comes
+
+-- The list ends in a mark and two accepted frames, the second's time next after the first's. The second's time and control word are t and w.
+pub record EndsInFrames (f : Format) (held : List ℕ) (t : Time) (w : ℕ) : Type 0 where
+  pub before : List ℕ
+  pub first : List ℕ
+  pub second : List ℕ
+  pub first-time : Time
+  pub first-control : ℕ
+  pub held-is : held ≡ before ++ (2 ∷ (first ++ second))
+  pub first-accepted : readOf f first ≡ Accepted first-time first-control
+  pub second-accepted : readOf f second ≡ Accepted t w
+  pub next : nextAfter f first-time t ≡ true
+
+-- a window is its first symbol and its two frames
+window-parts : (f : Format) (window : List ℕ) → length window ≡ windowLength f → window ≡ getD window 0 0 ∷ (frameIn f window 0 ++ frameIn f window 1)
+unfolding windowLength frameIn
+window-parts f window l =
+    let a : 1 + size f * 0 ≡ 1 = omega arith in
+    let b : 1 + size f * 1 ≡ 1 + size f = omega arith in
+    rw (a, b)
+    (drop-cons window 0 0 (omega arith)
+    ∙ ap (λ (xs : List ℕ). getD window 0 0 ∷ xs)
+    (sym (take-append-drop (size f) (drop 1 window))
+    ∙ ap (λ (xs : List ℕ). take (size f) (drop 1 window) ++ xs)
+    (drop-drop (size f) 1 window ∙ sym (take-all (size f) (drop (1 + size f) window) (omega (arith, length-drop (1 + size f) window))))))
+
+parts-first : (f : Format) (s : ℕ) (first second : List ℕ) → length first ≡ size f → frameIn f (s ∷ (first ++ second)) 0 ≡ first
+unfolding frameIn
+parts-first f s first second l =
+    let a : 1 + size f * 0 ≡ suc 0 = omega arith in
+    rw a (take-at first second (size f) l)
+
+parts-second : (f : Format) (s : ℕ) (first second : List ℕ) → length first ≡ size f → length second ≡ size f → frameIn f (s ∷ (first ++ second)) 1 ≡ second
+unfolding frameIn
+parts-second f s first second l m =
+    let a : 1 + size f * 1 ≡ suc (size f) = omega arith in
+    rw a (ap (take (size f)) (drop-at first second (size f) l) ∙ take-all (size f) second (omega arith))
+
+last-behind : (k : ℕ) (xs : List ℕ) → xs ≡ take (length xs - k) xs ++ lastOf k xs
+unfolding lastOf
+last-behind k xs = sym (take-append-drop (length xs - k) xs)
+
+confirmed-ends : (f : Format) (before window : List ℕ) (t : Time) (w : ℕ) → length window ≡ windowLength f → Confirmed f 1 window t w → EndsInFrames f (before ++ window) t w
+confirmed-ends f before window t w l c =
+    record {
+      before = before;
+      first = frameIn f window 0;
+      second = frameIn f window 1;
+      first-time = c .times 0;
+      first-control = c .controls 0;
+      held-is = ap (λ (xs : List ℕ). before ++ xs) (window-parts f window l ∙ ap (λ (s : ℕ). s ∷ (frameIn f window 0 ++ frameIn f window 1)) (c .begins));
+      first-accepted = c .reads 0 (omega arith);
+      second-accepted = second-reads f window t w c;
+      next = follows-next f (c .times 0) t (second-follows f window t w c);
+    }
+
+pub report-ends : (f : Format) (held : List ℕ) (t : Time) (w : ℕ) → plainAnswer f held ≡ Report t w → EndsInFrames f held t w
+report-ends f held t w h =
+    let l = report-long f held t w h in
+    let window = lastOf (windowLength f) held in
+    subst (λ (xs : List ℕ). EndsInFrames f xs t w) (sym (last-behind (windowLength f) held))
+    (confirmed-ends f (take (length held - windowLength f) held) window t w (length-last (windowLength f) held l) (window-confirmed f window t w (sym (answer-long f held l) ∙ h)))
+
+pub ends-report : (f : Format) (held : List ℕ) (t : Time) (w : ℕ) → EndsInFrames f held t w → plainAnswer f held ≡ Report t w
+unfolding windowLength lastOf windowAnswer confirm
+ends-report f held t w e =
+    let window : List ℕ = 2 ∷ (e .first ++ e .second) in
+    let a = accepted-length f (e .first) (e .first-time) (e .first-control) (e .first-accepted) in
+    let b = accepted-length f (e .second) t w (e .second-accepted) in
+    let n : length held ≡ length (e .before) + suc (length (e .first) + length (e .second)) =
+    ap length (e .held-is) ∙ length-append (e .before) (2 ∷ (e .first ++ e .second)) ∙ ap (λ (k : ℕ). length (e .before) + suc k) (length-append (e .first) (e .second)) in
+    let front : length (e .before) ≡ length held - (2 * size f + 1) = omega arith in
+    let last : drop (length held - (2 * size f + 1)) held ≡ 2 ∷ (e .first ++ e .second) =
+    ap (drop (length held - (2 * size f + 1))) (e .held-is) ∙ drop-at (e .before) (2 ∷ (e .first ++ e .second)) (length held - (2 * size f + 1)) front in
+    answer-long f held (omega arith)
+    ∙ ap (windowAnswer f) last
+    ∙ rw (parts-first f 2 (e .first) (e .second) a, parts-second f 2 (e .first) (e .second) a b, e .first-accepted, e .second-accepted, e .next)
+
+-- ---- the answers depend on the last 2n + 1 symbols alone
+
+last-append : (k : ℕ) (xs : List ℕ) (s : ℕ) → 1 ≤ k → k ≤ length xs → lastOf k (xs ++ (s ∷ [])) ≡ drop 1 (lastOf k xs) ++ (s ∷ [])
+unfolding lastOf
+last-append k xs s a h =
+    ap (λ (i : ℕ). drop i (xs ++ (s ∷ []))) index
+    ∙ drop-append-le (length xs - k + 1) xs (s ∷ []) (omega arith)
+    ∙ ap (λ (ys : List ℕ). ys ++ (s ∷ [])) (sym (drop-drop 1 (length xs - k) xs))
+  where
+    index : length (xs ++ (s ∷ [])) - k ≡ length xs - k + 1
+    index = omega (arith, length-append xs (s ∷ []))
+
+window-positive : (f : Format) → 1 ≤ windowLength f
+unfolding windowLength
+window-positive f = omega arith
+
+-- both lists have a window, and it is the same
+pub record SameWindow (f : Format) (xs ys : List ℕ) : Type 0 where
+  pub first-long : windowLength f ≤ length xs
+  pub second-long : windowLength f ≤ length ys
+  pub same : lastOf (windowLength f) xs ≡ lastOf (windowLength f) ys
+
+pub same-answer : (f : Format) (xs ys : List ℕ) → SameWindow f xs ys → plainAnswer f xs ≡ plainAnswer f ys
+same-answer f xs ys w = answer-long f xs (w .first-long) ∙ ap (windowAnswer f) (w .same) ∙ sym (answer-long f ys (w .second-long))
+
+same-longer : (f : Format) (xs ys : List ℕ) (s : ℕ) → SameWindow f xs ys → SameWindow f (xs ++ (s ∷ [])) (ys ++ (s ∷ []))
+same-longer f xs ys s w =
+    record {
+      first-long = omega (arith, w .first-long, length-append xs (s ∷ []));
+      second-long = omega (arith, w .second-long, length-append ys (s ∷ []));
+      same = last-append (windowLength f) xs s (window-positive f) (w .first-long) ∙ ap (λ (zs : List ℕ). drop 1 zs ++ (s ∷ [])) (w .same) ∙ sym (last-append (windowLength f) ys s (window-positive f) (w .second-long));
+    }
+
+pub same-answers : (f : Format) (ss xs ys : List ℕ) → SameWindow f xs ys → plainAnswers f xs ss ≡ plainAnswers f ys ss
+unfolding plainAnswers
+same-answers f [] xs ys w = refl
+same-answers f (s ∷ ss) xs ys w = go (same-answers f ss) (decLe s 3)
+  where
+    go : ((xs ys : List ℕ) → SameWindow f xs ys → plainAnswers f xs ss ≡ plainAnswers f ys ss) → Dec (s ≤ 3)
+        → plainFeed f xs s .answer ∷ plainAnswers f (plainFeed f xs s .held) ss ≡ plainFeed f ys s .answer ∷ plainAnswers f (plainFeed f ys s .held) ss
+    go later (yes h) =
+        let longer = same-longer f xs ys s w in
+        rw (feed-accepts f xs s h, feed-accepts f ys s h)
+        (ap₂ (λ (a : Answer) (as′ : List Answer). a ∷ as′) (same-answer f (xs ++ (s ∷ [])) (ys ++ (s ∷ [])) longer) (later (xs ++ (s ∷ [])) (ys ++ (s ∷ [])) longer))
+    go later (no h) = rw (feed-refuses f xs s (omega arith), feed-refuses f ys s (omega arith)) (ap (λ (zs : List Answer). Answer.Refused (refusal 4 0) ∷ zs) (later xs ys w))
+
+-- ---- the answers by their index
+
+pub length-answers : (f : Format) (held ss : List ℕ) → length (plainAnswers f held ss) ≡ length ss
+unfolding plainAnswers
+length-answers f held [] = refl
+length-answers f held (s ∷ ss) = ap suc (length-answers f (plainFeed f held s .held) ss)
+
+pub answers-append : (f : Format) (held ss rs : List ℕ) → plainAnswers f held (ss ++ rs) ≡ plainAnswers f held ss ++ plainAnswers f (plainHeld f held ss) rs
+unfolding plainAnswers plainHeld
+answers-append f held [] rs = refl
+answers-append f held (s ∷ ss) rs = ap (λ (zs : List Answer). plainFeed f held s .answer ∷ zs) (answers-append f (plainFeed f held s .held) ss rs)
+
+-- the answers behind a list of Feeds
+pub answers-behind : (f : Format) (held ss rs : List ℕ) → drop (length ss) (plainAnswers f held (ss ++ rs)) ≡ plainAnswers f (plainHeld f held ss) rs
+answers-behind f held ss rs = ap (drop (length ss)) (answers-append f held ss rs) ∙ drop-at (plainAnswers f held ss) (plainAnswers f (plainHeld f held ss) rs) (length ss) (length-answers f held ss)
+
+pub answer-at : (f : Format) (held ss : List ℕ) (none : Answer) → ((k : ℕ) → k < length ss → getD ss k 0 ≤ 3) → (i : ℕ) → i < length ss → getD (plainAnswers f held ss) i none ≡ plainAnswer f (held ++ take (suc i) ss)
+unfolding plainAnswers
+answer-at f held [] none a i b = absurd (not-suc-le-zero b)
+answer-at f held (s ∷ ss) none a zero b = rw (feed-accepts f held s (a 0 (omega arith)))
+answer-at f held (s ∷ ss) none a (suc i) b =
+    rw (feed-accepts f held s (a 0 (omega arith)))
+    (answer-at f (held ++ (s ∷ [])) ss none (λ k c. a (suc k) (omega arith)) i (omega arith) ∙ ap (plainAnswer f) (append-assoc held (s ∷ []) (take (suc i) ss)))
