@@ -1,7 +1,10 @@
+-- Document 01: its sections as definitions, then the demands as theorems over them, then its worked rows. The proofs stand in Laws.
 pub mod Answers
 pub mod Formats
 pub mod Layout
 pub mod Frames
 pub mod Stream
 pub mod Calls
+pub mod Demands
+pub mod Rows
 pub mod Laws

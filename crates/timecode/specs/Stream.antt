@@ -1,5 +1,5 @@
 -- Document 01, "Stream reader": the plain machine, fed one symbol and a list of them.
-use mathlib.Core.Bool.{Bool, true, false, cond}
+use mathlib.Core.Bool.{cond}
 use mathlib.Core.List.{List, [], _∷_, _++_}
 use Prim.Native.Nat.{ℕ, _+_, _*_, _-_}
 use lib.Dec.{leb, eqb}
@@ -59,3 +59,8 @@ plainAnswers f held (s ∷ ss) = plainFeed f held s .answer ∷ plainAnswers f (
 unfoldable pub plainHeld : Format → List ℕ → List ℕ → List ℕ
 plainHeld f held [] = held
 plainHeld f held (s ∷ ss) = plainHeld f (plainFeed f held s .held) ss
+
+-- the elements of a list of Feeds: the symbols that are accepted
+abbrev pub elementsOf : List ℕ → List ℕ
+elementsOf [] = []
+elementsOf (s ∷ ss) = cond (isSymbol s) (s ∷ elementsOf ss) (elementsOf ss)

@@ -1,5 +1,5 @@
 -- A number's bits, and the number that they make: each gives the other back, at any width.
-use mathlib.Core.Path.{_≡_, refl, sym, ap, _∙_, subst}
+use mathlib.Core.Path.{_≡_, sym, ap, _∙_, subst}
 use Prim.Native.Nat.{ℕ, zero, suc, _+_, _*_, _/_, _%_, _^_, _<_}
 use native.Mathlib.Nat.{mod-one, not-suc-le-zero, two-pow-succ, div-one}
 use native.Mathlib.Numerals.{add-one, one-add}

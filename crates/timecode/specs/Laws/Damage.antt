@@ -1,7 +1,7 @@
 -- A window of a mark and m + 1 frames that is a generator's but at some places: while at most m are damaged it confirms no false time, and undamaged it confirms the last frame's.
-use mathlib.Core.Path.{_≡_, refl, sym, ap, _∙_, subst}
-use mathlib.Core.Bool.{Bool, true, false}
-use mathlib.Core.List.{List, [], _∷_, map}
+use mathlib.Core.Path.{_≡_, refl, sym, ap, _∙_}
+use mathlib.Core.Bool.{false}
+use mathlib.Core.List.{List, map}
 use mathlib.Core.Logic.{_⊎_, inl, inr}
 use Prim.Native.Nat.{ℕ, zero, suc, _+_, _*_, _-_, _/_, _%_, _<_, _≤_}
 use native.Mathlib.Nat.{div-add-mod, lt-of-mul-lt-mul-left, add-mul-mod-self-left, le-of-mul-le-mul-left, mul-le-mul-left, div-eq-of-lt-le, add-zero}
@@ -19,7 +19,6 @@ use Rattle.timecode.specs.Laws.Windows.{long, Confirmed, length-frame-in
 use Rattle.timecode.specs.Laws.Writing.{length-written}
 use Rattle.timecode.specs.Stream.{frameIn}
 use Rattle.timecode.specs.declared.Format.{Format}
-use Rattle.timecode.specs.declared.Reading.{Reading}
 use Rattle.timecode.specs.declared.Reading.the-variants.{Accepted}
 use Rattle.timecode.specs.declared.Time.{Time}
 

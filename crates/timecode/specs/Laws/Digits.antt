@@ -1,7 +1,7 @@
 -- The digits of a number in a field, and the number that digits make: each gives the other back, at any radices.
 use mathlib.Core.Path.{_≡_, refl, sym, ap, ap₂, _∙_}
-use mathlib.Core.List.{List, [], _∷_, _++_, map}
-use Prim.Native.Nat.{ℕ, zero, suc, _+_, _*_, _/_, _%_, _^_, _<_}
+use mathlib.Core.List.{List, [], _∷_, map}
+use Prim.Native.Nat.{ℕ, suc, _+_, _*_, _/_, _%_, _<_}
 use native.Mathlib.Nat.{add-mul-div-left, add-mul-mod-self-left, mod-eq-of-lt, div-eq-of-lt, mod-lt, mod-one, mul-comm, mul-pos, zero-add, add-comm}
 use native.Mathlib.Omega.{arith}
 use lib.Arith.{mod-mul, digits-lt}

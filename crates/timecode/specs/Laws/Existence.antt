@@ -1,13 +1,13 @@
 -- There are generators: of every format, from every time that Write takes, with any control words that it takes, of any length.
 use mathlib.Core.Path.{_≡_, refl, sym, ap, _∙_}
-use mathlib.Core.Bool.{Bool, true, false}
+use mathlib.Core.Bool.{true}
 use mathlib.Core.List.{List, [], _∷_}
 use Prim.Native.Nat.{ℕ, zero, suc, _<_}
 use native.Mathlib.Nat.{not-suc-le-zero}
 use native.Mathlib.Omega.{arith}
 use lib.ListN.{getD, length}
-use Rattle.timecode.specs.Formats.{known, size, onFormat}
-use Rattle.timecode.specs.Frames.{following, stepOf, Follows, writeOf, Sent, noFrame, Generator}
+use Rattle.timecode.specs.Formats.{known}
+use Rattle.timecode.specs.Frames.{following, Follows, Sent, noFrame, Generator}
 use Rattle.timecode.specs.Laws.Reading.{Valid}
 use Rattle.timecode.specs.Laws.Stepping.{goes, step-on-format}
 use Rattle.timecode.specs.Laws.Times.{OnFormat}
@@ -43,11 +43,14 @@ steps-at f k [] t o j h = absurd (not-suc-le-zero h)
 steps-at f k (w ∷ ws) t o zero h = (366, goes f t k o ∙ ap Next (sym (first-time f (following f t 366) ws (omega arith))))
 steps-at f k (w ∷ ws) t o (suc j) h = steps-at f k ws (following f t 366) (step-on-format f t (following f t 366) (366, goes f t k o)) j (omega arith)
 
-pub generator : (f : Format) (t : Time) (ws : List ℕ) → known f ≡ true → OnFormat f t → ((j : ℕ) → j < length ws → Valid f t (getD ws j 0)) → Generator f (frames f t ws)
-generator f t ws k o v =
+pub generator : (f : Format) (t : Time) (ws : List ℕ) → ((j : ℕ) → j < length ws → Valid f t (getD ws j 0)) → Generator f (frames f t ws)
+generator f t ws v =
     record {
       takes = λ j h lent n.
           let a : j < length ws = omega (arith, length-frames f t ws) in
           rw (first-time f t ws (omega arith), control-at f t ws j) (takes f t (getD ws j 0) lent (v j a) n);
-      steps = λ j h. steps-at f k ws t o j (omega (arith, length-frames f t ws));
+      steps = λ j h.
+          let a : suc j < length ws = omega (arith, length-frames f t ws) in
+          let first = v 0 (omega arith) in
+          steps-at f (first .format) ws t (first .time) j a;
     }

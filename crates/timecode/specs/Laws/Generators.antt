@@ -1,16 +1,15 @@
 -- A generator's elements by their index: its frames are valid and read as they were sent, and two marks stand side by side only where one frame ends and the next begins.
-use mathlib.Core.Path.{_≡_, refl, sym, ap, _∙_, subst}
-use mathlib.Core.Bool.{Bool, true, false}
-use mathlib.Core.List.{List, [], _∷_, _++_}
+use mathlib.Core.Path.{_≡_, sym, ap, _∙_}
+use mathlib.Core.List.{List, [], _∷_}
 use mathlib.Core.Logic.{_⊎_, inl, inr}
-use Prim.Native.Nat.{ℕ, zero, suc, _+_, _*_, _-_, _/_, _%_, _<_, _≤_}
+use Prim.Native.Nat.{ℕ, zero, suc, _+_, _*_, _/_, _%_, _<_, _≤_}
 use native.Mathlib.Nat.{not-suc-le-zero, div-add-mod, mod-lt, lt-of-mul-lt-mul-left, mul-zero}
 use native.Mathlib.Omega.{arith}
 use native.Mathlib.Decide.{decLt}
 use lib.ListN.{length, getD, replicate, length-replicate, length-append, List·getD-append, List·getD-eq-default}
 use lib.Seq.{getD-append-add}
 use Rattle.timecode.specs.Formats.{size}
-use Rattle.timecode.specs.Frames.{Follows, written, readOf, Sent, noFrame, Generator, elements}
+use Rattle.timecode.specs.Frames.{written, readOf, Sent, noFrame, Generator, elements}
 use Rattle.timecode.specs.Laws.Marks.{size-positive, at-written, mark-only, mark-index}
 use Rattle.timecode.specs.Laws.Reading.{Valid}
 use Rattle.timecode.specs.Laws.Stepping.{step-on-format}

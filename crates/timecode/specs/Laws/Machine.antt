@@ -1,29 +1,29 @@
 -- The plain machine: exactly when it reports, and that its answers depend on the last 2n + 1 symbols alone.
 use mathlib.Core.Path.{_≡_, refl, sym, ap, ap₂, _∙_, subst}
-use mathlib.Core.Bool.{Bool, true, false, cond}
-use mathlib.Core.List.{List, [], _∷_, _++_, append-assoc}
+use mathlib.Core.Bool.{true}
+use mathlib.Core.List.{List, [], _∷_, _++_, append-assoc, append-nil}
 use mathlib.Core.Logic.{_↔_}
 use Prim.Native.Nat.{ℕ, zero, suc, _+_, _*_, _-_, _<_, _≤_}
 use native.Mathlib.Nat.{not-suc-le-zero}
 use native.Mathlib.Omega.{arith}
 use native.Mathlib.Decide.{decLe}
-use borrow.Author.Tests.{leb-true, le-leb, lt-leb, eqb-true, eq-eqb}
-use lib.Dec.{leb, eqb}
+use borrow.Author.Tests.{le-leb, lt-leb}
 use lib.ListN.{getD, length, take, drop, length-append, length-drop, take-append-drop}
 use lib.Seq.{drop-cons, drop-drop, drop-at, take-at, take-all, drop-append-le}
 use Rattle.timecode.specs.Answers.{refusal}
 use Rattle.timecode.specs.Formats.{isSymbol, size}
-use Rattle.timecode.specs.Frames.{Follows, nextAfter, written, readOf}
+use Rattle.timecode.specs.Frames.{nextAfter, readOf}
 use Rattle.timecode.specs.Laws.Checks.{quiet-no-report, refused-no-report}
 use Rattle.timecode.specs.Laws.Marks.{accepted-length}
-use Rattle.timecode.specs.Laws.Stepping.{next-follows, follows-next}
+use Rattle.timecode.specs.Laws.Stepping.{follows-next}
 use Rattle.timecode.specs.Laws.Tests.{by-test}
 use Rattle.timecode.specs.Laws.Windows.{long, Confirmed, window-confirmed, second-reads, second-follows, window-quiet}
-use Rattle.timecode.specs.Stream.{windowLength, frameIn, confirm, windowAnswer, lastOf, plainAnswer, Plain, plainFeed, plainAnswers, plainHeld}
+use Rattle.timecode.specs.Stream.{windowLength, frameIn, confirm, windowAnswer, lastOf, plainAnswer, Plain, plainFeed, plainAnswers, plainHeld, elementsOf}
 use Rattle.timecode.specs.declared.Answer.{Answer}
 use Rattle.timecode.specs.declared.Answer.the-variants.{Quiet, Report}
 use Rattle.timecode.specs.declared.Format.{Format}
 use Rattle.timecode.specs.declared.Reading.the-variants.{Accepted}
+use Rattle.timecode.specs.declared.Refusal.{Refusal}
 use Rattle.timecode.specs.declared.Time.{Time}
 
 -- ---- one Feed
@@ -35,6 +35,15 @@ feed-accepts f held s h = rw (le-leb s 3 h)
 pub feed-refuses : (f : Format) (held : List ℕ) (s : ℕ) → 3 < s → plainFeed f held s ≡ record { held = held; answer = Answer.Refused (refusal 4 0) }
 unfolding plainFeed
 feed-refuses f held s h = rw (lt-leb s 3 h)
+
+held-step : (f : Format) (held ss : List ℕ) (s : ℕ) → plainFeed f held s .held ++ elementsOf ss ≡ held ++ elementsOf (s ∷ ss)
+unfolding plainFeed
+held-step f held ss s = by-test (isSymbol s) (λ y. rw y (append-assoc held (s ∷ []) (elementsOf ss))) (λ m. rw m)
+
+pub held-elements : (f : Format) (held ss : List ℕ) → plainHeld f held ss ≡ held ++ elementsOf ss
+unfolding plainHeld
+held-elements f held [] = sym (append-nil held)
+held-elements f held (s ∷ ss) = held-elements f (plainFeed f held s .held) ss ∙ held-step f held ss s
 
 -- ---- long and short lists
 
@@ -56,6 +65,14 @@ answer-quiet f held n = go (decLe (windowLength f) (length held))
     go : Dec (windowLength f ≤ length held) → plainAnswer f held ≡ Quiet
     go (no h) = answer-short f held (omega arith)
     go (yes h) = answer-long f held h ∙ window-quiet f (lastOf (windowLength f) held) (λ t w r. n t w (answer-long f held h ∙ r))
+
+-- an answer from a list of symbols is no refusal
+pub answer-no-refusal : (f : Format) (held : List ℕ) (r : Refusal) → plainAnswer f held ≡ Answer.Refused r → ⊥
+answer-no-refusal f held r h =
+    let quiet = answer-quiet f held (λ t w p. refused-no-report r t w (sym h ∙ p)) in
+    let z : Quiet ≡ Answer.Refused r = sym quiet ∙ h in
+    let n : _≡_ {A = ℕ} 0 1 = cc in
+    omega arith
 
 pub report-long : (f : Format) (held : List ℕ) (t : Time) (w : ℕ) → plainAnswer f held ≡ Report t w → windowLength f ≤ length held
 report-long f held t w h = go (decLe (windowLength f) (length held))
@@ -146,6 +163,14 @@ ends-report f held t w e =
     answer-long f held (omega arith)
     ∙ ap (windowAnswer f) last
     ∙ rw (parts-first f 2 (e .first) (e .second) a, parts-second f 2 (e .first) (e .second) a b, e .first-accepted, e .second-accepted, e .next)
+
+-- with one Feed: the symbol is accepted, and the list then ends so
+pub feed-reports : (f : Format) (held : List ℕ) (s : ℕ) (t : Time) (w : ℕ) → (plainFeed f held s .answer ≡ Report t w) ↔ ((s ≤ 3) × EndsInFrames f (held ++ (s ∷ [])) t w)
+feed-reports f held s t w = (λ h. go h (decLe s 3), λ e. ap (λ (p : Plain). p .answer) (feed-accepts f held s (e .0)) ∙ ends-report f (held ++ (s ∷ [])) t w (e .1))
+  where
+    go : plainFeed f held s .answer ≡ Report t w → Dec (s ≤ 3) → (s ≤ 3) × EndsInFrames f (held ++ (s ∷ [])) t w
+    go h (yes l) = (l, report-ends f (held ++ (s ∷ [])) t w (sym (ap (λ (p : Plain). p .answer) (feed-accepts f held s l)) ∙ h))
+    go h (no l) = refused-no-report (refusal 4 0) t w (sym (ap (λ (p : Plain). p .answer) (feed-refuses f held s (omega arith))) ∙ h)
 
 -- ---- the answers depend on the last 2n + 1 symbols alone
 

@@ -1,14 +1,14 @@
 -- Where the marks of a written frame stand, and of an accepted one: a frame begins and ends with a mark, and has no other two side by side.
 use mathlib.Core.Path.{_≡_, refl, sym, ap, _∙_}
-use mathlib.Core.Bool.{Bool, true, false, cond, _||_}
-use mathlib.Core.List.{List, [], _∷_}
+use mathlib.Core.Bool.{true}
+use mathlib.Core.List.{List}
 use mathlib.Core.Logic.{_⊎_, inl, inr}
-use Prim.Native.Nat.{ℕ, zero, suc, _+_, _-_, _%_, _<_, _≤_}
+use Prim.Native.Nat.{ℕ, _-_, _%_, _<_}
 use native.Mathlib.Omega.{arith}
 use borrow.Author.Tests.{eqb-true, eq-eqb}
 use lib.Dec.{eqb}
 use lib.ListN.{getD, length}
-use Rattle.timecode.specs.Formats.{known, size}
+use Rattle.timecode.specs.Formats.{size}
 use Rattle.timecode.specs.Frames.{held, written, readOf}
 use Rattle.timecode.specs.Laws.Reading.{Valid, accepted-was-written}
 use Rattle.timecode.specs.Laws.Runs.{getD-encode, held-inside, symbol-free, symbol-held}

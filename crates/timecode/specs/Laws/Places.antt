@@ -2,7 +2,7 @@
 use mathlib.Core.Path.{_≡_, refl, sym, ap, _∙_}
 use mathlib.Core.Bool.{Bool, true, false, cond, not, _&&_, _||_}
 use mathlib.Core.List.{List, [], _∷_, map}
-use Prim.Native.Nat.{ℕ, zero, suc, _+_, _<_, _≤_}
+use Prim.Native.Nat.{ℕ, zero, suc, _<_, _≤_}
 use native.Mathlib.Nat.{not-suc-le-zero, zero-add}
 use native.Mathlib.Omega.{arith}
 use borrow.Author.Tests.{eqb-true, not-true, eq-eqb, ne-eqb}
@@ -10,7 +10,7 @@ use lib.Dec.{eqb}
 use lib.ListN.{length, getD}
 use Rattle.timecode.specs.Formats.{member}
 use Rattle.timecode.specs.Laws.Runs.{length-tabulate, getD-tabulate}
-use Rattle.timecode.specs.Laws.Tests.{by-test, clash, and-left, and-right, or-first, or-second, neither-first, neither-second}
+use Rattle.timecode.specs.Laws.Tests.{by-test, clash, and-left, and-right, neither-first, neither-second}
 use Rattle.timecode.specs.Layout.{tabulate}
 
 -- places moved, or put into classes

@@ -1,24 +1,24 @@
 -- Read accepts exactly the bytes as which a time and a control word are written, and gives those.
-use mathlib.Core.Path.{_≡_, refl, sym, ap, ap₂, _∙_, subst, subst₂}
-use mathlib.Core.Bool.{Bool, true, false, cond, _&&_}
+use mathlib.Core.Path.{_≡_, refl, sym, ap, _∙_, subst, subst₂}
+use mathlib.Core.Bool.{true, false, _&&_}
 use mathlib.Core.List.{List, [], _∷_, _++_}
 use Prim.Native.Nat.{ℕ, zero, suc, _+_, _*_, _/_, _%_, _^_, _<_, _≤_}
 use native.Mathlib.Nat.{not-suc-le-zero, add-zero, zero-add, add-suc, suc-add, mod-eq-of-lt, mod-one}
 use native.Mathlib.Omega.{arith}
-use borrow.Author.Tests.{ltb-true, leb-true, eqb-true, lt-ltb, le-leb, eq-eqb}
-use lib.Dec.{leb, ltb, eqb}
+use borrow.Author.Tests.{leb-true, eqb-true, eq-eqb}
+use lib.Dec.{leb, eqb}
 use lib.ListN.{getD, length}
 use Rattle.timecode.specs.Answers.{refusal}
-use Rattle.timecode.specs.Formats.{known, size, interval, lastDay, lastHundredth, onFormat}
-use Rattle.timecode.specs.Frames.{totalWidth, controlFits, written, areSymbols, offence, checkElements, areDigits, isTime, timeIn, secondsAgree, readOf}
-use Rattle.timecode.specs.Laws.Checks.{passed, passes, accepted}
-use Rattle.timecode.specs.Laws.Digits.{Below, Positive, capacity, joined, decode, digits-below, joined-lt, digits-agree, number-joined}
-use Rattle.timecode.specs.Laws.Fields.{Each, fields-apart, fields-together, number-back, digits-back, AreDigits, are-digits, digits-are, Binary, binary-positive, binary-capacity, binary-small, binary-below}
-use Rattle.timecode.specs.Laws.Runs.{length-tabulate, length-encode, Small, small-append, held-inside, symbol-free, symbol-held, Clean, clean-bits, decode-encode, encode-decode, encode-clean, small-decoded, small-front, small-back}
+use Rattle.timecode.specs.Formats.{known, size, lastDay}
+use Rattle.timecode.specs.Frames.{totalWidth, written, areSymbols, offence, checkElements, areDigits, isTime, timeIn, secondsAgree, readOf}
+use Rattle.timecode.specs.Laws.Checks.{passed, accepted}
+use Rattle.timecode.specs.Laws.Digits.{Below, capacity, joined, decode, joined-lt, digits-agree, number-joined}
+use Rattle.timecode.specs.Laws.Fields.{fields-together, digits-back, AreDigits, are-digits, Binary, binary-positive, binary-capacity, binary-below}
+use Rattle.timecode.specs.Laws.Runs.{Small, Clean, clean-bits, encode-decode, small-decoded, small-front, small-back}
 use Rattle.timecode.specs.Laws.Table.{layout-proper}
-use Rattle.timecode.specs.Laws.Tests.{by-test, clash, and-left, and-right}
-use Rattle.timecode.specs.Laws.Times.{OnFormat, on-format, is-on-format, time-small, time-grid}
-use Rattle.timecode.specs.Layout.{Run, Field, seconds, minutes, hours, days, tenths, hundredths, hasSeconds, straightSeconds, controlRange, control, timeFields, fields, flatten, runs, second, minute, hour, timeNumbers, numbers, digitsOf, spread, rest, isMark, symbolAt, tabulate, encode, numberIn}
+use Rattle.timecode.specs.Laws.Tests.{by-test, and-left, and-right}
+use Rattle.timecode.specs.Laws.Times.{OnFormat, time-grid}
+use Rattle.timecode.specs.Layout.{Run, seconds, minutes, hours, days, tenths, hundredths, hasSeconds, straightSeconds, controlRange, control, timeFields, fields, flatten, runs, second, minute, hour, timeNumbers, numbers, digitsOf, spread, rest, encode, numberIn}
 use Rattle.timecode.specs.declared.Format.{Format}
 use Rattle.timecode.specs.declared.Reading.{Reading}
 use Rattle.timecode.specs.declared.Reading.the-variants.{Accepted}

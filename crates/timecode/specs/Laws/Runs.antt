@@ -1,8 +1,8 @@
 -- Writing digits at runs and reading them from there are inverse, at any layout that passes the test `proper`.
 use mathlib.Core.Path.{_≡_, refl, sym, ap, ap₂, _∙_}
-use mathlib.Core.Bool.{Bool, true, false, cond, not, _&&_, _||_}
-use mathlib.Core.List.{List, [], _∷_, _++_, map}
-use Prim.Native.Nat.{ℕ, zero, suc, _+_, _-_, _/_, _%_, _^_, _<_, _≤_}
+use mathlib.Core.Bool.{Bool, true, false, not, _&&_, _||_}
+use mathlib.Core.List.{List, [], _∷_, _++_}
+use Prim.Native.Nat.{ℕ, zero, suc, _+_, _^_, _<_, _≤_}
 use native.Mathlib.Nat.{add-zero, add-suc, suc-add, zero-add, not-suc-le-zero, mod-eq-of-lt}
 use native.Mathlib.Omega.{arith}
 use borrow.Author.Tests.{ltb-true, leb-true, eqb-true, not-true, lt-ltb, le-leb, eq-eqb}
@@ -13,7 +13,7 @@ use Rattle.timecode.specs.Frames.{held, offence}
 use Rattle.timecode.specs.Laws.Bits.{value-of-bits, value-small, bits-of-value}
 use Rattle.timecode.specs.Laws.Digits.{decode}
 use Rattle.timecode.specs.Laws.Tests.{by-test, clash, and-left, and-right, or-other, or-first, or-second, neither-first, neither-second}
-use Rattle.timecode.specs.Layout.{Run, inRun, bitOf, placeOf, symbolAt, tabulate, encode, digitIn}
+use Rattle.timecode.specs.Layout.{Run, inRun, bitOf, placeOf, symbolAt, tabulate, encode}
 
 -- ---- a list by its index
 

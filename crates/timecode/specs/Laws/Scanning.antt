@@ -1,14 +1,14 @@
 -- Scan finds the lowest place where a mark stands before and Read accepts, and answers None exactly where there is none.
-use mathlib.Core.Path.{_≡_, refl, sym, ap, _∙_, subst}
-use mathlib.Core.Bool.{Bool, true, false, cond}
-use mathlib.Core.List.{List, [], _∷_}
+use mathlib.Core.Path.{_≡_, refl, sym, _∙_, subst}
+use mathlib.Core.Bool.{true}
+use mathlib.Core.List.{List}
 use mathlib.Core.Logic.{_↔_}
 use Prim.Native.Nat.{ℕ, zero, suc, _+_, _-_, _<_, _≤_, min}
 use native.Mathlib.Omega.{arith}
 use native.Mathlib.Decide.{ℕ-discrete}
 use borrow.Author.Tests.{eqb-true, eqb-false, eq-eqb, leb-true, leb-false, le-leb}
 use lib.Dec.{leb, eqb}
-use lib.ListN.{getD, length, take, drop, length-take, length-drop}
+use lib.ListN.{getD, length, drop, length-take, length-drop}
 use Rattle.timecode.specs.Calls.{partAt, found, lowestOf, firstPlace, scanOf}
 use Rattle.timecode.specs.Formats.{known, size}
 use Rattle.timecode.specs.Frames.{readOf}

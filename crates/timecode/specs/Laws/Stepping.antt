@@ -1,14 +1,14 @@
 -- Step taken apart: a step of a time on the format is on the format, next after is some step, and the times that follow one.
 use mathlib.Core.Path.{_≡_, refl, sym, ap, _∙_, subst}
-use mathlib.Core.Bool.{Bool, true, false, cond, _&&_, _||_}
+use mathlib.Core.Bool.{Bool, true, _&&_}
 use mathlib.Core.List.{List, [], _∷_}
 use mathlib.Core.Logic.{_⊎_, inl, inr}
-use Prim.Native.Nat.{ℕ, zero, suc, _+_, _%_, _<_, _≤_}
+use Prim.Native.Nat.{ℕ, _+_, _%_, _≤_}
 use native.Mathlib.Nat.{add-mod-right, zero-mod}
 use native.Mathlib.Omega.{arith}
 use borrow.Author.Tests.{leb-true, eqb-true, eqb-false, le-leb, eq-eqb, ne-eqb}
 use lib.Dec.{leb, eqb}
-use Rattle.timecode.specs.Formats.{member, A, B, D, E, G, H, table, lookUp, rowOf, known, interval, lastDay, lastHundredth, dayLength, onFormat}
+use Rattle.timecode.specs.Formats.{member, table, lookUp, rowOf, known, interval, lastDay, lastHundredth, dayLength, onFormat}
 use Rattle.timecode.specs.Frames.{yearLengths, inYear, dayAfter, following, stepOf, Follows, sameTime, gives, any, nextAfter}
 use Rattle.timecode.specs.Laws.Checks.{passed, next}
 use Rattle.timecode.specs.Laws.Table.{by-letter}

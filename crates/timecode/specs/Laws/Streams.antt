@@ -1,12 +1,12 @@
 -- Whole streams of a generator, joined at any element and damaged at some places: what the plain machine answers to each element.
-use mathlib.Core.Path.{_≡_, refl, sym, ap, _∙_, subst}
-use mathlib.Core.Bool.{Bool, true, false, cond, _&&_, _||_}
+use mathlib.Core.Path.{_≡_, refl, sym, ap, _∙_}
+use mathlib.Core.Bool.{true, false, cond, _&&_, _||_}
 use mathlib.Core.List.{List, [], _∷_, _++_}
-use Prim.Native.Nat.{ℕ, zero, suc, _+_, _*_, _-_, _/_, _%_, _<_, _≤_}
+use Prim.Native.Nat.{ℕ, suc, _+_, _*_, _-_, _<_, _≤_}
 use native.Mathlib.Nat.{mul-le-mul-left, lt-of-mul-lt-mul-left}
 use native.Mathlib.Omega.{arith}
 use native.Mathlib.Decide.{ℕ-discrete, decLe}
-use borrow.Author.Tests.{leb-true, le-leb, lt-ltb, eqb-true, eq-eqb, ne-eqb}
+use borrow.Author.Tests.{leb-true, le-leb, lt-ltb, eq-eqb, ne-eqb}
 use lib.Dec.{leb, ltb, eqb}
 use lib.ListN.{getD, length, take, drop, set, length-append, length-drop, length-set}
 use lib.Seq.{getD-take, getD-drop, length-take-le, getD-set-same, getD-set-other, getD-append-add}
@@ -16,10 +16,9 @@ use Rattle.timecode.specs.Laws.Checks.{quiet-no-report}
 use Rattle.timecode.specs.Laws.Damage.{Near, no-false-time, intact}
 use Rattle.timecode.specs.Laws.Generators.{sentAt, length-elements, element-small, EndsFrame}
 use Rattle.timecode.specs.Laws.Machine.{window-long, answer-long, answer-short, answer-quiet, answer-at}
-use Rattle.timecode.specs.Laws.Marks.{size-positive}
 use Rattle.timecode.specs.Laws.Tests.{by-test, clash, and-left, neither-first, neither-second}
-use Rattle.timecode.specs.Laws.Windows.{long, window-confirmed, confirmed-window}
-use Rattle.timecode.specs.Stream.{windowLength, windowAnswer, lastOf, plainAnswer, plainAnswers}
+use Rattle.timecode.specs.Laws.Windows.{window-confirmed, confirmed-window}
+use Rattle.timecode.specs.Stream.{windowLength, lastOf, plainAnswer, plainAnswers}
 use Rattle.timecode.specs.declared.Answer.{Answer}
 use Rattle.timecode.specs.declared.Answer.the-variants.{Quiet, Report}
 use Rattle.timecode.specs.declared.Format.{Format}
@@ -31,11 +30,11 @@ pub record Part (f : Format) (sent : List Sent) (start : ℕ) (places symbols : 
   pub same : (k : ℕ) → k < length symbols → member k places ≡ false → getD symbols k 0 ≡ getD (elements f sent) (start + k) 0
 
 -- those of the places that are among the n from a on, counted from a
-abbrev among : ℕ → ℕ → List ℕ → List ℕ
+abbrev pub among : ℕ → ℕ → List ℕ → List ℕ
 among a n [] = []
 among a n (p ∷ ps) = cond (leb a p && ltb p (a + n)) ((p - a) ∷ among a n ps) (among a n ps)
 
-among-le : (a n : ℕ) (ps : List ℕ) → length (among a n ps) ≤ length ps
+pub among-le : (a n : ℕ) (ps : List ℕ) → length (among a n ps) ≤ length ps
 among-le a n [] = omega arith
 among-le a n (p ∷ ps) = by-test (leb a p && ltb p (a + n)) (λ y. rw y (omega (arith, among-le a n ps))) (λ m. rw m (omega (arith, among-le a n ps)))
 

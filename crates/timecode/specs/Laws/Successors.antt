@@ -1,9 +1,9 @@
 -- Two times that follow one are the same, or are written at least seven elements apart, whatever the control words.
-use mathlib.Core.Path.{_≡_, refl, sym, ap, _∙_}
-use mathlib.Core.Bool.{Bool, true, false, cond, not, _&&_, _||_}
+use mathlib.Core.Path.{_≡_, refl, sym, _∙_}
+use mathlib.Core.Bool.{Bool, true, false, not, _&&_}
 use mathlib.Core.List.{List, [], _∷_}
 use mathlib.Core.Logic.{_⊎_, inl, inr}
-use Prim.Native.Nat.{ℕ, zero, suc, _+_, _<_}
+use Prim.Native.Nat.{ℕ, zero, suc, _<_}
 use native.Mathlib.Nat.{not-suc-le-zero}
 use native.Mathlib.Omega.{arith}
 use borrow.Author.Tests.{ltb-true, not-true, eqb-false}
@@ -12,7 +12,7 @@ use lib.ListN.{length, getD}
 use Rattle.timecode.specs.Formats.{member, table, lookUp, rowOf, known, size, carriesControl, carriesSeconds}
 use Rattle.timecode.specs.Frames.{Follows, written}
 use Rattle.timecode.specs.Laws.Marks.{at-written}
-use Rattle.timecode.specs.Laws.Places.{distinct, spared}
+use Rattle.timecode.specs.Laws.Places.{spared}
 use Rattle.timecode.specs.Laws.Stepping.{time-path, went, YearTurn, Alike, successors}
 use Rattle.timecode.specs.Laws.Table.{everyFormat, of-every}
 use Rattle.timecode.specs.Laws.Tests.{and-left, and-right}

@@ -1,12 +1,12 @@
 -- A time on a format has digits that fit the format's runs, and the digits that stand in those runs say a time on the format.
-use mathlib.Core.Path.{_≡_, refl, sym, ap, _∙_, subst}
-use mathlib.Core.Bool.{Bool, true, false, _&&_}
-use mathlib.Core.List.{List, [], _∷_, _++_}
-use Prim.Native.Nat.{ℕ, _+_, _*_, _/_, _%_, _^_, _<_, _≤_}
+use mathlib.Core.Path.{_≡_}
+use mathlib.Core.Bool.{true, _&&_}
+use mathlib.Core.List.{List}
+use Prim.Native.Nat.{ℕ, _%_, _≤_}
 use native.Mathlib.Omega.{arith}
 use borrow.Author.Tests.{leb-true, eqb-true, le-leb, eq-eqb}
 use lib.Dec.{leb, eqb}
-use Rattle.timecode.specs.Formats.{A, B, D, E, G, H, table, lookUp, rowOf, known, interval, lastDay, lastHundredth, inRange, onFormat}
+use Rattle.timecode.specs.Formats.{table, lookUp, rowOf, known, interval, lastDay, lastHundredth, inRange, onFormat}
 use Rattle.timecode.specs.Frames.{timeIn}
 use Rattle.timecode.specs.Laws.Digits.{decode}
 use Rattle.timecode.specs.Laws.Runs.{Small}

@@ -1,23 +1,23 @@
 -- What is written is accepted, and read as it was written. Demand 2 follows, and Write's answer taken apart.
-use mathlib.Core.Path.{_≡_, refl, sym, ap, ap₂, _∙_, subst}
-use mathlib.Core.Bool.{Bool, true, false, cond, _&&_}
+use mathlib.Core.Path.{_≡_, refl, sym, ap₂, _∙_, subst}
+use mathlib.Core.Bool.{true}
 use mathlib.Core.List.{List, [], _∷_, _++_}
-use Prim.Native.Nat.{ℕ, zero, suc, _+_, _*_, _/_, _%_, _^_, _<_, _≤_}
+use Prim.Native.Nat.{ℕ, zero, suc, _+_, _*_, _/_, _%_, _^_, _≤_}
 use native.Mathlib.Nat.{zero-add}
 use native.Mathlib.Omega.{arith}
 use borrow.Author.Tests.{ltb-true, eqb-true, lt-ltb, le-leb, eq-eqb}
-use lib.Dec.{leb, ltb, eqb}
+use lib.Dec.{ltb, eqb}
 use lib.ListN.{length}
-use Rattle.timecode.specs.Formats.{isSymbol, known, size, lastDay, onFormat}
-use Rattle.timecode.specs.Frames.{totalWidth, controlFits, written, writeOf, writeLeaves, areSymbols, checkElements, areDigits, isTime, timeIn, secondsAgree, readOf}
+use Rattle.timecode.specs.Formats.{known, size, lastDay, onFormat}
+use Rattle.timecode.specs.Frames.{totalWidth, controlFits, written, writeOf, writeLeaves, areSymbols, areDigits, isTime, timeIn, secondsAgree, readOf}
 use Rattle.timecode.specs.Laws.Checks.{passed, passes, done}
 use Rattle.timecode.specs.Laws.Digits.{decode}
 use Rattle.timecode.specs.Laws.Fields.{Each, fields-apart, fields-together, number-back, AreDigits, digits-are, binary-positive, binary-capacity, binary-small}
 use Rattle.timecode.specs.Laws.Reading.{Valid, elements-pass, straight-binary, control-binary, straight-wide}
-use Rattle.timecode.specs.Laws.Runs.{length-encode, getD-encode, Small, small-append, symbol-free, symbol-held, decode-encode, encode-clean}
+use Rattle.timecode.specs.Laws.Runs.{length-encode, Small, small-append, decode-encode, encode-clean}
 use Rattle.timecode.specs.Laws.Table.{layout-proper}
 use Rattle.timecode.specs.Laws.Tests.{by-test}
-use Rattle.timecode.specs.Laws.Times.{OnFormat, on-format, is-on-format, time-small}
+use Rattle.timecode.specs.Laws.Times.{on-format, is-on-format, time-small}
 use Rattle.timecode.specs.Layout.{Run, seconds, minutes, hours, days, tenths, hundredths, hasSeconds, straightSeconds, control, timeFields, fields, flatten, runs, second, minute, hour, timeNumbers, numbers, digitsOf, spread, inRun, isMark, rest, symbolAt, tabulate, encode, numberIn}
 use Rattle.timecode.specs.declared.Format.{Format}
 use Rattle.timecode.specs.declared.Reading.{Reading}
