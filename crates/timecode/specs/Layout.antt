@@ -58,7 +58,7 @@ hundredths f = decimalIn (G ∷ []) f 50 4 ∷ []
 
 -- SBS, straight binary seconds: weights 1 to 256 at 80-88, 512 to 65,536 at 90-97 (A, B, expressions 0 and 3)
 unfoldable pub hasSeconds : Format → Bool
-hasSeconds f = member (f .letter) (A ∷ B ∷ []) && carriesSeconds f
+hasSeconds f = carriesSeconds f && member (f .letter) (A ∷ B ∷ [])
 
 unfoldable pub straightSeconds : Format → Field
 straightSeconds f = binaryIf (hasSeconds f) 80 9 ∷ binaryIf (hasSeconds f) 90 8 ∷ []

@@ -2,10 +2,11 @@
 use mathlib.Core.Path.{_≡_, refl, subst}
 use mathlib.Core.Bool.{Bool, true, _&&_}
 use mathlib.Core.List.{List, [], _∷_}
-use Prim.Native.Nat.{ℕ}
+use Prim.Native.Nat.{ℕ, _≤_}
+use native.Mathlib.Omega.{arith}
 use borrow.Author.Tests.{eqb-true}
 use lib.Dec.{eqb}
-use Rattle.timecode.specs.Formats.{member, A, B, D, E, G, H, Row, table, noRow, lookUp, rowOf, known, size}
+use Rattle.timecode.specs.Formats.{member, A, B, D, E, G, H, Row, table, noRow, lookUp, rowOf, known, size, interval}
 use Rattle.timecode.specs.Laws.Runs.{clear, proper}
 use Rattle.timecode.specs.Laws.Tests.{by-test, clash, and-left, and-right, or-other}
 use Rattle.timecode.specs.Layout.{seconds, minutes, hours, days, tenths, hundredths, hasSeconds, straightSeconds, controlRange, control, timeFields, fields, runs, isMark, rest}
@@ -27,6 +28,14 @@ in-lines P n (r ∷ rs) ps l = by-test (eqb (r .letter) l) (λ y. rw y (ps .0)) 
 pub two-sizes : (P : ℕ → Type 0) → P 60 → P 100 → (f : Format) → P (size f)
 unfolding size rowOf table
 two-sizes P a b f = in-lines (λ r. P (r .elements)) b table (b, (b, (a, (b, (b, (a, tt)))))) (f .letter)
+
+pub size-range : (f : Format) → (60 ≤ size f) × (size f ≤ 100)
+size-range f = two-sizes (λ n. (60 ≤ n) × (n ≤ 100)) (omega arith) (omega arith) f
+
+pub interval-range : (f : Format) → (1 ≤ interval f) × (interval f ≤ 360000)
+unfolding interval rowOf table
+interval-range f =
+    in-lines (λ r. (1 ≤ r .interval) × (r .interval ≤ 360000)) (omega arith) table (omega arith, (omega arith, (omega arith, (omega arith, (omega arith, (omega arith, tt)))))) (f .letter)
 
 -- the letter of a known format is one of six
 pub by-letter : (P : ℕ → Type 0) → P A → P B → P D → P E → P G → P H → (f : Format) → known f ≡ true → P (f .letter)
