@@ -1,8 +1,8 @@
 -- What the code's tables promise: for each letter what document 01's table and layout say.
-use mathlib.Core.Path.{_≡_, refl, sym, ap, _∙_, subst}
-use mathlib.Core.Bool.{Bool, true, false, cond, _&&_, _||_}
+use mathlib.Core.Path.{_≡_}
+use mathlib.Core.Bool.{_&&_}
 use mathlib.Core.List.{List, [], _∷_, map}
-use Prim.Native.Nat.{ℕ, _≤_}
+use Prim.Native.Nat.{ℕ}
 use lib.Dec.{leb}
 use Rattle.timecode.specs.Formats.{known, size, interval}
 use Rattle.timecode.specs.Layout.{Run, runs}

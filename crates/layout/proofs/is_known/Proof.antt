@@ -1,5 +1,4 @@
 -- `is_known` meets its contract: the expression is from the row's first to its last.
-use mathlib.Core.Path.{sym}
 use borrow.Author.Needs.{needs}
 use borrow.Author.Tests.{le-leb, lt-leb}
 use Rattle.layout.proofs.is_known.Statement.{statement}

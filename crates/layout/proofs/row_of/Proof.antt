@@ -1,5 +1,5 @@
 -- `row_of` gives each letter the row of document 01's table: by computation for the six, and for any other letter by what is left of the table.
-use mathlib.Core.Path.{refl, sym, ap, _∙_}
+use mathlib.Core.Path.{refl, ap}
 use Rattle.timecode.specs.Formats.{Row, table, lookUp, rowOf, known, size, interval, carriesControl, carriesSeconds}
 use Rattle.timecode.specs.Layout.{seconds, minutes, hours, days, tenths, hundredths, hasSeconds, straightSeconds, controlRange, control, timeFields, fields, runs}
 use Rattle.layout.specs.Tables.{widthsOf}

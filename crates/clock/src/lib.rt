@@ -1,0 +1,145 @@
+// Times: whether one lies on a format, Step, next after, and Difference.
+ghost use mathlib.Core.Path.{_≡_};
+ghost use mathlib.Core.Bool.{true};
+ghost use Prim.Native.Nat.{_+_, _*_, _≤_, _<_};
+ghost use lib.IntN.{pos, _-ℤ_};
+ghost use Rattle.timecode.specs.Calls.{differenceOf};
+ghost use Rattle.timecode.specs.Formats.{known, inRange, onFormat};
+ghost use Rattle.timecode.specs.Frames.{inYear, following, stepOf, sameTime, gives, nextAfter};
+use layout::frame_interval;
+use layout::is_known;
+use timecode::Format;
+use timecode::Refusal;
+use timecode::Stepped;
+use timecode::Subtracted;
+use timecode::Time;
+
+pub fn in_range(time: Time) -> bool
+    ensures { λ r. ⌜ r ≡ inRange time ⌝ }
+{
+    if Time::FIRST_DAY <= time.day {
+        if time.day <= Time::LAST_DAY {
+            return time.hundredths <= Time::LAST_HUNDREDTH;
+        }
+    }
+    false
+}
+
+pub fn on_format(format: Format, time: Time) -> bool
+    ensures { λ r. ⌜ r ≡ onFormat format time ⌝ }
+{
+    if in_range(time) {
+        return time.hundredths % frame_interval(format) == 0;
+    }
+    false
+}
+
+// The year's length is 365 or 366, and the day is not beyond it.
+fn in_year(time: Time, year: u16) -> bool
+    ensures { λ r. ⌜ r ≡ inYear time year ⌝ }
+{
+    if year == 365 {
+        return time.day <= year;
+    }
+    if year == 366 {
+        return time.day <= year;
+    }
+    false
+}
+
+// The time one frame interval later, in a year of that length.
+fn later(format: Format, time: Time, year: u16) -> Time
+    requires { ⌜ (onFormat format time ≡ true) ⌝ }
+    ensures { λ r. ⌜ r ≡ following format time year ⌝ }
+{
+    let hundredths = time.hundredths + frame_interval(format);
+    if hundredths != Time::DAY_LENGTH {
+        return Time {
+            day: time.day,
+            hundredths: hundredths,
+        };
+    }
+    if time.day == year {
+        return Time {
+            day: Time::FIRST_DAY,
+            hundredths: 0,
+        };
+    }
+    Time {
+        day: time.day + 1,
+        hundredths: 0,
+    }
+}
+
+pub fn step(format: Format, time: Time, year: u16) -> Stepped
+    ensures { λ r. ⌜ r ≡ stepOf format time year ⌝ }
+{
+    if is_known(format) {
+        if on_format(format, time) {
+            if in_year(time, year) {
+                return Stepped::Next(later(format, time, year));
+            }
+            return Stepped::Refused(Refusal::InvalidYearLength);
+        }
+        return Stepped::Refused(Refusal::InvalidTime);
+    }
+    Stepped::Refused(Refusal::UnknownFormat)
+}
+
+fn same_time(first: Time, second: Time) -> bool
+    ensures { λ r. ⌜ r ≡ sameTime first second ⌝ }
+{
+    if first.day == second.day {
+        return first.hundredths == second.hundredths;
+    }
+    false
+}
+
+fn leads_to(stepped: Stepped, time: Time) -> bool
+    ensures { λ r. ⌜ r ≡ gives stepped time ⌝ }
+{
+    match stepped {
+        Stepped::Next(next) => same_time(next, time),
+        Stepped::Refused(_) => false,
+    }
+}
+
+// Without a known year: one of the two lengths gives it.
+pub fn next_after(format: Format, first: Time, second: Time) -> bool
+    ensures { λ r. ⌜ r ≡ nextAfter format first second ⌝ }
+{
+    if leads_to(step(format, first, 365), second) {
+        return true;
+    }
+    leads_to(step(format, first, 366), second)
+}
+
+// Hundredths since the start of day 0.
+fn total(time: Time) -> u64
+    ensures { λ r. ⌜ (r ≡ time .day * 8640000 + time .hundredths) × (r < 1000000000000) ⌝ }
+{
+    let day = time.day as u64;
+    let hundredths = time.hundredths as u64;
+    day * 8_640_000 + hundredths
+}
+
+fn minus(first: u64, second: u64) -> i64
+    requires { ⌜ (first < 1000000000000) × (second < 1000000000000) ⌝ }
+    ensures { λ r. ⌜ r ≡ pos first -ℤ pos second ⌝ }
+{
+    let a = first as i64;
+    let b = second as i64;
+    a - b
+}
+
+// The first time less the second, within one year, in signed hundredths.
+pub fn difference(first: Time, second: Time) -> Subtracted
+    ensures { λ r. ⌜ r ≡ differenceOf first second ⌝ }
+{
+    if in_range(first) {
+        if in_range(second) {
+            return Subtracted::Hundredths(minus(total(first), total(second)));
+        }
+    }
+    Subtracted::Refused(Refusal::InvalidTime)
+}
