@@ -42,7 +42,7 @@ in-run r i h = (
   ltb-true i (r .start + r .width) (and-right (leb (r .start) i) (ltb i (r .start + r .width)) h),
 )
 
-place-in : (r : Run) (b : ℕ) → b < r .width → inRun r (placeOf r b) ≡ true
+pub place-in : (r : Run) (b : ℕ) → b < r .width → inRun r (placeOf r b) ≡ true
 place-in r b h = simp (le-leb (r .start) (r .start + b) (omega arith), lt-ltb (r .start + b) (r .start + r .width) (omega arith))
 
 bit-of-place : (r : Run) (b : ℕ) → bitOf r (placeOf r b) ≡ b
@@ -211,3 +211,9 @@ small-front frame (r ∷ rs) qs s = (s .0, small-front frame rs qs (s .1))
 pub small-back : (frame : List ℕ) (rs qs : List Run) → Small (rs ++ qs) (decode (rs ++ qs) frame) → Small qs (decode qs frame)
 small-back frame [] qs s = s
 small-back frame (r ∷ rs) qs s = small-back frame rs qs (s .1)
+
+-- an index of one of the runs is held
+pub held-at : (rs : List Run) (none : Run) (j i : ℕ) → j < length rs → inRun (getD rs j none) i ≡ true → held rs i ≡ true
+held-at [] none j i h y = absurd (not-suc-le-zero h)
+held-at (r ∷ rs) none zero i h y = or-first (inRun r i) (held rs i) y
+held-at (r ∷ rs) none (suc j) i h y = or-second (inRun r i) (held rs i) (held-at rs none j i (omega arith) y)

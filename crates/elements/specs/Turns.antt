@@ -1,0 +1,115 @@
+-- The format's runs one by one: what a turn of the loops over them does.
+use mathlib.Core.Path.{_≡_, refl, sym, ap, ap₂, _∙_}
+use mathlib.Core.Bool.{Bool, true, _&&_}
+use mathlib.Core.List.{List, [], _∷_}
+use Prim.Native.Nat.{ℕ, zero, suc, _+_, _*_, _-_, _<_, _≤_}
+use native.Mathlib.Omega.{arith}
+use borrow.Author.Tests.{leb-true}
+use lib.Dec.{leb}
+use lib.ListN.{getD, length, drop, drop-of-length-le, List·getD-map}
+use lib.Seq.{drop-cons}
+use Rattle.timecode.specs.Formats.{table, lookUp, rowOf, known, size, carriesControl, carriesSeconds}
+use Rattle.timecode.specs.Laws.Digits.{decode}
+use Rattle.timecode.specs.Laws.Runs.{place-in, held-inside, held-at}
+use Rattle.timecode.specs.Laws.Table.{everyFormat, of-every, layout-proper}
+use Rattle.timecode.specs.Laws.Tests.{and-left, and-right}
+use Rattle.timecode.specs.Layout.{Run, seconds, minutes, hours, days, tenths, hundredths, hasSeconds, straightSeconds, controlRange, control, timeFields, fields, runs, rest, encode, tabulate, value}
+use Rattle.timecode.specs.declared.Format.{Format}
+use Rattle.layout.specs.Tables.{startsOf, widthsOf}
+use Rattle.elements.specs.Stamps.{stamp, stamp-encode}
+
+abbrev noRun : Run
+noRun = record { start = 0; width = 0; radix = 1 }
+
+abbrev runAt : Format → ℕ → Run
+runAt f j = getD (runs f) j noRun
+
+length-runs : (f : Format) → length (runs f) ≡ 18
+unfolding runs fields timeFields seconds minutes hours days tenths hundredths straightSeconds control
+length-runs f = refl
+
+pub length-widths : (f : Format) → length (widthsOf f) ≡ 18
+unfolding widthsOf runs fields timeFields seconds minutes hours days tenths hundredths straightSeconds control
+length-widths f = refl
+
+start-at : (f : Format) (j : ℕ) → getD (startsOf f) j 0 ≡ runAt f j .start
+unfolding startsOf
+start-at f j = List·getD-map (λ (r : Run). r .start) (runs f) j noRun
+
+width-at : (f : Format) (j : ℕ) → getD (widthsOf f) j 0 ≡ runAt f j .width
+unfolding widthsOf
+width-at f j = List·getD-map (λ (r : Run). r .width) (runs f) j noRun
+
+-- ---- each run lies in the frame, and is at most 9 wide
+
+abbrev allSmall : List ℕ → Bool
+allSmall [] = true
+allSmall (w ∷ ws) = leb w 9 && allSmall ws
+
+small-at : (ws : List ℕ) → allSmall ws ≡ true → (j : ℕ) → getD ws j 0 ≤ 9
+small-at [] h j = omega arith
+small-at (w ∷ ws) h zero = leb-true w 9 (and-left (leb w 9) (allSmall ws) h)
+small-at (w ∷ ws) h (suc j) = small-at ws (and-right (leb w 9) (allSmall ws) h) j
+
+widths-small : everyFormat (λ f. allSmall (widthsOf f)) ≡ true
+unfolding everyFormat table widthsOf runs fields timeFields seconds minutes hours days tenths hundredths straightSeconds hasSeconds carriesSeconds control controlRange carriesControl rowOf lookUp
+widths-small = refl
+
+pub width-small : (f : Format) → known f ≡ true → (j : ℕ) → getD (widthsOf f) j 0 ≤ 9
+width-small f k j = small-at (widthsOf f) (of-every (λ f. allSmall (widthsOf f)) widths-small f k) j
+
+pub run-inside : (f : Format) → known f ≡ true → (j k : ℕ) → j < 18 → k < getD (widthsOf f) j 0 → getD (startsOf f) j 0 + k < size f
+run-inside f h j k b l =
+    let w : k < runAt f j .width = rw (width-at f j) at l in
+    rw (start-at f j)
+    (held-inside (size f) (rest f) (runs f) (layout-proper f h) (runAt f j .start + k) (held-at (runs f) noRun j (runAt f j .start + k) (omega (arith, length-runs f)) (place-in (runAt f j) k w)) .0)
+
+-- ---- writing, from the last run to the first
+
+pub fill-start : (n : ℕ) (f : Format) (xs : List ℕ) → length xs ≡ 18 → encode n (rest f) [] [] ≡ encode n (rest f) (drop 18 (runs f)) (drop 18 xs)
+fill-start n f xs l =
+    ap₂ (λ (rs : List Run) (ys : List ℕ). encode n (rest f) rs ys) (sym (drop-of-length-le (runs f) {i = 18} (omega (arith, length-runs f)))) (sym (drop-of-length-le xs {i = 18} (omega arith)))
+
+pub fill-turn : (n : ℕ) (f : Format) (xs frame : List ℕ) (j s w : ℕ) → length xs ≡ 18 → 0 < j → j ≤ 18 → s ≡ getD (startsOf f) (j - 1) 0 → w ≡ getD (widthsOf f) (j - 1) 0
+    → frame ≡ encode n (rest f) (drop j (runs f)) (drop j xs) → stamp frame s w (getD xs (j - 1) 0) ≡ encode n (rest f) (drop (j - 1) (runs f)) (drop (j - 1) xs)
+fill-turn n f xs frame j s w l a b p q e =
+    let h : suc (j - 1) ≡ j = omega arith in
+    let front : drop (j - 1) (runs f) ≡ runAt f (j - 1) ∷ drop j (runs f) = rw h at (drop-cons (runs f) (j - 1) noRun (omega (arith, length-runs f))) in
+    let behind : drop (j - 1) xs ≡ getD xs (j - 1) 0 ∷ drop j xs = rw h at (drop-cons xs (j - 1) 0 (omega arith)) in
+    rw (e, p ∙ start-at f (j - 1), q ∙ width-at f (j - 1), front, behind) (stamp-encode n (rest f) (runAt f (j - 1)) (drop j (runs f)) (getD xs (j - 1) 0) (drop j xs))
+
+-- ---- reading, from the first run to the last
+
+-- the digit at run j
+abbrev pub digitAt : Format → List ℕ → ℕ → ℕ
+digitAt f frame j = value (getD (widthsOf f) j 0) (λ b. getD frame (getD (startsOf f) j 0 + b) 0)
+
+pub decode-tabulate : (f : Format) (frame : List ℕ) → tabulate 18 0 (digitAt f frame) ≡ decode (runs f) frame
+unfolding widthsOf startsOf runs fields timeFields seconds minutes hours days tenths hundredths straightSeconds control
+decode-tabulate f frame = refl
+
+-- ---- the bits of one digit, from the highest to the lowest
+
+value-same : (w : ℕ) (g h : ℕ → ℕ) → ((b : ℕ) → g b ≡ h b) → value w g ≡ value w h
+unfolding value
+value-same zero g h p = refl
+value-same (suc w) g h p = ap₂ (λ (x y : ℕ). x + 2 * y) (p 0) (value-same w (λ b. g (suc b)) (λ b. h (suc b)) (λ b. p (suc b)))
+
+pub value-turn : (frame : List ℕ) (s w k v : ℕ) → 0 < k → k ≤ w → v ≡ value (w - k) (λ b. getD frame (s + (k + b)) 0)
+    → v * 2 + getD frame (s + (k - 1)) 0 ≡ value (w - (k - 1)) (λ b. getD frame (s + (k - 1 + b)) 0)
+unfolding value
+value-turn frame s w k v a b e =
+    let m : w - (k - 1) ≡ suc (w - k) = omega arith in
+    let first : s + (k - 1 + 0) ≡ s + (k - 1) = omega arith in
+    let others : value (w - k) (λ b. getD frame (s + (k + b)) 0) ≡ value (w - k) (λ b. getD frame (s + (k - 1 + suc b)) 0) =
+    value-same (w - k) (λ b. getD frame (s + (k + b)) 0) (λ b. getD frame (s + (k - 1 + suc b)) 0) (λ b. ap (λ (i : ℕ). getD frame i 0) (omega arith)) in
+    rw (m, first) (omega (arith, e, others))
+
+pub value-start : (frame : List ℕ) (s w : ℕ) → 0 ≡ value (w - w) (λ b. getD frame (s + (w + b)) 0)
+unfolding value
+value-start frame s w = let z : w - w ≡ 0 = omega arith in rw z
+
+pub value-end : (frame : List ℕ) (s w k v : ℕ) → k ≡ 0 → v ≡ value (w - k) (λ b. getD frame (s + (k + b)) 0) → v ≡ value w (λ b. getD frame (s + b) 0)
+value-end frame s w k v z e =
+    let m : w - k ≡ w = omega arith in
+    e ∙ ap (λ (n : ℕ). value n (λ b. getD frame (s + (k + b)) 0)) m ∙ value-same w (λ b. getD frame (s + (k + b)) 0) (λ b. getD frame (s + b) 0) (λ b. ap (λ (i : ℕ). getD frame i 0) (omega arith))
