@@ -1,0 +1,61 @@
+-- `is_time` meets its contract, test by test.
+use borrow.Author.Needs.{needs}
+use borrow.Author.Tests.{le-leb, lt-leb}
+use Rattle.digits.specs.Saying.{isTimeOf}
+use Rattle.digits.proofs.is_time.Statement.{statement}
+use Rattle.digits.proofs.is_time.Tie as tie
+
+are-digits-requires : tie.Need-are-digits-requires
+are-digits-requires c κs = search needs
+
+pair-requires : tie.Need-pair-requires
+pair-requires c κs = search needs
+
+returns : tie.Need-returns
+unfolding isTimeOf
+returns c = rw (← c .before .before .before .are-digits .ensures, c .before .before .if1 .taken, ← c .before .pair .ensures .0, lt-leb _ _ (c .if2 .taken))
+
+pair-requires-2 : tie.Need-pair-requires-2
+pair-requires-2 c κs = search needs
+
+returns-2 : tie.Need-returns-2
+unfolding isTimeOf
+returns-2 c = rw (← c .before .before .before .before .before .are-digits .ensures, c .before .before .before .before .if1 .taken, ← c .before .before .before .pair .ensures .0, le-leb _ _ (c .before .before .if2 .left), ← c .before .pair2 .ensures .0, lt-leb _ _ (c .if3 .taken))
+
+pair-requires-3 : tie.Need-pair-requires-3
+pair-requires-3 c κs = search needs
+
+returns-3 : tie.Need-returns-3
+unfolding isTimeOf
+returns-3 c = rw (← c .before .before .before .before .before .before .before .are-digits .ensures, c .before .before .before .before .before .before .if1 .taken, ← c .before .before .before .before .before .pair .ensures .0, le-leb _ _ (c .before .before .before .before .if2 .left), ← c .before .before .before .pair2 .ensures .0, le-leb _ _ (c .before .before .if3 .left), ← c .before .pair3 .ensures .0, lt-leb _ _ (c .if4 .taken))
+
+day-in-requires : tie.Need-day-in-requires
+day-in-requires c κs = search needs
+
+returns-4 : tie.Need-returns-4
+unfolding isTimeOf
+returns-4 c = rw (← c .before .before .before .before .before .before .before .before .before .are-digits .ensures, c .before .before .before .before .before .before .before .before .if1 .taken, ← c .before .before .before .before .before .before .before .pair .ensures .0, le-leb _ _ (c .before .before .before .before .before .before .if2 .left), ← c .before .before .before .before .before .pair2 .ensures .0, le-leb _ _ (c .before .before .before .before .if3 .left), ← c .before .before .before .pair3 .ensures .0, le-leb _ _ (c .before .before .if4 .left), ← c .before .day-in .ensures, lt-leb _ _ (c .if5 .taken))
+
+returns-5 : tie.Need-returns-5
+unfolding isTimeOf
+returns-5 c = rw (← c .before .before .before .before .before .before .before .before .before .are-digits .ensures, c .before .before .before .before .before .before .before .before .if1 .taken, ← c .before .before .before .before .before .before .before .pair .ensures .0, le-leb _ _ (c .before .before .before .before .before .before .if2 .left), ← c .before .before .before .before .before .pair2 .ensures .0, le-leb _ _ (c .before .before .before .before .if3 .left), ← c .before .before .before .pair3 .ensures .0, le-leb _ _ (c .before .before .if4 .left), ← c .before .day-in .ensures, le-leb _ _ (c .if5 .left))
+
+returns-6 : tie.Need-returns-6
+unfolding isTimeOf
+returns-6 c = rw (← c .before .are-digits .ensures, c .if1 .left)
+
+pub is-time-spec : {M : Type 1} → statement M
+is-time-spec =
+    tie.close
+    (tie.spec
+    are-digits-requires
+    pair-requires
+    returns
+    pair-requires-2
+    returns-2
+    pair-requires-3
+    returns-3
+    day-in-requires
+    returns-4
+    returns-5
+    returns-6)

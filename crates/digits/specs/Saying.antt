@@ -1,0 +1,179 @@
+-- What the digits of a frame say, by their place in the list of runs, and that this is what Read says of the frame.
+use mathlib.Core.Path.{_≡_, refl, sym, ap, _∙_}
+use mathlib.Core.Bool.{Bool, true, false, cond, _&&_}
+use mathlib.Core.List.{List}
+use Prim.Native.Nat.{ℕ, zero, suc, _+_, _*_, _-_, _/_, _^_, _<_, _≤_}
+use native.Mathlib.Nat.{add-zero, add-suc, suc-add, not-suc-le-zero}
+use native.Mathlib.Numerals.{add-one}
+use native.Mathlib.Omega.{arith}
+use borrow.Author.Tests.{leb-true}
+use lib.Dec.{leb, eqb}
+use lib.ListN.{getD}
+use Rattle.timecode.specs.Answers.{check}
+use Rattle.timecode.specs.Frames.{areDigits, isTime, timeIn, secondsAgree}
+use Rattle.timecode.specs.Laws.Digits.{decode}
+use Rattle.timecode.specs.Laws.Tests.{by-test, and-left, and-right}
+use Rattle.timecode.specs.Layout.{seconds, minutes, hours, days, tenths, hundredths, hasSeconds, straightSeconds, controlRange, control, timeFields, fields, flatten, runs, digitIn, numberIn}
+use Rattle.timecode.specs.declared.Format.{Format}
+use Rattle.timecode.specs.declared.Reading.{Reading}
+use Rattle.timecode.specs.declared.Reading.the-variants.{Accepted}
+use Rattle.timecode.specs.declared.Time.{Time}
+use Rattle.layout.specs.Tables.{widthsOf}
+
+-- the number of the two digits from j on
+abbrev pub two : List ℕ → ℕ → ℕ
+two ds j = getD ds j 0 + 10 * getD ds (j + 1) 0
+
+abbrev pub dayOf : List ℕ → ℕ
+dayOf ds = getD ds 6 0 + 10 * (getD ds 7 0 + 10 * getD ds 8 0)
+
+-- the n digits from j on are at most 9
+unfoldable pub digitsFrom : ℕ → ℕ → List ℕ → Bool
+digitsFrom zero j ds = true
+digitsFrom (suc n) j ds = leb (getD ds j 0) 9 && digitsFrom n (suc j) ds
+
+unfoldable pub isTimeOf : List ℕ → Bool
+isTimeOf ds = digitsFrom 11 0 ds && (leb (two ds 4) 23 && (leb (two ds 2) 59 && (leb (two ds 0) 59 && (leb 1 (dayOf ds) && leb (dayOf ds) 366))))
+
+unfoldable pub timeOf : List ℕ → Time
+timeOf ds = record { day = dayOf ds; hundredths = ((two ds 4 * 60 + two ds 2) * 60 + two ds 0) * 100 + getD ds 9 0 * 10 + getD ds 10 0 }
+
+unfoldable pub agreeOf : Format → List ℕ → Bool
+agreeOf f ds = cond (hasSeconds f) (eqb (getD ds 11 0 + 512 * getD ds 12 0) (timeOf ds .hundredths / 100)) true
+
+unfoldable pub controlOf : Format → List ℕ → ℕ
+controlOf f ds =
+    getD ds 13 0 + 2 ^ getD (widthsOf f) 13 0 * (getD ds 14 0 + 2 ^ getD (widthsOf f) 14 0 * (getD ds 15 0 + 2 ^ getD (widthsOf f) 15 0 * (getD ds 16 0 + 2 ^ getD (widthsOf f) 16 0 * getD ds 17 0)))
+
+unfoldable pub meaningOf : Format → List ℕ → Reading
+meaningOf f ds = check Reading.Refused 7 (isTimeOf ds) (check Reading.Refused 8 (agreeOf f ds) (Accepted (timeOf ds) (controlOf f ds)))
+
+-- ---- a frame's digits say what the frame says
+
+module _ (f : Format) (frame : List ℕ) where
+  abbrev ds : List ℕ
+  ds = decode (runs f) frame
+
+  second-is : two ds 0 ≡ numberIn frame (seconds f)
+  unfolding runs fields timeFields seconds minutes hours days tenths hundredths straightSeconds control
+  second-is = omega arith
+
+  minute-is : two ds 2 ≡ numberIn frame (minutes f)
+  unfolding runs fields timeFields seconds minutes hours days tenths hundredths straightSeconds control
+  minute-is = omega arith
+
+  hour-is : two ds 4 ≡ numberIn frame (hours f)
+  unfolding runs fields timeFields seconds minutes hours days tenths hundredths straightSeconds control
+  hour-is = omega arith
+
+  day-is : dayOf ds ≡ numberIn frame (days f)
+  unfolding runs fields timeFields seconds minutes hours days tenths hundredths straightSeconds control
+  day-is = omega arith
+
+  tenth-is : getD ds 9 0 ≡ numberIn frame (tenths f)
+  unfolding runs fields timeFields seconds minutes hours days tenths hundredths straightSeconds control
+  tenth-is = omega arith
+
+  hundredth-is : getD ds 10 0 ≡ numberIn frame (hundredths f)
+  unfolding runs fields timeFields seconds minutes hours days tenths hundredths straightSeconds control
+  hundredth-is = omega arith
+
+  digits-are : digitsFrom 11 0 ds ≡ areDigits frame (flatten (timeFields f))
+  unfolding digitsFrom runs fields timeFields seconds minutes hours days tenths hundredths straightSeconds control
+  digits-are = refl
+
+  control-is : controlOf f ds ≡ numberIn frame (control f)
+  unfolding controlOf widthsOf runs fields timeFields seconds minutes hours days tenths hundredths straightSeconds control controlRange
+  control-is =
+      ap
+      (λ (n : ℕ).
+      digitIn frame (controlRange f 50)
+      + controlRange f 50 .radix * (digitIn frame (controlRange f 60) + controlRange f 60 .radix * (digitIn frame (controlRange f 70) + controlRange f 70 .radix * (digitIn frame (controlRange f 80) + controlRange f 80 .radix * n))))
+      (last (digitIn frame (controlRange f 90)) (controlRange f 90 .radix))
+    where
+      last : (x r : ℕ) → x ≡ x + r * 0
+      last x r = omega arith
+
+  straight-is : hasSeconds f ≡ true → getD ds 11 0 + 512 * getD ds 12 0 ≡ numberIn frame (straightSeconds f)
+  unfolding runs fields timeFields seconds minutes hours days tenths hundredths straightSeconds control
+  straight-is y = rw y (omega arith)
+
+  time-is : timeOf ds ≡ timeIn f frame
+  unfolding timeOf timeIn
+  time-is =
+      λ i.
+      record {
+        day = day-is i;
+        hundredths = ((hour-is i * 60 + minute-is i) * 60 + second-is i) * 100 + tenth-is i * 10 + hundredth-is i;
+      }
+
+  is-time-is : isTimeOf ds ≡ isTime f frame
+  unfolding isTimeOf isTime
+  is-time-is = rw (digits-are, hour-is, minute-is, second-is, day-is)
+
+  agree-is : agreeOf f ds ≡ secondsAgree f frame
+  unfolding agreeOf secondsAgree
+  agree-is = by-test (hasSeconds f) (λ y. rw (y, straight-is y, time-is)) (λ m. rw m)
+
+  pub meaning-is : meaningOf f ds ≡ check Reading.Refused 7 (isTime f frame) (check Reading.Refused 8 (secondsAgree f frame) (Accepted (timeIn f frame) (numberIn frame (control f))))
+  unfolding meaningOf
+  meaning-is = rw (is-time-is, agree-is, time-is, control-is)
+
+-- ---- a turn of the loop over the digits of the time
+
+pub digits-turn : (ds : List ℕ) (j : ℕ) → j < 11 → digitsFrom (11 - j) j ds ≡ (leb (getD ds j 0) 9 && digitsFrom (11 - (j + 1)) (j + 1) ds)
+unfolding digitsFrom
+digits-turn ds j h = let m : 11 - j ≡ suc (11 - (j + 1)) = omega arith in rw (m, add-one j)
+
+pub digits-end : (ds : List ℕ) (j : ℕ) → 11 ≤ j → digitsFrom (11 - j) j ds ≡ true
+unfolding digitsFrom
+digits-end ds j h = let m : 11 - j ≡ 0 = omega arith in rw m
+
+-- ---- what the test of a time leaves
+
+pub record Bounds (ds : List ℕ) : Type 0 where
+  pub hour : two ds 4 ≤ 23
+  pub minute : two ds 2 ≤ 59
+  pub second : two ds 0 ≤ 59
+  pub day : dayOf ds ≤ 366
+  pub tenth : getD ds 9 0 ≤ 9
+  pub hundredth : getD ds 10 0 ≤ 9
+
+digits-small : (n j : ℕ) (ds : List ℕ) → digitsFrom n j ds ≡ true → (k : ℕ) → k < n → getD ds (j + k) 0 ≤ 9
+unfolding digitsFrom
+digits-small zero j ds h k l = absurd (not-suc-le-zero l)
+digits-small (suc n) j ds h zero l = rw (add-zero j) (leb-true (getD ds j 0) 9 (and-left (leb (getD ds j 0) 9) (digitsFrom n (suc j) ds) h))
+digits-small (suc n) j ds h (suc k) l = rw (add-suc j k, ← suc-add j k) (digits-small n (suc j) ds (and-right (leb (getD ds j 0) 9) (digitsFrom n (suc j) ds) h) k (omega arith))
+
+pub time-bounds : (ds : List ℕ) → isTimeOf ds ≡ true → Bounds ds
+unfolding isTimeOf
+time-bounds ds h =
+    let H = leb (two ds 4) 23 in
+    let M = leb (two ds 2) 59 in
+    let S = leb (two ds 0) 59 in
+    let F = leb 1 (dayOf ds) in
+    let L = leb (dayOf ds) 366 in
+    let a = and-right (digitsFrom 11 0 ds) (H && (M && (S && (F && L)))) h in
+    let b = and-right H (M && (S && (F && L))) a in
+    let c = and-right M (S && (F && L)) b in
+    let digits = digits-small 11 0 ds (and-left (digitsFrom 11 0 ds) (H && (M && (S && (F && L)))) h) in
+    record {
+      hour = leb-true (two ds 4) 23 (and-left H (M && (S && (F && L))) a);
+      minute = leb-true (two ds 2) 59 (and-left M (S && (F && L)) b);
+      second = leb-true (two ds 0) 59 (and-left S (F && L) c);
+      day = leb-true (dayOf ds) 366 (and-right F L (and-right S (F && L) c));
+      tenth = digits 9 (omega arith);
+      hundredth = digits 10 (omega arith);
+    }
+
+-- ---- straight binary seconds are carried where their run has a width
+
+straight-width : (f : Format) → getD (widthsOf f) 11 0 ≡ cond (hasSeconds f) 9 0
+unfolding widthsOf runs fields timeFields seconds minutes hours days tenths hundredths straightSeconds control
+straight-width f = refl
+
+pub no-width : (f : Format) (w : ℕ) → w ≡ getD (widthsOf f) 11 0 → w ≡ 0 → hasSeconds f ≡ false
+no-width f w e z = by-test (hasSeconds f) (λ y. let n : _≡_ {A = ℕ} 0 9 = sym z ∙ e ∙ straight-width f ∙ rw y in let none : ⊥ = omega arith in absurd none) (λ m. m)
+
+pub some-width : (f : Format) (w : ℕ) → w ≡ getD (widthsOf f) 11 0 → (w ≡ 0 → ⊥) → hasSeconds f ≡ true
+some-width f w e n = by-test (hasSeconds f) (λ y. y) (λ m. absurd (n (e ∙ straight-width f ∙ rw m)))

@@ -1,0 +1,187 @@
+// A time and a control word as the digits at a format's runs, and what digits say: numbers 7 and 8, the time and the control word.
+// Written digits may have more bits than their runs; read ones come from a frame in which nothing offends.
+ghost use mathlib.Core.Path.{_≡_};
+ghost use mathlib.Core.Bool.{true};
+ghost use Prim.Native.Nat.{ℕ, _+_, _*_, _^_, _≤_, _<_};
+ghost use lib.ListN.{getD, length};
+ghost use Rattle.timecode.specs.Frames.{controlFits};
+ghost use Rattle.timecode.specs.Layout.{runs, fields, numbers, spread};
+ghost use Rattle.layout.specs.Tables.{widthsOf};
+ghost use Rattle.digits.specs.Saying.{two, dayOf, digitsFrom, isTimeOf, timeOf, agreeOf, controlOf, meaningOf};
+ghost use Rattle.digits.specs.Splitting.{Widths, Digits, LowBits};
+use timecode::Format;
+use timecode::Reading;
+use timecode::Refusal;
+use timecode::Time;
+
+// The width of run j.
+fn width(widths: &[u8], j: usize) -> usize
+    requires { ⌜ Widths (now widths) × (j < 18) ⌝ }
+    ensures { λ r. ⌜ (r ≡ getD (now (widths .entry)) j 0) × (r ≤ 9) ⌝ }
+{
+    widths[j] as usize
+}
+
+// The control word needs no more bits than are carried.
+pub fn control_fits(format: Format, widths: &[u8], control: u64) -> bool
+    requires { ⌜ Widths (now widths) × (now widths ≡ widthsOf format) ⌝ }
+    ensures { λ r. ⌜ r ≡ controlFits format control ⌝ }
+{
+    let bits = width(widths, 13)
+        + width(widths, 14)
+        + width(widths, 15)
+        + width(widths, 16)
+        + width(widths, 17);
+    control >> bits == 0
+}
+
+// The digits of a time and a control word, right as far as the runs are wide.
+pub fn digits_of(format: Format, widths: &[u8], time: Time, control: u64) -> [u64; 18]
+    requires { ⌜ Widths (now widths) × (now widths ≡ widthsOf format) ⌝ }
+    ensures { λ r. ⌜ LowBits (runs format) r (spread (fields format) (numbers time control)) ⌝ }
+{
+    let day = time.day as u64;
+    let c = time.hundredths as u64;
+    let seconds = c / 100;
+    let second = seconds % 60;
+    let minute = seconds / 60 % 60;
+    let hour = seconds / 60 / 60;
+    let control2 = control >> width(widths, 13);
+    let control3 = control2 >> width(widths, 14);
+    let control4 = control3 >> width(widths, 15);
+    let control5 = control4 >> width(widths, 16);
+    [
+        second % 10,
+        second / 10 % 10,
+        minute % 10,
+        minute / 10 % 10,
+        hour % 10,
+        hour / 10 % 10,
+        day % 10,
+        day / 10 % 10,
+        day / 10 / 10 % 10,
+        c / 10 % 10,
+        c % 10,
+        seconds,
+        seconds >> 9,
+        control,
+        control2,
+        control3,
+        control4,
+        control5,
+    ]
+}
+
+// The number of two decimal digits.
+fn pair(digits: &[u64], at: usize) -> u64
+    requires { ⌜ Digits (now digits) × (at < 17) ⌝ }
+    ensures { λ r. ⌜ (r ≡ two (now (digits .entry)) at) × (r < 6000) ⌝ }
+{
+    digits[at] + 10 * digits[at + 1]
+}
+
+fn day_in(digits: &[u64]) -> u64
+    requires { ⌜ Digits (now digits) ⌝ }
+    ensures { λ r. ⌜ r ≡ dayOf (now (digits .entry)) ⌝ }
+{
+    digits[6] + 10 * (digits[7] + 10 * digits[8])
+}
+
+// No digit of the time is over 9.
+fn are_digits(digits: &[u64]) -> bool
+    requires { ⌜ length (now digits) ≡ 18 ⌝ }
+    ensures { λ r. ⌜ r ≡ digitsFrom 11 0 (now (digits .entry)) ⌝ }
+{
+    let mut j = 0;
+    while j < 11 {
+        if 9 < digits[j] {
+            return false;
+        }
+        j += 1;
+    }
+    true
+}
+
+// Number 7: no digit over 9, hours over 23, minutes or seconds over 59, day 0 or over 366.
+fn is_time(digits: &[u64]) -> bool
+    requires { ⌜ Digits (now digits) ⌝ }
+    ensures { λ r. ⌜ r ≡ isTimeOf (now (digits .entry)) ⌝ }
+{
+    if are_digits(digits) {
+        if 23 < pair(digits, 4) {
+            return false;
+        }
+        if 59 < pair(digits, 2) {
+            return false;
+        }
+        if 59 < pair(digits, 0) {
+            return false;
+        }
+        let day = day_in(digits);
+        if day < 1 {
+            return false;
+        }
+        return day <= 366;
+    }
+    false
+}
+
+fn time_in(digits: &[u64]) -> Time
+    requires { ⌜ Digits (now digits) × (isTimeOf (now digits) ≡ true) ⌝ }
+    ensures { λ r. ⌜ r ≡ timeOf (now (digits .entry)) ⌝ }
+{
+    let hundredths = ((pair(digits, 4) * 60 + pair(digits, 2)) * 60 + pair(digits, 0)) * 100
+        + digits[9] * 10
+        + digits[10];
+    let day = day_in(digits);
+    Time {
+        day: day as u16,
+        hundredths: hundredths as u32,
+    }
+}
+
+// Number 8: where straight binary seconds are carried, they are the seconds that the digits say.
+fn seconds_agree(format: Format, widths: &[u8], digits: &[u64], time: Time) -> bool
+    requires { ⌜ Widths (now widths) × (now widths ≡ widthsOf format) × Digits (now digits) × (time ≡ timeOf (now digits)) ⌝ }
+    ensures { λ r. ⌜ r ≡ agreeOf format (now (digits .entry)) ⌝ }
+{
+    if width(widths, 11) == 0 {
+        return true;
+    }
+    let seconds = time.hundredths / 100;
+    digits[11] + 512 * digits[12] == seconds as u64
+}
+
+// A number's low bits and those above them.
+fn join(low: u64, width: usize, high: u64) -> u64
+    requires { ⌜ (low < 512) × (width ≤ 9) × (high < 1000000000000) ⌝ }
+    ensures { λ r. ⌜ (r ≡ low + 2 ^ width * high) × (r < 512 * (high + 1)) ⌝ }
+{
+    low + (high << width)
+}
+
+// The control word.
+fn control_in(format: Format, widths: &[u8], digits: &[u64]) -> u64
+    requires { ⌜ Widths (now widths) × (now widths ≡ widthsOf format) × Digits (now digits) ⌝ }
+    ensures { λ r. ⌜ r ≡ controlOf format (now (digits .entry)) ⌝ }
+{
+    let word4 = join(digits[16], width(widths, 16), digits[17]);
+    let word3 = join(digits[15], width(widths, 15), word4);
+    let word2 = join(digits[14], width(widths, 14), word3);
+    join(digits[13], width(widths, 13), word2)
+}
+
+// What digits say that come from a frame in which nothing offends.
+pub fn meaning(format: Format, widths: &[u8], digits: &[u64]) -> Reading
+    requires { ⌜ Widths (now widths) × (now widths ≡ widthsOf format) × Digits (now digits) ⌝ }
+    ensures { λ r. ⌜ r ≡ meaningOf format (now (digits .entry)) ⌝ }
+{
+    if is_time(digits) {
+        let time = time_in(digits);
+        if seconds_agree(format, widths, digits, time) {
+            return Reading::Accepted(time, control_in(format, widths, digits));
+        }
+        return Reading::Refused(Refusal::SecondsDiffer);
+    }
+    Reading::Refused(Refusal::InvalidDigit)
+}
