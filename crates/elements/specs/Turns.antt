@@ -1,7 +1,7 @@
 -- The format's runs one by one: what a turn of the loops over them does.
 use mathlib.Core.Path.{_≡_, refl, sym, ap, ap₂, _∙_}
 use mathlib.Core.Bool.{Bool, true, _&&_}
-use mathlib.Core.List.{List, [], _∷_}
+use mathlib.Core.List.{List, [], _∷_, map}
 use Prim.Native.Nat.{ℕ, zero, suc, _+_, _*_, _-_, _<_, _≤_}
 use native.Mathlib.Omega.{arith}
 use borrow.Author.Tests.{leb-true}
@@ -24,7 +24,7 @@ noRun = record { start = 0; width = 0; radix = 1 }
 abbrev runAt : Format → ℕ → Run
 runAt f j = getD (runs f) j noRun
 
-length-runs : (f : Format) → length (runs f) ≡ 18
+pub length-runs : (f : Format) → length (runs f) ≡ 18
 unfolding runs fields timeFields seconds minutes hours days tenths hundredths straightSeconds control
 length-runs f = refl
 
@@ -57,6 +57,21 @@ widths-small = refl
 
 pub width-small : (f : Format) → known f ≡ true → (j : ℕ) → getD (widthsOf f) j 0 ≤ 9
 width-small f k j = small-at (widthsOf f) (of-every (λ f. allSmall (widthsOf f)) widths-small f k) j
+
+-- every run is at most 9 wide
+abbrev pub Narrow : List Run → Type 0
+Narrow [] = Unit
+Narrow (r ∷ rs) = (r .width ≤ 9) × Narrow rs
+
+narrow : (rs : List Run) → allSmall (map (λ (r : Run). r .width) rs) ≡ true → Narrow rs
+narrow [] h = tt
+narrow (r ∷ rs) h =
+    let others = allSmall (map (λ (r : Run). r .width) rs) in
+    (leb-true (r .width) 9 (and-left (leb (r .width) 9) others h), narrow rs (and-right (leb (r .width) 9) others h))
+
+pub runs-narrow : (f : Format) → known f ≡ true → Narrow (runs f)
+unfolding widthsOf
+runs-narrow f k = narrow (runs f) (of-every (λ f. allSmall (widthsOf f)) widths-small f k)
 
 pub run-inside : (f : Format) → known f ≡ true → (j k : ℕ) → j < 18 → k < getD (widthsOf f) j 0 → getD (startsOf f) j 0 + k < size f
 run-inside f h j k b l =

@@ -11,7 +11,7 @@ use lib.ListN.{getD, length}
 use Rattle.timecode.specs.Formats.{size}
 use Rattle.timecode.specs.Frames.{held, written, readOf}
 use Rattle.timecode.specs.Laws.Reading.{Valid, accepted-was-written}
-use Rattle.timecode.specs.Laws.Runs.{getD-encode, held-inside, symbol-free, symbol-held}
+use Rattle.timecode.specs.Laws.Runs.{getD-encode, held-inside, small-length, symbol-free, symbol-held}
 use Rattle.timecode.specs.Laws.Table.{two-sizes, layout-proper}
 use Rattle.timecode.specs.Laws.Tests.{by-test, clash, or-other}
 use Rattle.timecode.specs.Laws.Writing.{length-written, written-small}
@@ -52,7 +52,7 @@ mark-only f t w v i h k =
     let xs = spread (fields f) (numbers t w) in
     let s : symbolAt (rest f) (runs f) xs i ≡ 2 = sym (at-written f t w i h) ∙ k in
     by-test (held (runs f) i)
-    (λ y. let n : ⊥ = omega (arith, s, symbol-held (size f) (rest f) (runs f) xs (written-small f t w v) i y) in absurd n)
+    (λ y. let n : ⊥ = omega (arith, s, symbol-held (size f) (rest f) (runs f) xs (small-length (runs f) xs (written-small f t w v)) i y) in absurd n)
     (λ n. mark-rest f i (sym (symbol-free (size f) (rest f) (runs f) xs i n) ∙ s))
 
 pub mark-index : (i : ℕ) → isMark i ≡ true → (i ≡ 0) ⊎ (i % 10 ≡ 9)

@@ -68,6 +68,12 @@ Small [] (x ∷ xs) = ⊥
 Small (r ∷ rs) [] = ⊥
 Small (r ∷ rs) (x ∷ xs) = (x < 2 ^ r .width) × Small rs xs
 
+pub small-length : (rs : List Run) (xs : List ℕ) → Small rs xs → length xs ≡ length rs
+small-length [] [] s = refl
+small-length [] (x ∷ xs) s = absurd s
+small-length (r ∷ rs) [] s = absurd s
+small-length (r ∷ rs) (x ∷ xs) s = ap suc (small-length rs xs (s .1))
+
 pub small-append : (rs qs : List Run) (xs ys : List ℕ) → Small rs xs → Small qs ys → Small (rs ++ qs) (xs ++ ys)
 small-append [] qs [] ys a b = b
 small-append [] qs (x ∷ xs) ys a b = absurd a
@@ -140,11 +146,11 @@ module _ (n : ℕ) (rests : ℕ → ℕ) where
   symbol-free (r ∷ rs) [] i h = refl
   symbol-free (r ∷ rs) (x ∷ xs) i h = rw (neither-first (inRun r i) (held rs i) h) (symbol-free rs xs i (neither-second (inRun r i) (held rs i) h))
 
-  pub symbol-held : (rs : List Run) (xs : List ℕ) → Small rs xs → (i : ℕ) → held rs i ≡ true → symbolAt rests rs xs i < 2
+  pub symbol-held : (rs : List Run) (xs : List ℕ) → length xs ≡ length rs → (i : ℕ) → held rs i ≡ true → symbolAt rests rs xs i < 2
   unfolding symbolAt
-  symbol-held [] xs s i h = clash h refl
-  symbol-held (r ∷ rs) [] s i h = absurd s
-  symbol-held (r ∷ rs) (x ∷ xs) s i h = by-test (inRun r i) (λ y. rw y (omega arith)) (λ m. rw m (symbol-held rs xs (s .1) i (or-other (inRun r i) (held rs i) m h)))
+  symbol-held [] xs l i h = clash h refl
+  symbol-held (r ∷ rs) [] l i h = let n : ⊥ = omega arith in absurd n
+  symbol-held (r ∷ rs) (x ∷ xs) l i h = by-test (inRun r i) (λ y. rw y (omega arith)) (λ m. rw m (symbol-held rs xs (omega arith) i (or-other (inRun r i) (held rs i) m h)))
 
   -- nothing in the frame offends
   abbrev pub Clean : List Run → List ℕ → Type 0
@@ -189,12 +195,12 @@ module _ (n : ℕ) (rests : ℕ → ℕ) where
       (λ y. symbol-decoded frame rs (clean-bits rs frame t c) i y)
       (λ m. symbol-free rs (decode rs frame) i m ∙ sym (clean-free rs i (getD frame i 0) (c i k) m)))
 
-  pub encode-clean : (rs : List Run) (xs : List ℕ) → Small rs xs → Clean rs (encode n rests rs xs)
+  pub encode-clean : (rs : List Run) (xs : List ℕ) → length xs ≡ length rs → Clean rs (encode n rests rs xs)
   unfolding offence
-  encode-clean rs xs s i h =
+  encode-clean rs xs l i h =
       rw (getD-encode n rests rs xs i h)
       (by-test (held rs i)
-      (λ y. rw (y, lt-ltb (symbolAt rests rs xs i) 2 (symbol-held rs xs s i y)))
+      (λ y. rw (y, lt-ltb (symbolAt rests rs xs i) 2 (symbol-held rs xs l i y)))
       (λ m. rw (m, eq-eqb (symbolAt rests rs xs i) (rests i) (symbol-free rs xs i m))))
 
 pub small-decoded : (frame : List ℕ) (rs : List Run) → ((i : ℕ) → held rs i ≡ true → getD frame i 0 < 2) → Small rs (decode rs frame)

@@ -14,7 +14,7 @@ use Rattle.timecode.specs.Laws.Checks.{passed, passes, done}
 use Rattle.timecode.specs.Laws.Digits.{decode}
 use Rattle.timecode.specs.Laws.Fields.{Each, fields-apart, fields-together, number-back, AreDigits, digits-are, binary-positive, binary-capacity, binary-small}
 use Rattle.timecode.specs.Laws.Reading.{Valid, elements-pass, straight-binary, control-binary, straight-wide}
-use Rattle.timecode.specs.Laws.Runs.{length-encode, Small, small-append, decode-encode, encode-clean}
+use Rattle.timecode.specs.Laws.Runs.{length-encode, Small, small-length, small-append, decode-encode, encode-clean}
 use Rattle.timecode.specs.Laws.Table.{layout-proper}
 use Rattle.timecode.specs.Laws.Tests.{by-test}
 use Rattle.timecode.specs.Laws.Times.{on-format, is-on-format, time-small}
@@ -38,7 +38,7 @@ symbol-small f [] xs i = rest-symbol f i
 symbol-small f (r ∷ rs) [] i = rest-symbol f i
 symbol-small f (r ∷ rs) (x ∷ xs) i = by-test (inRun r i) (λ y. rw y (omega arith)) (λ m. rw m (symbol-small f rs xs i))
 
-symbols-tabulate : (n i : ℕ) (g : ℕ → ℕ) → ((k : ℕ) → g k ≤ 3) → areSymbols (tabulate n i g) ≡ true
+pub symbols-tabulate : (n i : ℕ) (g : ℕ → ℕ) → ((k : ℕ) → g k ≤ 3) → areSymbols (tabulate n i g) ≡ true
 symbols-tabulate zero i g h = refl
 symbols-tabulate (suc n) i g h = rw (le-leb (g i) 3 (h i)) (symbols-tabulate n (suc i) g h)
 
@@ -149,7 +149,7 @@ module _ (f : Format) (t : Time) (w : ℕ) (v : Valid f t w) where
       passes Reading.Refused 1 (known f) _ (v .format)
       ∙ passes Reading.Refused 3 (eqb (length frame) (size f)) _ (eq-eqb (length frame) (size f) (length-written f t w))
       ∙ passes Reading.Refused 4 (areSymbols frame) _ (written-symbols f t w)
-      ∙ elements-pass (rest f) (runs f) frame 0 _ (λ i h. rw (zero-add i) (encode-clean (size f) (rest f) (runs f) (spread (fields f) (numbers t w)) written-small i (rw (length-written f t w) at h)))
+      ∙ elements-pass (rest f) (runs f) frame 0 _ (λ i h. rw (zero-add i) (encode-clean (size f) (rest f) (runs f) (spread (fields f) (numbers t w)) (small-length (runs f) (spread (fields f) (numbers t w)) written-small) i (rw (length-written f t w) at h)))
       ∙ passes Reading.Refused 7 (isTime f frame) _ time-said
       ∙ passes Reading.Refused 8 (secondsAgree f frame) _ seconds-said
       ∙ ap₂ Accepted time-back control-back

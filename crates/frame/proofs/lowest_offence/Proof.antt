@@ -1,0 +1,63 @@
+-- `lowest_offence` meets its contract: the elements from i on decide.
+use borrow.Author.Needs.{needs}
+use native.Mathlib.Omega.{arith}
+use mathlib.Core.Path.{_≡_, refl, sym, _∙_}
+use Prim.Native.Nat.{_-_, _≤_}
+use borrow.Author.Tests.{eq-eqb, ne-eqb}
+use lib.ListN.{length, drop}
+use Rattle.frame.specs.Offences.{offendedOf, offendedFrom, offended-turn, offended-end}
+use Rattle.frame.proofs.lowest_offence.Statement.{statement}
+use Rattle.frame.proofs.lowest_offence.Tie as tie
+
+abbrev Inv-loop : tie.InvT-loop
+Inv-loop form frame index₀ index = (index ≤ length frame) × (offendedOf form frame ≡ offendedFrom index (drop index form) (drop index frame))
+
+abbrev μ-loop : tie.MeasureT-loop
+μ-loop form frame index₀ index = length frame - index
+
+loop-holds : tie.Need-loop-holds Inv-loop μ-loop
+loop-holds c = (omega arith, refl)
+
+shared-slice-read-judge : tie.Need-shared-slice-read-judge Inv-loop μ-loop
+shared-slice-read-judge c = omega (arith, c .before .before .before .before .before .pre)
+
+shared-slice-read-judge-2 : tie.Need-shared-slice-read-judge-2 Inv-loop μ-loop
+shared-slice-read-judge-2 c = omega arith
+
+judge-requires : tie.Need-judge-requires Inv-loop μ-loop
+judge-requires c κs = search needs
+
+returns : tie.Need-returns Inv-loop μ-loop
+returns c = sym (c .before .before .before .before .before .loop .inv .1 ∙ offended-turn (c .before .before .before .before .before .before .before .before .args .form .now) (c .before .before .before .before .before .before .before .before .args .frame .now) (c .before .before .before .before .before .loop .index) (omega (arith, c .before .before .before .before .before .before .before .before .pre)) (omega arith) ∙ rw (← c .before .judge .ensures, eq-eqb _ _ (c .if1 .taken)))
+
+returns-2 : tie.Need-returns-2 Inv-loop μ-loop
+returns-2 c = sym (c .before .before .before .before .before .before .loop .inv .1 ∙ offended-turn (c .before .before .before .before .before .before .before .before .before .args .form .now) (c .before .before .before .before .before .before .before .before .before .args .frame .now) (c .before .before .before .before .before .before .loop .index) (omega (arith, c .before .before .before .before .before .before .before .before .before .pre)) (omega arith) ∙ rw (← c .before .before .judge .ensures, ne-eqb _ _ (c .before .if1 .left), eq-eqb _ _ (c .if2 .taken)))
+
+add-index : tie.Need-add-index Inv-loop μ-loop
+add-index c = omega arith
+
+loop-less : tie.Need-loop-less Inv-loop μ-loop
+loop-less c = omega arith
+
+loop-again : tie.Need-loop-again Inv-loop μ-loop
+loop-again c = (omega arith, c .before .before .before .before .before .before .loop .inv .1 ∙ offended-turn (c .before .before .before .before .before .before .before .before .before .args .form .now) (c .before .before .before .before .before .before .before .before .before .args .frame .now) (c .before .before .before .before .before .before .loop .index) (omega (arith, c .before .before .before .before .before .before .before .before .before .pre)) (omega arith) ∙ rw (← c .before .before .judge .ensures, ne-eqb _ _ (c .before .if1 .left), ne-eqb _ _ (c .if2 .left)))
+
+returns-3 : tie.Need-returns-3 Inv-loop μ-loop
+returns-3 c = sym (c .before .loop .inv .1 ∙ offended-end (c .before .before .before .before .args .form .now) (c .before .before .before .before .args .frame .now) (c .before .loop .index) (omega arith))
+
+pub lowest-offence-spec : {M : Type 1} → statement M
+lowest-offence-spec =
+    tie.close
+    (tie.spec
+    Inv-loop
+    μ-loop
+    loop-holds
+    shared-slice-read-judge
+    shared-slice-read-judge-2
+    judge-requires
+    returns
+    returns-2
+    add-index
+    loop-less
+    loop-again
+    returns-3)

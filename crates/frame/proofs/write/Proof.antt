@@ -1,0 +1,40 @@
+-- `write` meets its contract: done as checked, or refused with the frame as it was.
+use borrow.Author.Needs.{needs}
+use mathlib.Core.Path.{refl, sym, _∙_}
+use Rattle.frame.specs.Ways.{leaves-old}
+use Rattle.timecode.specs.Laws.Writing.{taken, leaves}
+use Rattle.frame.proofs.write.Statement.{statement}
+use Rattle.frame.proofs.write.Tie as tie
+
+check-write-requires : tie.Need-check-write-requires
+check-write-requires c κs = search needs
+
+enum-told : tie.Need-enum-told
+enum-told c = search needs
+
+put-frame-requires : tie.Need-put-frame-requires
+put-frame-requires c κs = let t = taken (c .before .before .before .before .before .args .format) (c .before .before .before .before .before .args .time) (c .before .before .before .before .before .args .control) (c .before .before .before .before .before .args .frame .now) (sym (c .before .before .before .check-write .ensures (c .before .before .before .before .before .args .frame .now) refl) ∙ c .before .enum-told .given .1) in (t .0 .format, t .1)
+
+enum-known-answer : tie.Need-enum-known-answer
+enum-known-answer c = search needs
+
+same-length : tie.Need-same-length
+same-length c = search needs
+
+returns : tie.Need-returns
+returns c = (sym (sym (c .before .before .before .before .before .before .check-write .ensures (c .before .before .before .before .before .before .before .before .args .frame .now) refl) ∙ c .before .before .before .before .enum-told .given .1), c .before .before .put-frame .ensures ∙ sym (leaves (c .before .before .before .before .before .before .before .before .args .format) (c .before .before .before .before .before .before .before .before .args .time) (c .before .before .before .before .before .before .before .before .args .control) (c .before .before .before .before .before .before .before .before .args .frame .now) (sym (c .before .before .before .before .before .before .check-write .ensures (c .before .before .before .before .before .before .before .before .args .frame .now) refl) ∙ c .before .before .before .before .enum-told .given .1)))
+
+returns-2 : tie.Need-returns-2
+returns-2 c = (sym (sym (c .before .before .before .check-write .ensures (c .before .before .before .before .before .args .frame .now) refl) ∙ c .before .answer .given .1), leaves-old (c .before .before .before .before .before .args .format) (c .before .before .before .before .before .args .time) (c .before .before .before .before .before .args .control) (c .before .before .before .before .before .args .frame .now) _ (sym (c .before .before .before .check-write .ensures (c .before .before .before .before .before .args .frame .now) refl) ∙ c .before .answer .given .1))
+
+pub write-spec : {M : Type 1} → statement M
+write-spec =
+    tie.close
+    (tie.spec
+    check-write-requires
+    enum-told
+    put-frame-requires
+    enum-known-answer
+    same-length
+    returns
+    returns-2)
