@@ -1,12 +1,14 @@
 // Write and Read: frames of all formats, each call equal to its definition for every input.
-// Read compares the elements with the format's shape, then says what the digits mean.
+// Read writes the digits that it finds again and compares; only a frame that differs is searched for what offends.
 ghost use mathlib.Core.Path.{_≡_};
 ghost use mathlib.Core.Bool.{true};
 ghost use mathlib.Core.List.{List};
-ghost use Prim.Native.Nat.{ℕ, _≤_};
-ghost use lib.ListN.{length};
+ghost use Prim.Native.Nat.{ℕ, _≤_, _<_};
+ghost use lib.ListN.{getD, length};
 ghost use Rattle.timecode.specs.Formats.{known, size};
 ghost use Rattle.timecode.specs.Frames.{written, writeOf, writeLeaves, areSymbols, readOf};
+ghost use Rattle.timecode.specs.Laws.Digits.{decode};
+ghost use Rattle.timecode.specs.Layout.{runs, rest, encode};
 ghost use Rattle.layout.specs.Tables.{widthsOf};
 ghost use Rattle.frame.specs.Offences.{shape, judged, offendedOf};
 use clock::on_format;
@@ -142,20 +144,57 @@ fn shape_of(format: Format, widths: &[u8]) -> [u8; 100]
     form
 }
 
-fn read_elements(format: Format, frame: &[u8]) -> Reading
-    requires { ⌜ (known format ≡ true) × (length (now frame) ≡ size format) × (areSymbols (now frame) ≡ true) ⌝ }
+// The exact answer for a frame of symbols, by a search for what offends.
+fn search(format: Format, widths: &[u8], digits: &[u64], frame: &[u8]) -> Reading
+    requires { ⌜ (known format ≡ true) × (length (now frame) ≡ size format) × (areSymbols (now frame) ≡ true) × (now widths ≡ widthsOf format) × (now digits ≡ decode (runs format) (now frame)) ⌝ }
     ensures { λ r. ⌜ r ≡ readOf format (now (frame .entry)) ⌝ }
 {
-    let widths = run_widths(format);
-    let form = shape_of(format, &widths);
+    let form = shape_of(format, widths);
     let offence = lowest_offence(&form, frame);
     match offence {
         Offence::At(refusal) => Reading::Refused(refusal),
-        Offence::Nothing => {
-            let digits = digits_in(format, &widths, frame);
-            meaning(format, &widths, &digits)
-        }
+        Offence::Nothing => meaning(format, widths, digits),
     }
+}
+
+// The two agree as far as the frame goes.
+fn agree(form: &[u8], frame: &[u8]) -> bool
+    requires { ⌜ length (now frame) ≤ length (now form) ⌝ }
+    ensures { λ r. ⌜ (r ≡ true → (k : ℕ) → k < length (now (frame .entry)) → getD (now (frame .entry)) k 0 ≡ getD (now (form .entry)) k 0) ⌝ }
+{
+    let mut i = 0;
+    while i < frame.len() {
+        if frame[i] != form[i] {
+            return false;
+        }
+        i += 1;
+    }
+    true
+}
+
+// The frame is the one in which these digits stand.
+fn is_written(format: Format, widths: &[u8], digits: &[u64], frame: &[u8]) -> bool
+    requires { ⌜ (known format ≡ true) × (length (now frame) ≡ size format) × (now widths ≡ widthsOf format) × (length (now digits) ≡ 18) ⌝ }
+    ensures { λ r. ⌜ (r ≡ true → now (frame .entry) ≡ encode (size format) (rest format) (runs format) (now (digits .entry))) ⌝ }
+{
+    let mut form = [0u8; 100];
+    fill(format, widths, digits, &mut form);
+    agree(&form, frame)
+}
+
+fn read_frame(format: Format, frame: &[u8]) -> Reading
+    requires { ⌜ (known format ≡ true) × (length (now frame) ≡ size format) ⌝ }
+    ensures { λ r. ⌜ r ≡ readOf format (now (frame .entry)) ⌝ }
+{
+    let widths = run_widths(format);
+    let digits = digits_in(format, &widths, frame);
+    if is_written(format, &widths, &digits, frame) {
+        return meaning(format, &widths, &digits);
+    }
+    if are_symbols(frame) {
+        return search(format, &widths, &digits, frame);
+    }
+    Reading::Refused(Refusal::UnknownSymbol)
 }
 
 // The time and the control word that the frame's elements say.
@@ -164,10 +203,7 @@ pub fn read(format: Format, frame: &[u8]) -> Reading
 {
     if is_known(format) {
         if frame.len() == frame_size(format) {
-            if are_symbols(frame) {
-                return read_elements(format, frame);
-            }
-            return Reading::Refused(Refusal::UnknownSymbol);
+            return read_frame(format, frame);
         }
         return Reading::Refused(Refusal::WrongLength);
     }

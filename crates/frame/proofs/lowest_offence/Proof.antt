@@ -28,10 +28,14 @@ judge-requires : tie.Need-judge-requires Inv-loop μ-loop
 judge-requires c κs = search needs
 
 returns : tie.Need-returns Inv-loop μ-loop
-returns c = sym (c .before .before .before .before .before .loop .inv .1 ∙ offended-turn (c .before .before .before .before .before .before .before .before .args .form .now) (c .before .before .before .before .before .before .before .before .args .frame .now) (c .before .before .before .before .before .loop .index) (omega (arith, c .before .before .before .before .before .before .before .before .pre)) (omega arith) ∙ rw (← c .before .judge .ensures, eq-eqb _ _ (c .if1 .taken)))
+returns c =
+    let start = c .before .before .before .before .before .before .before .before in
+    sym (c .before .before .before .before .before .loop .inv .1 ∙ offended-turn (start .args .form .now) (start .args .frame .now) (c .before .before .before .before .before .loop .index) (omega (arith, start .pre)) (omega arith) ∙ rw (← c .before .judge .ensures, eq-eqb _ _ (c .if1 .taken)))
 
 returns-2 : tie.Need-returns-2 Inv-loop μ-loop
-returns-2 c = sym (c .before .before .before .before .before .before .loop .inv .1 ∙ offended-turn (c .before .before .before .before .before .before .before .before .before .args .form .now) (c .before .before .before .before .before .before .before .before .before .args .frame .now) (c .before .before .before .before .before .before .loop .index) (omega (arith, c .before .before .before .before .before .before .before .before .before .pre)) (omega arith) ∙ rw (← c .before .before .judge .ensures, ne-eqb _ _ (c .before .if1 .left), eq-eqb _ _ (c .if2 .taken)))
+returns-2 c =
+    let start = c .before .before .before .before .before .before .before .before .before in
+    sym (c .before .before .before .before .before .before .loop .inv .1 ∙ offended-turn (start .args .form .now) (start .args .frame .now) (c .before .before .before .before .before .before .loop .index) (omega (arith, start .pre)) (omega arith) ∙ rw (← c .before .before .judge .ensures, ne-eqb _ _ (c .before .if1 .left), eq-eqb _ _ (c .if2 .taken)))
 
 add-index : tie.Need-add-index Inv-loop μ-loop
 add-index c = omega arith
@@ -40,7 +44,9 @@ loop-less : tie.Need-loop-less Inv-loop μ-loop
 loop-less c = omega arith
 
 loop-again : tie.Need-loop-again Inv-loop μ-loop
-loop-again c = (omega arith, c .before .before .before .before .before .before .loop .inv .1 ∙ offended-turn (c .before .before .before .before .before .before .before .before .before .args .form .now) (c .before .before .before .before .before .before .before .before .before .args .frame .now) (c .before .before .before .before .before .before .loop .index) (omega (arith, c .before .before .before .before .before .before .before .before .before .pre)) (omega arith) ∙ rw (← c .before .before .judge .ensures, ne-eqb _ _ (c .before .if1 .left), ne-eqb _ _ (c .if2 .left)))
+loop-again c =
+    let start = c .before .before .before .before .before .before .before .before .before in
+    (omega arith, c .before .before .before .before .before .before .loop .inv .1 ∙ offended-turn (start .args .form .now) (start .args .frame .now) (c .before .before .before .before .before .before .loop .index) (omega (arith, start .pre)) (omega arith) ∙ rw (← c .before .before .judge .ensures, ne-eqb _ _ (c .before .if1 .left), ne-eqb _ _ (c .if2 .left)))
 
 returns-3 : tie.Need-returns-3 Inv-loop μ-loop
 returns-3 c = sym (c .before .loop .inv .1 ∙ offended-end (c .before .before .before .before .args .form .now) (c .before .before .before .before .args .frame .now) (c .before .loop .index) (omega arith))

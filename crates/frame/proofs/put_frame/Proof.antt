@@ -27,17 +27,19 @@ slice-aggregate-fill-2 c = search needs
 
 fill-requires : tie.Need-fill-requires
 fill-requires c κs =
-    let f = c .before .before .before .before .before .before .before .args .format in
-    let long = low-length (runs f) (c .before .before .before .digits-of .result) (spread (fields f) (numbers (c .before .before .before .before .before .before .before .args .time) (c .before .before .before .before .before .before .before .args .control))) (c .before .before .before .digits-of .ensures) ∙ length-runs f in
-    (c .before .before .before .before .before .before .before .pre .0, c .before .before .before .before .before .run-widths .ensures, long, omega (arith, c .before .before .before .before .before .before .before .pre .1), omega (arith, c .before .before .before .before .before .before .before .pre .1, size-range f))
+    let start = c .before .before .before .before .before .before .before in
+    let f = start .args .format in
+    let long = low-length (runs f) (c .before .before .before .digits-of .result) (spread (fields f) (numbers (start .args .time) (start .args .control))) (c .before .before .before .digits-of .ensures) ∙ length-runs f in
+    (start .pre .0, c .before .before .before .before .before .run-widths .ensures, long, omega (arith, start .pre .1), omega (arith, start .pre .1, size-range f))
 
 same-length : tie.Need-same-length
 same-length c = search needs
 
 returns : tie.Need-returns
 returns c =
-    let f = c .before .before .before .before .before .before .before .before .before .before .args .format in
-    c .before .before .fill .ensures ∙ ap (λ n. encode n (rest f) (runs f) (c .before .before .before .before .before .before .digits-of .result)) (c .before .before .before .before .before .before .before .before .before .before .pre .1) ∙ low-written f (c .before .before .before .before .before .before .before .before .before .before .args .time) (c .before .before .before .before .before .before .before .before .before .before .args .control) (c .before .before .before .before .before .before .digits-of .result) (c .before .before .before .before .before .before .digits-of .ensures)
+    let start = c .before .before .before .before .before .before .before .before .before .before in
+    let f = start .args .format in
+    c .before .before .fill .ensures ∙ ap (λ n. encode n (rest f) (runs f) (c .before .before .before .before .before .before .digits-of .result)) (start .pre .1) ∙ low-written f (start .args .time) (start .args .control) (c .before .before .before .before .before .before .digits-of .result) (c .before .before .before .before .before .before .digits-of .ensures)
 
 pub put-frame-spec : {M : Type 1} → statement M
 put-frame-spec =

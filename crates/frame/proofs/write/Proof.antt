@@ -13,7 +13,9 @@ enum-told : tie.Need-enum-told
 enum-told c = search needs
 
 put-frame-requires : tie.Need-put-frame-requires
-put-frame-requires c κs = let t = taken (c .before .before .before .before .before .args .format) (c .before .before .before .before .before .args .time) (c .before .before .before .before .before .args .control) (c .before .before .before .before .before .args .frame .now) (sym (c .before .before .before .check-write .ensures (c .before .before .before .before .before .args .frame .now) refl) ∙ c .before .enum-told .given .1) in (t .0 .format, t .1)
+put-frame-requires c κs =
+    let start = c .before .before .before .before .before in
+    let t = taken (start .args .format) (start .args .time) (start .args .control) (start .args .frame .now) (sym (c .before .before .before .check-write .ensures (start .args .frame .now) refl) ∙ c .before .enum-told .given .1) in (t .0 .format, t .1)
 
 enum-known-answer : tie.Need-enum-known-answer
 enum-known-answer c = search needs
@@ -22,10 +24,14 @@ same-length : tie.Need-same-length
 same-length c = search needs
 
 returns : tie.Need-returns
-returns c = (sym (sym (c .before .before .before .before .before .before .check-write .ensures (c .before .before .before .before .before .before .before .before .args .frame .now) refl) ∙ c .before .before .before .before .enum-told .given .1), c .before .before .put-frame .ensures ∙ sym (leaves (c .before .before .before .before .before .before .before .before .args .format) (c .before .before .before .before .before .before .before .before .args .time) (c .before .before .before .before .before .before .before .before .args .control) (c .before .before .before .before .before .before .before .before .args .frame .now) (sym (c .before .before .before .before .before .before .check-write .ensures (c .before .before .before .before .before .before .before .before .args .frame .now) refl) ∙ c .before .before .before .before .enum-told .given .1)))
+returns c =
+    let start = c .before .before .before .before .before .before .before .before in
+    (sym (sym (c .before .before .before .before .before .before .check-write .ensures (start .args .frame .now) refl) ∙ c .before .before .before .before .enum-told .given .1), c .before .before .put-frame .ensures ∙ sym (leaves (start .args .format) (start .args .time) (start .args .control) (start .args .frame .now) (sym (c .before .before .before .before .before .before .check-write .ensures (start .args .frame .now) refl) ∙ c .before .before .before .before .enum-told .given .1)))
 
 returns-2 : tie.Need-returns-2
-returns-2 c = (sym (sym (c .before .before .before .check-write .ensures (c .before .before .before .before .before .args .frame .now) refl) ∙ c .before .answer .given .1), leaves-old (c .before .before .before .before .before .args .format) (c .before .before .before .before .before .args .time) (c .before .before .before .before .before .args .control) (c .before .before .before .before .before .args .frame .now) _ (sym (c .before .before .before .check-write .ensures (c .before .before .before .before .before .args .frame .now) refl) ∙ c .before .answer .given .1))
+returns-2 c =
+    let start = c .before .before .before .before .before in
+    (sym (sym (c .before .before .before .check-write .ensures (start .args .frame .now) refl) ∙ c .before .answer .given .1), leaves-old (start .args .format) (start .args .time) (start .args .control) (start .args .frame .now) _ (sym (c .before .before .before .check-write .ensures (start .args .frame .now) refl) ∙ c .before .answer .given .1))
 
 pub write-spec : {M : Type 1} → statement M
 write-spec =
