@@ -3,16 +3,16 @@ use mathlib.Core.Path.{_≡_, refl, sym, ap, _∙_}
 use mathlib.Core.Bool.{Bool, true, false, cond, not, _&&_, _||_, or-false, or-assoc}
 use mathlib.Core.List.{List, [], _∷_, _++_}
 use Prim.Native.Nat.{ℕ, zero, suc, _+_, _-_, _/_, _%_, _^_, _<_, _≤_}
-use native.Mathlib.Nat.{add-zero, zero-add, add-suc, suc-add, not-suc-le-zero}
+use native.Mathlib.Nat.{zero-add, not-suc-le-zero}
 use native.Mathlib.Numerals.{add-one}
 use native.Mathlib.Omega.{arith}
 use native.Mathlib.Decide.{ℕ-discrete}
 use borrow.Author.Tests.{ltb-true, ltb-false, leb-true, lt-ltb, le-ltb, le-leb, eq-eqb, ne-eqb, not-true}
 use lib.Dec.{leb, ltb, eqb}
 use lib.ListN.{getD, length, take, set, length-set}
-use lib.Seq.{ext-getD, getD-set-same, getD-set-other, take-suc, take-suc-set, take-length}
+use lib.Seq.{ext-getD, getD-set-same, getD-set-other, take-suc}
 use Rattle.timecode.specs.Formats.{member}
-use Rattle.timecode.specs.Laws.Runs.{length-tabulate, getD-tabulate}
+use Rattle.timecode.specs.Laws.Runs.{length-tabulate, getD-tabulate, tabulate-same, tabulate-self}
 use Rattle.timecode.specs.Laws.Tests.{by-test, and-left, and-right, or-second}
 use Rattle.timecode.specs.Layout.{Run, inRun, isMark, rest, symbolAt, tabulate, encode}
 use Rattle.timecode.specs.declared.Format.{Format}
@@ -22,33 +22,6 @@ abbrev pub zeros : ℕ → ℕ
 zeros i = 0
 
 -- ---- a list by its index
-
-pub tabulate-same : (n : ℕ) (g h : ℕ → ℕ) → ((k : ℕ) → k < n → g k ≡ h k) → tabulate n 0 g ≡ tabulate n 0 h
-tabulate-same n g h p =
-    ext-getD 0 (tabulate n 0 g) (tabulate n 0 h) (length-tabulate n 0 g ∙ sym (length-tabulate n 0 h))
-    (λ i m.
-    let k : i < n = rw (length-tabulate n 0 g) at m in
-    getD-tabulate n 0 g 0 i k ∙ ap g (zero-add i) ∙ p i k ∙ sym (getD-tabulate n 0 h 0 i k ∙ ap h (zero-add i)))
-
-tabulate-self : (xs : List ℕ) → tabulate (length xs) 0 (λ i. getD xs i 0) ≡ xs
-tabulate-self xs =
-    ext-getD 0 (tabulate (length xs) 0 (λ i. getD xs i 0)) xs (length-tabulate (length xs) 0 (λ i. getD xs i 0))
-    (λ i m.
-    let k : i < length xs = rw (length-tabulate (length xs) 0 (λ i. getD xs i 0)) at m in
-    getD-tabulate (length xs) 0 (λ i. getD xs i 0) 0 i k ∙ ap (λ (j : ℕ). getD xs j 0) (zero-add i))
-
--- one more at the end, as a loop that fills a list stores it
-tabulate-more : (n i : ℕ) (g : ℕ → ℕ) → tabulate (suc n) i g ≡ tabulate n i g ++ (g (i + n) ∷ [])
-tabulate-more zero i g = ap (λ (k : ℕ). g k ∷ []) (sym (add-zero i))
-tabulate-more (suc n) i g = ap (λ (xs : List ℕ). g i ∷ xs) (tabulate-more n (suc i) g ∙ ap (λ (k : ℕ). tabulate n (suc i) g ++ (g k ∷ [])) (suc-add i n ∙ sym (add-suc i n)))
-
-pub fill-step : (xs : List ℕ) (g : ℕ → ℕ) (i : ℕ) → i < length xs → take i xs ≡ tabulate i 0 g → take (i + 1) (set xs i (g i)) ≡ tabulate (i + 1) 0 g
-fill-step xs g i h p =
-    rw (add-one i)
-    (take-suc-set xs i (g i) h ∙ ap (λ (ys : List ℕ). ys ++ (g i ∷ [])) p ∙ sym (tabulate-more i 0 g ∙ ap (λ (k : ℕ). tabulate i 0 g ++ (g k ∷ [])) (zero-add i)))
-
-pub fill-end : (xs : List ℕ) (g : ℕ → ℕ) (n : ℕ) → length xs ≡ n → take n xs ≡ tabulate n 0 g → xs ≡ tabulate n 0 g
-fill-end xs g n l p = sym (take-length xs) ∙ ap (λ (k : ℕ). take k xs) l ∙ p
 
 -- one store into a tabulated list; past its end it stores nothing
 pub set-tabulate : (n i v : ℕ) (g h : ℕ → ℕ) → (i < n → h i ≡ v) → ((k : ℕ) → k < n → (k ≡ i → ⊥) → h k ≡ g k) → set (tabulate n 0 g) i v ≡ tabulate n 0 h

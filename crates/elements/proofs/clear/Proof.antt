@@ -4,7 +4,8 @@ use Prim.Native.Nat.{_-_, _≤_}
 use native.Mathlib.Omega.{arith}
 use lib.ListN.{length, take, length-set}
 use Rattle.timecode.specs.Layout.{tabulate}
-use Rattle.elements.specs.Stamps.{zeros, fill-step, fill-end}
+use Rattle.timecode.specs.Laws.Runs.{fill-step, fill-end}
+use Rattle.elements.specs.Stamps.{zeros}
 use Rattle.elements.proofs.clear.Statement.{statement}
 use Rattle.elements.proofs.clear.Tie as tie
 

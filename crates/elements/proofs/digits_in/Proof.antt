@@ -5,7 +5,7 @@ use Prim.Native.Nat.{_-_, _≤_}
 use native.Mathlib.Omega.{arith}
 use lib.ListN.{getD, length, take, length-set}
 use Rattle.timecode.specs.Layout.{tabulate}
-use Rattle.elements.specs.Stamps.{fill-step, fill-end}
+use Rattle.timecode.specs.Laws.Runs.{fill-step, fill-end}
 use Rattle.elements.specs.Turns.{length-widths, width-small, run-inside, digitAt, decode-tabulate}
 use Rattle.timecode.specs.declared.Format.{Format}
 use Rattle.layout.specs.Tables.{startsOf, widthsOf}

@@ -4,11 +4,12 @@ use mathlib.Core.Bool.{Bool, true, false, not, _&&_, _||_}
 use mathlib.Core.List.{List, [], _∷_, _++_}
 use Prim.Native.Nat.{ℕ, zero, suc, _+_, _^_, _<_, _≤_}
 use native.Mathlib.Nat.{add-zero, add-suc, suc-add, zero-add, not-suc-le-zero, mod-eq-of-lt}
+use native.Mathlib.Numerals.{add-one}
 use native.Mathlib.Omega.{arith}
 use borrow.Author.Tests.{ltb-true, leb-true, eqb-true, not-true, lt-ltb, le-leb, eq-eqb}
 use lib.Dec.{leb, ltb, eqb}
-use lib.ListN.{getD, length}
-use lib.Seq.{ext-getD}
+use lib.ListN.{getD, length, take, set}
+use lib.Seq.{ext-getD, take-suc-set, take-length}
 use Rattle.timecode.specs.Frames.{held, offence}
 use Rattle.timecode.specs.Laws.Bits.{value-of-bits, value-small, bits-of-value}
 use Rattle.timecode.specs.Laws.Digits.{decode}
@@ -25,6 +26,35 @@ pub getD-tabulate {ℓ} : {A : Type ℓ} (n i : ℕ) (g : ℕ → A) (d : A) (k 
 getD-tabulate zero i g d k h = absurd (not-suc-le-zero h)
 getD-tabulate (suc n) i g d zero h = ap g (sym (add-zero i))
 getD-tabulate (suc n) i g d (suc k) h = getD-tabulate n (suc i) g d k (omega arith) ∙ ap g (suc-add i k ∙ sym (add-suc i k))
+
+pub tabulate-same : (n : ℕ) (g h : ℕ → ℕ) → ((k : ℕ) → k < n → g k ≡ h k) → tabulate n 0 g ≡ tabulate n 0 h
+tabulate-same n g h p =
+    ext-getD 0 (tabulate n 0 g) (tabulate n 0 h) (length-tabulate n 0 g ∙ sym (length-tabulate n 0 h))
+    (λ i m.
+    let k : i < n = rw (length-tabulate n 0 g) at m in
+    getD-tabulate n 0 g 0 i k ∙ ap g (zero-add i) ∙ p i k ∙ sym (getD-tabulate n 0 h 0 i k ∙ ap h (zero-add i)))
+
+pub tabulate-self : (xs : List ℕ) → tabulate (length xs) 0 (λ i. getD xs i 0) ≡ xs
+tabulate-self xs =
+    ext-getD 0 (tabulate (length xs) 0 (λ i. getD xs i 0)) xs (length-tabulate (length xs) 0 (λ i. getD xs i 0))
+    (λ i m.
+    let k : i < length xs = rw (length-tabulate (length xs) 0 (λ i. getD xs i 0)) at m in
+    getD-tabulate (length xs) 0 (λ i. getD xs i 0) 0 i k ∙ ap (λ (j : ℕ). getD xs j 0) (zero-add i))
+
+-- one more at the end, as a loop that fills a list stores it
+tabulate-more : (n i : ℕ) (g : ℕ → ℕ) → tabulate (suc n) i g ≡ tabulate n i g ++ (g (i + n) ∷ [])
+tabulate-more zero i g = ap (λ (k : ℕ). g k ∷ []) (sym (add-zero i))
+tabulate-more (suc n) i g = ap (λ (xs : List ℕ). g i ∷ xs) (tabulate-more n (suc i) g ∙ ap (λ (k : ℕ). tabulate n (suc i) g ++ (g k ∷ [])) (suc-add i n ∙ sym (add-suc i n)))
+
+pub fill-step : (xs : List ℕ) (g : ℕ → ℕ) (i : ℕ) → i < length xs → take i xs ≡ tabulate i 0 g → take (i + 1) (set xs i (g i)) ≡ tabulate (i + 1) 0 g
+fill-step xs g i h p =
+    rw (add-one i)
+    (take-suc-set xs i (g i) h ∙ ap (λ (ys : List ℕ). ys ++ (g i ∷ [])) p ∙ sym (tabulate-more i 0 g ∙ ap (λ (k : ℕ). tabulate i 0 g ++ (g k ∷ [])) (zero-add i)))
+
+pub fill-end : (xs : List ℕ) (g : ℕ → ℕ) (n : ℕ) → length xs ≡ n → take n xs ≡ tabulate n 0 g → xs ≡ tabulate n 0 g
+fill-end xs g n l p = sym (take-length xs) ∙ ap (λ (k : ℕ). take k xs) l ∙ p
+
+-- ---- the symbols of a frame by their index
 
 pub getD-encode : (n : ℕ) (rests : ℕ → ℕ) (rs : List Run) (xs : List ℕ) (i : ℕ) → i < n → getD (encode n rests rs xs) i 0 ≡ symbolAt rests rs xs i
 unfolding encode

@@ -1,0 +1,103 @@
+-- The register as the list of its words: the symbol so many back, and what one symbol more changes.
+use mathlib.Core.Path.{_≡_, refl, sym, ap, _∙_}
+use mathlib.Core.List.{List, [], _∷_}
+use Prim.Native.Nat.{ℕ, zero, suc, _+_, _*_, _-_, _/_, _%_, _^_, _<_}
+use native.Mathlib.Nat.{div-one, div-div-eq-div-mul, not-suc-le-zero}
+use native.Mathlib.Omega.{arith}
+use borrow.Author.Tests.{ltb-true, ltb-false}
+use lib.Arith.{digits-div}
+use lib.Dec.{ltb}
+use lib.ListN.{getD, length}
+use lib.Pow.{field, mod-mod-pow, pow-add}
+use Rattle.timecode.specs.Laws.Tests.{by-test}
+use Rattle.timecode.specs.Layout.{tabulate}
+use Rattle.register.specs.declared.Register.{Register}
+
+abbrev pub wordsOf : Register → List ℕ
+wordsOf r = r .word0 ∷ r .word1 ∷ r .word2 ∷ r .word3 ∷ r .word4 ∷ r .word5 ∷ r .word6 ∷ []
+
+-- the symbol that is so far back
+unfoldable pub heardAt : List ℕ → ℕ → ℕ
+heardAt words back = getD words (back / 32) 0 / 2 ^ (back % 32 * 2) % 4
+
+-- the n symbols up to the one that is so far back, oldest first
+unfoldable pub heardFrame : List ℕ → ℕ → ℕ → List ℕ
+heardFrame words back n = tabulate n 0 (λ i. heardAt words (back + (n - 1 - i)))
+
+-- one symbol more: each word loses its oldest to the next
+abbrev pub shift : ℕ → List ℕ → List ℕ
+shift s [] = []
+shift s (w ∷ ws) = (w % 4611686018427387904 * 4 + s) ∷ shift (w / 4611686018427387904 % 4) ws
+
+unfoldable pub pushOf : Register → ℕ → Register
+pushOf r s =
+    record {
+      word0 = r .word0 % 4611686018427387904 * 4 + s % 4;
+      word1 = r .word1 % 4611686018427387904 * 4 + r .word0 / 4611686018427387904 % 4;
+      word2 = r .word2 % 4611686018427387904 * 4 + r .word1 / 4611686018427387904 % 4;
+      word3 = r .word3 % 4611686018427387904 * 4 + r .word2 / 4611686018427387904 % 4;
+      word4 = r .word4 % 4611686018427387904 * 4 + r .word3 / 4611686018427387904 % 4;
+      word5 = r .word5 % 4611686018427387904 * 4 + r .word4 / 4611686018427387904 % 4;
+      word6 = r .word6 % 4611686018427387904 * 4 + r .word5 / 4611686018427387904 % 4;
+    }
+
+words-pushed : (r : Register) (s : ℕ) → wordsOf (pushOf r s) ≡ shift (s % 4) (wordsOf r)
+unfolding pushOf
+words-pushed r s = refl
+
+-- what comes into word k
+abbrev carried : ℕ → List ℕ → ℕ → ℕ
+carried s ws zero = s
+carried s ws (suc k) = getD ws k 0 / 4611686018427387904 % 4
+
+shift-at : (s : ℕ) (ws : List ℕ) (k : ℕ) → k < length ws → getD (shift s ws) k 0 ≡ getD ws k 0 % 4611686018427387904 * 4 + carried s ws k
+shift-at s [] k h = absurd (not-suc-le-zero h)
+shift-at s (w ∷ ws) zero h = refl
+shift-at s (w ∷ ws) (suc zero) h = shift-at (w / 4611686018427387904 % 4) ws zero (omega arith)
+shift-at s (w ∷ ws) (suc (suc k)) h = shift-at (w / 4611686018427387904 % 4) ws (suc k) (omega arith)
+
+carried-small : (s : ℕ) (ws : List ℕ) (k : ℕ) → s < 4 → carried s ws k < 4
+carried-small s ws zero h = h
+carried-small s ws (suc k) h = omega arith
+
+-- a symbol that stays in its word
+stays : (w c m : ℕ) → c < 4 → m < 31 → (w % 4611686018427387904 * 4 + c) / 2 ^ ((m + 1) * 2) % 4 ≡ w / 2 ^ (m * 2) % 4
+stays w c m h b =
+    let twice : (m + 1) * 2 ≡ 2 + m * 2 = omega arith in
+    let above : 62 - m * 2 - 2 + 2 + m * 2 ≡ 62 = omega arith in
+    let low : w % 2 ^ (62 - m * 2 - 2 + 2 + m * 2) / 2 ^ (m * 2) ≡ w / 2 ^ (m * 2) % 2 ^ (62 - m * 2 - 2 + 2) = field w (62 - m * 2 - 2 + 2) (m * 2) in
+    let four : w / 2 ^ (m * 2) % 2 ^ (62 - m * 2 - 2 + 2) % 2 ^ 2 ≡ w / 2 ^ (m * 2) % 2 ^ 2 = mod-mod-pow (w / 2 ^ (m * 2)) (62 - m * 2 - 2) 2 in
+    ap (λ (n : ℕ). (w % 4611686018427387904 * 4 + c) / n % 4) (ap (λ (n : ℕ). 2 ^ n) twice ∙ pow-add 2 2 (m * 2))
+    ∙ ap (λ (n : ℕ). n % 4) (sym (div-div-eq-div-mul (w % 4611686018427387904 * 4 + c) 4 (2 ^ (m * 2))))
+    ∙ ap (λ (n : ℕ). n / 2 ^ (m * 2) % 4) (digits-div (w % 4611686018427387904) h)
+    ∙ ap (λ (n : ℕ). w % 2 ^ n / 2 ^ (m * 2) % 4) (sym above)
+    ∙ ap (λ (n : ℕ). n % 4) low
+    ∙ four
+
+pub heard-newest : (r : Register) (s : ℕ) → heardAt (wordsOf (pushOf r s)) 0 ≡ s % 4
+unfolding heardAt pushOf
+heard-newest r s = ap (λ (n : ℕ). n % 4) (div-one (r .word0 % 4611686018427387904 * 4 + s % 4)) ∙ omega arith
+
+heard-shifted : (s : ℕ) (ws : List ℕ) (j : ℕ) → s < 4 → suc j < 32 * length ws → heardAt (shift s ws) (suc j) ≡ heardAt ws j
+unfolding heardAt
+heard-shifted s ws j h b =
+    by-test (ltb (j % 32) 31)
+    (λ y.
+    let below = ltb-true (j % 32) 31 y in
+    let word : suc j / 32 ≡ j / 32 = omega arith in
+    let place : suc j % 32 ≡ j % 32 + 1 = omega arith in
+    rw (word, place, shift-at s ws (j / 32) (omega arith)) (stays (getD ws (j / 32) 0) (carried s ws (j / 32)) (j % 32) (carried-small s ws (j / 32) h) below))
+    (λ n.
+    let last = ltb-false (j % 32) 31 n in
+    let word : suc j / 32 ≡ suc (j / 32) = omega arith in
+    let place : suc j % 32 * 2 ≡ 0 = omega arith in
+    let top : j % 32 * 2 ≡ 62 = omega arith in
+    rw (word, place, top, shift-at s ws (suc (j / 32)) (omega arith))
+    (ap (λ (x : ℕ). x % 4) (div-one (getD ws (suc (j / 32)) 0 % 4611686018427387904 * 4 + getD ws (j / 32) 0 / 4611686018427387904 % 4)) ∙ omega arith))
+
+pub heard-small : (ws : List ℕ) (back : ℕ) → heardAt ws back < 4
+unfolding heardAt
+heard-small ws back = omega arith
+
+pub heard-earlier : (r : Register) (s j : ℕ) → suc j < 224 → heardAt (wordsOf (pushOf r s)) (suc j) ≡ heardAt (wordsOf r) j
+heard-earlier r s j b = ap (λ (ws : List ℕ). heardAt ws (suc j)) (words-pushed r s) ∙ heard-shifted (s % 4) (wordsOf r) j (omega arith) (omega arith)
