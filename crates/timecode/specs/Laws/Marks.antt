@@ -87,3 +87,13 @@ accepted-last f frame t w h =
 
 pub accepted-length : (f : Format) (frame : List ℕ) (t : Time) (w : ℕ) → readOf f frame ≡ Accepted t w → length frame ≡ size f
 accepted-length f frame t w h = ap length (sym (accepted-was-written f frame t w h .1)) ∙ length-written f t w
+
+-- the element before the last mark is no mark
+before-last : (f : Format) → isMark (size f - 2) ≡ true → ⊥
+unfolding isMark
+before-last = two-sizes (λ n. isMark (n - 2) ≡ true → ⊥) (λ h. clash h refl) (λ h. clash h refl)
+
+pub accepted-before-last : (f : Format) (frame : List ℕ) (t : Time) (w : ℕ) → readOf f frame ≡ Accepted t w → getD frame (size f - 2) 0 ≡ 2 → ⊥
+accepted-before-last f frame t w h m =
+    let p = accepted-was-written f frame t w h in
+    before-last f (mark-only f t w (p .0) (size f - 2) (omega (arith, size-large f)) (ap (λ (xs : List ℕ). getD xs (size f - 2) 0) (p .1) ∙ m))

@@ -142,7 +142,7 @@ module _ (f : Format) (m : ℕ) (window : List ℕ) (t : Time) (w : ℕ) (c : Co
       let u : 1 + size f * j + 0 ≡ size f * j + 1 = omega arith in
       rw u at (sym (at-frame f window j 0 (size-positive f)) ∙ accepted-first f (frameIn f window j) (c .times j) (c .controls j) (c .reads j b))
 
-  last-of : (j : ℕ) → j ≤ m → getD window (size f * suc j) 0 ≡ 2
+  pub last-of : (j : ℕ) → j ≤ m → getD window (size f * suc j) 0 ≡ 2
   last-of j b =
       let u : 1 + size f * j + (size f - 1) ≡ size f * suc j = omega (arith, size-positive f) in
       rw u at (sym (at-frame f window j (size f - 1) (omega (arith, size-positive f))) ∙ accepted-last f (frameIn f window j) (c .times j) (c .controls j) (c .reads j b))

@@ -1,0 +1,374 @@
+// A call of the engine as a line of text, `step B 0 365 8639900 365`, and its answer as text, `1 0`.
+// A refusal is R and its number, with 5 and 6 also @ and the index of the element.
+ghost use Prim.Native.Nat.{_≤_, _<_};
+use clock::difference;
+use clock::step;
+use frame::read;
+use frame::write;
+use std::num::wrapping_add_u64;
+use timecode::Format;
+use timecode::Reading;
+use timecode::Refusal;
+use timecode::Stepped;
+use timecode::Subtracted;
+use timecode::Time;
+use timecode::Written;
+
+// What the memory that Write is lent holds before the call: no symbol.
+const LENT: u8 = 7;
+
+// One byte, and the next place; nothing where the text is full.
+pub fn put(text: &mut [u8; 4096], at: usize, byte: u8) -> usize {
+    if at < 4096 {
+        text[at] = byte;
+        return at + 1;
+    }
+    at
+}
+
+fn put_bytes(text: &mut [u8; 4096], at: usize, bytes: &[u8]) -> usize {
+    let mut at = at;
+    let mut i = 0;
+    while i < bytes.len() {
+        at = put(text, at, bytes[i]);
+        i += 1;
+    }
+    at
+}
+
+fn put_decimal(text: &mut [u8; 4096], at: usize, number: u64) -> usize {
+    let mut digits = [0u8; 20];
+    let n = io::decimal(number, &mut digits);
+    put_bytes(text, at, &digits[..n])
+}
+
+fn put_hexadecimal(text: &mut [u8; 4096], at: usize, number: u64, width: usize) -> usize {
+    let mut digits = [0u8; 16];
+    let n = io::hex(number, width, &mut digits);
+    put_bytes(text, at, &digits[..n])
+}
+
+// 0 for a negative number.
+fn unsigned(number: i64) -> u64 {
+    if 0 <= number {
+        return number as u64;
+    }
+    0
+}
+
+fn put_signed(text: &mut [u8; 4096], at: usize, number: i64) -> usize {
+    if 0 <= number {
+        return put_decimal(text, at, unsigned(number));
+    }
+    let at = put(text, at, b'-');
+    // with all bits turned a negative number is one less than without its sign
+    put_decimal(text, at, wrapping_add_u64(unsigned(!number), 1))
+}
+
+fn put_symbol(text: &mut [u8; 4096], at: usize, symbol: u8) -> usize {
+    match symbol {
+        0 => put(text, at, b'0'),
+        1 => put(text, at, b'1'),
+        2 => put(text, at, b'P'),
+        3 => put(text, at, b'-'),
+        _ => {
+            let at = put(text, at, b'?');
+            put_hexadecimal(text, at, symbol as u64, 2)
+        }
+    }
+}
+
+fn put_frame(text: &mut [u8; 4096], frame: &[u8; 512], size: usize) -> usize {
+    let mut at = 0;
+    let mut i = 0;
+    while i < 512 {
+        if i < size {
+            at = put_symbol(text, at, frame[i]);
+        }
+        i += 1;
+    }
+    at
+}
+
+fn put_time(text: &mut [u8; 4096], at: usize, time: Time) -> usize {
+    let at = put_decimal(text, at, time.day as u64);
+    let at = put(text, at, b' ');
+    put_decimal(text, at, time.hundredths as u64)
+}
+
+fn put_number(text: &mut [u8; 4096], at: usize, number: u64) -> usize {
+    let at = put(text, at, b'R');
+    put_decimal(text, at, number)
+}
+
+fn put_indexed(text: &mut [u8; 4096], at: usize, number: u64, index: usize) -> usize {
+    let at = put_number(text, at, number);
+    let at = put(text, at, b'@');
+    put_decimal(text, at, index as u64)
+}
+
+fn put_refusal(text: &mut [u8; 4096], at: usize, refusal: Refusal) -> usize {
+    match refusal {
+        Refusal::UnknownFormat => put_number(text, at, 1),
+        Refusal::InvalidTime => put_number(text, at, 2),
+        Refusal::WrongLength => put_number(text, at, 3),
+        Refusal::UnknownSymbol => put_number(text, at, 4),
+        Refusal::MisplacedMark(index) => put_indexed(text, at, 5, index),
+        Refusal::InvalidElement(index) => put_indexed(text, at, 6, index),
+        Refusal::InvalidDigit => put_number(text, at, 7),
+        Refusal::SecondsDiffer => put_number(text, at, 8),
+        Refusal::ControlTooLong => put_number(text, at, 9),
+        Refusal::InvalidInterval => put_number(text, at, 10),
+        Refusal::InvalidYearLength => put_number(text, at, 11),
+        Refusal::StartPastEnd => put_number(text, at, 12),
+        Refusal::InvalidReader => put_number(text, at, 13),
+    }
+}
+
+// The byte at that place; a space past the line's end.
+fn byte_at(line: &[u8], at: usize) -> u8 {
+    if at < line.len() {
+        return line[at];
+    }
+    b' '
+}
+
+// Where the word of that number begins, from 0; the line's end, where it has fewer words.
+fn start_of(line: &[u8], word: usize) -> usize {
+    let mut left = word;
+    let mut i = 0;
+    while i < line.len() {
+        if left == 0 {
+            return i;
+        }
+        if line[i] == b' ' {
+            left -= 1;
+        }
+        i += 1;
+    }
+    i
+}
+
+fn is_named(line: &[u8], name: &[u8]) -> bool {
+    let mut i = 0;
+    while i < name.len() {
+        if byte_at(line, i) != name[i] {
+            return false;
+        }
+        i += 1;
+    }
+    byte_at(line, i) == b' '
+}
+
+// A hexadecimal digit's value; 0 for any other byte.
+fn digit(byte: u8) -> u64
+    ensures { λ r. ⌜ r < 16 ⌝ }
+{
+    match byte {
+        b'0'..=b'9' => (byte - 48) as u64,
+        b'a'..=b'f' => (byte - 87) as u64,
+        _ => 0,
+    }
+}
+
+// A number with one more digit, in base 16 or 10; its upper bits make room.
+fn longer(number: u64, base: u64, character: u8) -> u64 {
+    let kept = number % 1_152_921_504_606_846_976;
+    if base == 16 {
+        return kept * 16 + digit(character);
+    }
+    kept * 10 + digit(character)
+}
+
+// The number that a word is in that base.
+fn number(line: &[u8], word: usize, base: u64) -> u64 {
+    let mut n = 0;
+    let mut i = start_of(line, word);
+    while i < line.len() {
+        if line[i] == b' ' {
+            return n;
+        }
+        n = longer(n, base, line[i]);
+        i += 1;
+    }
+    n
+}
+
+fn decimal(line: &[u8], word: usize) -> u64 {
+    number(line, word, 10)
+}
+
+// Words 1 and 2 of a call with a format.
+fn format_in(line: &[u8]) -> Format {
+    let letter = byte_at(line, start_of(line, 1));
+    let expression = (decimal(line, 2) % 256) as u8;
+    Format {
+        letter: letter,
+        expression: expression,
+    }
+}
+
+// The time of which the day is that word.
+fn time_in(line: &[u8], word: usize) -> Time
+    requires { ⌜ word ≤ 8 ⌝ }
+{
+    let day = (decimal(line, word) % 65_536) as u16;
+    let hundredths = (decimal(line, word + 1) % 4_294_967_296) as u32;
+    Time {
+        day: day,
+        hundredths: hundredths,
+    }
+}
+
+// A byte that is no symbol, for a character that stands for none.
+fn symbol(character: u8) -> u8 {
+    match character {
+        b'0' => 0,
+        b'1' => 1,
+        b'P' => 2,
+        b'-' => 3,
+        _ => 255,
+    }
+}
+
+fn byte_of(high: u8, low: u8) -> u8 {
+    (digit(high) * 16 + digit(low)) as u8
+}
+
+fn put_element(frame: &mut [u8; 512], at: usize, element: u8) -> usize {
+    if at < 512 {
+        frame[at] = element;
+        return at + 1;
+    }
+    at
+}
+
+// A word's elements, as many as there is room for; the answer is their number.
+fn elements_in(line: &[u8], word: usize, frame: &mut [u8; 512]) -> usize {
+    let mut n = 0;
+    let mut i = start_of(line, word);
+    while i < line.len() {
+        // `(empty)` has none
+        if line[i] == b' ' || line[i] == b'(' {
+            return n;
+        }
+        if line[i] == b'?' {
+            if line.len() - i < 3 {
+                return n;
+            }
+            n = put_element(frame, n, byte_of(line[i + 1], line[i + 2]));
+            i += 3;
+        } else {
+            n = put_element(frame, n, symbol(line[i]));
+            i += 1;
+        }
+    }
+    n
+}
+
+fn put_step(line: &[u8], text: &mut [u8; 4096]) -> usize {
+    let year = (decimal(line, 5) % 65_536) as u16;
+    let stepped = step(format_in(line), time_in(line, 3), year);
+    match stepped {
+        Stepped::Next(time) => put_time(text, 0, time),
+        Stepped::Refused(refusal) => put_refusal(text, 0, refusal),
+    }
+}
+
+// Write, lent the first bytes of the slice: all of it, where more are asked for.
+fn write_part(format: Format, time: Time, control: u64, lent: &mut [u8], size: usize) -> Written {
+    if size < lent.len() {
+        return write(format, time, control, &mut lent[0..size]);
+    }
+    write(format, time, control, lent)
+}
+
+// The array keeps its length where a caller changed it, so that the caller proves nothing.
+fn write_first(
+    format: Format,
+    time: Time,
+    control: u64,
+    lent: &mut [u8; 512],
+    size: usize,
+) -> Written {
+    write_part(format, time, control, lent, size)
+}
+
+// A byte of the lent memory is not what it was.
+fn is_changed(lent: &[u8; 512]) -> bool {
+    let mut i = 0;
+    while i < 512 {
+        if lent[i] != LENT {
+            return true;
+        }
+        i += 1;
+    }
+    false
+}
+
+fn put_write(line: &[u8], text: &mut [u8; 4096]) -> usize {
+    let control = number(line, 5, 16);
+    let size = decimal(line, 6) as usize;
+    let mut lent = [LENT; 512];
+    let written = write_first(format_in(line), time_in(line, 3), control, &mut lent, size);
+    match written {
+        Written::Done => put_frame(text, &lent, size),
+        Written::Refused(refusal) => {
+            let at = put_refusal(text, 0, refusal);
+            if is_changed(&lent) {
+                return put_bytes(text, at, b" CHANGED");
+            }
+            at
+        }
+    }
+}
+
+fn read_part(format: Format, frame: &[u8], size: usize) -> Reading {
+    if size < frame.len() {
+        return read(format, &frame[0..size]);
+    }
+    read(format, frame)
+}
+
+fn read_first(format: Format, frame: &[u8; 512], size: usize) -> Reading {
+    read_part(format, frame, size)
+}
+
+fn put_read(line: &[u8], text: &mut [u8; 4096]) -> usize {
+    let mut frame = [0u8; 512];
+    let size = elements_in(line, 3, &mut frame);
+    let reading = read_first(format_in(line), &frame, size);
+    match reading {
+        Reading::Accepted(time, control) => {
+            let at = put_time(text, 0, time);
+            let at = put(text, at, b' ');
+            put_hexadecimal(text, at, control, 1)
+        }
+        Reading::Refused(refusal) => put_refusal(text, 0, refusal),
+    }
+}
+
+fn put_difference(line: &[u8], text: &mut [u8; 4096]) -> usize {
+    let subtracted = difference(time_in(line, 1), time_in(line, 3));
+    match subtracted {
+        Subtracted::Hundredths(hundredths) => put_signed(text, 0, hundredths),
+        Subtracted::Refused(refusal) => put_refusal(text, 0, refusal),
+    }
+}
+
+// Makes the call on the line and puts its answer into the text; how long the text is. A new call is one more test here.
+pub fn put_answer(line: &[u8], text: &mut [u8; 4096]) -> usize {
+    if is_named(line, b"step") {
+        return put_step(line, text);
+    }
+    if is_named(line, b"write") {
+        return put_write(line, text);
+    }
+    if is_named(line, b"read") {
+        return put_read(line, text);
+    }
+    if is_named(line, b"difference") {
+        return put_difference(line, text);
+    }
+    put_bytes(text, 0, b"unknown call")
+}

@@ -1,0 +1,176 @@
+-- Demand 3, of the program's reader: from a fresh reader of any format, the answers to any list of Feeds are the plain machine's.
+use mathlib.Core.Path.{_≡_, refl, sym, ap, ap₂, _∙_}
+use mathlib.Core.Bool.{Bool, true, cond, _&&_}
+use mathlib.Core.List.{List, [], _∷_, _++_}
+use Prim.Native.Nat.{ℕ, zero, suc, _+_, _*_, _-_, _%_, _<_, _≤_}
+use native.Mathlib.Nat.{not-suc-le-zero, mod-lt, zero-mod, mod-add-mod}
+use native.Mathlib.Omega.{arith}
+use native.Mathlib.Decide.{decLe}
+use borrow.Author.Tests.{lt-ltb, le-ltb, le-leb, lt-leb, ltb-true, ltb-false, eqb-true}
+use lib.Dec.{ltb, eqb}
+use lib.ListN.{getD, length, drop, length-append, length-drop, List·getD-append}
+use lib.Seq.{ext-getD, getD-drop, getD-append-add}
+use Rattle.timecode.specs.Demands.{holds-the-elements}
+use Rattle.timecode.specs.Formats.{known, size}
+use Rattle.timecode.specs.Laws.Machine.{feed-accepts, feed-refuses, answer-long, answer-short}
+use Rattle.timecode.specs.Laws.Marks.{size-positive}
+use Rattle.timecode.specs.Laws.Table.{size-range}
+use Rattle.timecode.specs.Laws.Tests.{by-test, and-left, and-right}
+use Rattle.timecode.specs.Stream.{windowLength, windowAnswer, lastOf, plainAnswer, plainFeed, plainAnswers, plainHeld, elementsOf}
+use Rattle.timecode.specs.declared.Answer.{Answer}
+use Rattle.timecode.specs.declared.Answer.the-variants.{Quiet}
+use Rattle.timecode.specs.declared.Format.{Format}
+use Rattle.register.specs.Symbols.{wordsOf, pushOf, heardAt, heard-newest, heard-earlier}
+use Rattle.register.specs.declared.Register.{Register}
+use Rattle.stream.specs.Feeding.{silence, freshReader, isValid, nextOf, windowIn, answerOf, feedOf}
+use Rattle.stream.specs.Marked.{length-window, window-at}
+use Rattle.stream.specs.declared.Reader.{Reader}
+
+-- ---- a list of Feeds: each takes the reader that the Feed before gave back
+
+unfoldable pub answers : Reader → List ℕ → List Answer
+answers r [] = []
+answers r (s ∷ ss) = feedOf r s .answer ∷ answers (feedOf r s .reader) ss
+
+unfoldable pub readerAfter : Reader → List ℕ → Reader
+readerAfter r [] = r
+readerAfter r (s ∷ ss) = readerAfter (feedOf r s .reader) ss
+
+-- ---- the register shows the list from its end, and spoiled symbols before its beginning
+
+abbrev backIn : List ℕ → ℕ → ℕ
+backIn held back = cond (ltb back (length held)) (getD held (length held - 1 - back) 0) 3
+
+abbrev Shows : Register → List ℕ → Type 0
+Shows r held = (back : ℕ) → back < 224 → heardAt (wordsOf r) back ≡ backIn held back
+
+abbrev everyBelow : ℕ → (ℕ → Bool) → Bool
+everyBelow zero p = true
+everyBelow (suc n) p = p n && everyBelow n p
+
+below-at : (n : ℕ) (p : ℕ → Bool) → everyBelow n p ≡ true → (i : ℕ) → i < n → p i ≡ true
+below-at zero p h i b = absurd (not-suc-le-zero b)
+below-at (suc n) p h i b =
+    by-test (ltb i n)
+    (λ y. below-at n p (and-right (p n) (everyBelow n p) h) i (ltb-true i n y))
+    (λ m. let last : i ≡ n = omega (arith, ltb-false i n m) in rw last (and-left (p n) (everyBelow n p) h))
+
+all-spoiled : everyBelow 224 (λ back. eqb (heardAt (wordsOf silence) back) 3) ≡ true
+unfolding heardAt
+all-spoiled = refl
+
+silence-shows : Shows silence []
+silence-shows back b =
+    eqb-true (heardAt (wordsOf silence) back) 3 (below-at 224 (λ back. eqb (heardAt (wordsOf silence) back) 3) all-spoiled back b) ∙ rw (le-ltb back 0 (omega arith))
+
+push-shows : (r : Register) (held : List ℕ) (s : ℕ) → s ≤ 3 → Shows r held → Shows (pushOf r s) (held ++ (s ∷ []))
+push-shows r held s b h zero l =
+    let n : length (held ++ (s ∷ [])) ≡ length held + 1 = length-append held (s ∷ []) in
+    let last : length held + 1 - 1 - 0 ≡ length held + 0 = omega arith in
+    heard-newest r s ∙ rw (n, lt-ltb 0 (length held + 1) (omega arith), last) (omega (arith, getD-append-add held (s ∷ []) 0 0))
+push-shows r held s b h (suc back) l =
+    let n : length (held ++ (s ∷ [])) ≡ length held + 1 = length-append held (s ∷ []) in
+    let same : length held + 1 - 1 - suc back ≡ length held - 1 - back = omega arith in
+    heard-earlier r s back l
+    ∙ h back (omega arith)
+    ∙ rw (n, same)
+    (by-test (ltb back (length held))
+    (λ y.
+    let below = ltb-true back (length held) y in
+    rw (y, lt-ltb (suc back) (length held + 1) (omega arith)) (sym (List·getD-append held (s ∷ []) 0 (length held - 1 - back) (omega arith))))
+    (λ m. let above = ltb-false back (length held) m in rw (m, le-ltb (suc back) (length held + 1) (omega arith))))
+
+-- ---- then its window is the plain machine's, or begins with a spoiled symbol where that has none
+
+shown-window : (f : Format) (r : Register) (held : List ℕ) → Shows r held → windowLength f ≤ length held → windowIn f (wordsOf r) ≡ lastOf (windowLength f) held
+unfolding windowLength lastOf
+shown-window f r held h l =
+    ext-getD 0 (windowIn f (wordsOf r)) (drop (length held - (2 * size f + 1)) held) (length-window f (wordsOf r) ∙ sym (length-drop (length held - (2 * size f + 1)) held ∙ omega arith))
+    (λ i m.
+    let k : i < 2 * size f + 1 = omega (arith, length-window f (wordsOf r)) in
+    let back : i + (2 * size f - i) ≡ 2 * size f = omega arith in
+    window-at f (wordsOf r) i (2 * size f - i) back
+    ∙ h (2 * size f - i) (omega (arith, size-range f))
+    ∙ rw (lt-ltb (2 * size f - i) (length held) (omega arith)) (ap (λ (j : ℕ). getD held j 0) (omega arith) ∙ sym (getD-drop (length held - (2 * size f + 1)) held i 0)))
+
+short-window : (f : Format) (r : Register) (held : List ℕ) → Shows r held → length held < windowLength f → windowAnswer f (windowIn f (wordsOf r)) ≡ Quiet
+unfolding windowLength windowAnswer
+short-window f r held h l =
+    let first : getD (windowIn f (wordsOf r)) 0 0 ≡ 3 = window-at f (wordsOf r) 0 (2 * size f) (omega arith) ∙ h (2 * size f) (omega (arith, size-range f)) ∙ rw (le-ltb (2 * size f) (length held) (omega arith)) in
+    rw first
+
+shown-answer : (f : Format) (r : Register) (held : List ℕ) → Shows r held → windowAnswer f (windowIn f (wordsOf r)) ≡ plainAnswer f held
+shown-answer f r held h = go (decLe (windowLength f) (length held))
+  where
+    go : Dec (windowLength f ≤ length held) → windowAnswer f (windowIn f (wordsOf r)) ≡ plainAnswer f held
+    go (yes l) = ap (windowAnswer f) (shown-window f r held h l) ∙ sym (answer-long f held l)
+    go (no l) = short-window f r held h (omega arith) ∙ sym (answer-short f held (omega arith))
+
+-- ---- one Feed: the reader goes on showing what the plain machine holds
+
+-- the reader has the format, its place is the number of elements modulo n, and its register shows them
+pub record Hears (f : Format) (r : Reader) (held : List ℕ) : Type 0 where
+  pub same-format : r .format ≡ f
+  pub place-is : r .place ≡ length held % size f
+  pub shows : Shows (r .heard) held
+
+fresh-hears : (f : Format) → Hears f (freshReader f) []
+fresh-hears f = record { same-format = refl; place-is = sym (zero-mod (size f)); shows = silence-shows }
+
+pub hears-valid : (f : Format) (r : Reader) (held : List ℕ) → known f ≡ true → Hears f r held → isValid r ≡ true
+unfolding isValid
+hears-valid f r held k h = rw (h .same-format, k, h .place-is) (lt-ltb (length held % size f) (size f) (mod-lt (length held) (size-positive f)))
+
+feed-hears : (f : Format) (r : Reader) (held : List ℕ) (s : ℕ) → known f ≡ true → Hears f r held → (feedOf r s .answer ≡ plainFeed f held s .answer) × Hears f (feedOf r s .reader) (plainFeed f held s .held)
+unfolding feedOf answerOf nextOf
+feed-hears f r held s k h = go (decLe s 3)
+  where
+    valid : isValid r ≡ true
+    valid = hears-valid f r held k h
+
+    go : Dec (s ≤ 3) → (feedOf r s .answer ≡ plainFeed f held s .answer) × Hears f (feedOf r s .reader) (plainFeed f held s .held)
+    go (yes l) =
+        let shown = push-shows (r .heard) held s l (h .shows) in
+        rw (feed-accepts f held s l, valid, le-leb s 3 l) (
+          rw (h .same-format) (shown-answer f (pushOf (r .heard) s) (held ++ (s ∷ [])) shown),
+          record {
+            same-format = h .same-format;
+            place-is = rw (h .same-format, h .place-is, length-append held (s ∷ [])) (mod-add-mod (length held) (size f) 1);
+            shows = shown;
+          },
+        )
+    go (no l) = rw (feed-refuses f held s (omega arith), valid, lt-leb s 3 (omega arith)) (refl, h)
+
+-- ---- Demand 3
+
+module _ (f : Format) (k : known f ≡ true) where
+  answers-plain : (r : Reader) (held ss : List ℕ) → Hears f r held → answers r ss ≡ plainAnswers f held ss
+  unfolding answers plainAnswers
+  answers-plain r held [] h = refl
+  answers-plain r held (s ∷ ss) h =
+      let fed = feed-hears f r held s k h in
+      ap₂ (λ (a : Answer) (as′ : List Answer). a ∷ as′) (fed .0) (answers-plain (feedOf r s .reader) (plainFeed f held s .held) ss (fed .1))
+
+  hears-after : (r : Reader) (held ss : List ℕ) → Hears f r held → Hears f (readerAfter r ss) (plainHeld f held ss)
+  unfolding readerAfter plainHeld
+  hears-after r held [] h = h
+  hears-after r held (s ∷ ss) h = hears-after (feedOf r s .reader) (plainFeed f held s .held) ss (feed-hears f r held s k h .1)
+
+  -- With every Feed of the list the answer is the plain machine's, refusals too.
+  pub answers-are-plain : (ss : List ℕ) → answers (freshReader f) ss ≡ plainAnswers f [] ss
+  answers-are-plain ss = answers-plain (freshReader f) [] ss (fresh-hears f)
+
+  pub fed-hears : (ss : List ℕ) → Hears f (readerAfter (freshReader f) ss) (plainHeld f [] ss)
+  fed-hears ss = hears-after (freshReader f) [] ss (fresh-hears f)
+
+  -- the answer to one Feed more
+  pub next-answer : (ss : List ℕ) (s : ℕ) → answerOf (readerAfter (freshReader f) ss) s ≡ plainFeed f (plainHeld f [] ss) s .answer
+  unfolding feedOf
+  next-answer ss s = feed-hears f (readerAfter (freshReader f) ss) (plainHeld f [] ss) s k (fed-hears ss) .0
+
+  -- A reader made by feeding a fresh one never meets 13, and its place is the number of its elements modulo n.
+  pub fed-is-valid : (ss : List ℕ) → isValid (readerAfter (freshReader f) ss) ≡ true
+  fed-is-valid ss = hears-valid f (readerAfter (freshReader f) ss) (plainHeld f [] ss) k (fed-hears ss)
+
+  pub fed-place : (ss : List ℕ) → readerAfter (freshReader f) ss .place ≡ length (elementsOf ss) % size f
+  fed-place ss = fed-hears ss .place-is ∙ ap (λ (held : List ℕ). length held % size f) (holds-the-elements f ss)
