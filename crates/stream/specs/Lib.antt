@@ -1,3 +1,4 @@
 pub mod Feeding
 pub mod Marked
 pub mod Refinement
+pub mod Heard
