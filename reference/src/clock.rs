@@ -1,0 +1,69 @@
+//! Stepping and comparing times.
+
+use crate::formats::{Format, Time};
+use crate::layout::Layout;
+use crate::refusal::Refusal;
+
+/// A time in range that lies on the format, or refusal 2.
+pub(crate) fn check_on_format(layout: &Layout, time: Time) -> Result<(), Refusal> {
+    if time.in_range() && time.hundredths % layout.interval == 0 {
+        Ok(())
+    } else {
+        Err(Refusal::Time)
+    }
+}
+
+/// The time one frame later in a year of 365 or 366 days.
+pub fn step(format: Format, time: Time, year_length: u16) -> Result<Time, Refusal> {
+    let layout = Layout::of(format)?;
+    check_on_format(layout, time)?;
+    advance(layout, time, year_length)
+}
+
+/// `step` for a time already known to lie on the format.
+fn advance(layout: &Layout, time: Time, year_length: u16) -> Result<Time, Refusal> {
+    if !matches!(year_length, 365 | 366) || time.day > year_length {
+        return Err(Refusal::YearLength);
+    }
+    let hundredths = time.hundredths + layout.interval;
+    Ok(if hundredths < Time::HUNDREDTHS_PER_DAY {
+        Time { hundredths, ..time }
+    } else if time.day < year_length {
+        Time {
+            day: time.day + 1,
+            hundredths: 0,
+        }
+    } else {
+        Time {
+            day: 1,
+            hundredths: 0,
+        }
+    })
+}
+
+/// Whether `second` is one frame after `first` in a year of either length.
+/// Times that do not lie on the format are never next to another.
+pub fn next_after(format: Format, first: Time, second: Time) -> bool {
+    match Layout::of(format) {
+        Ok(layout) => check_on_format(layout, first).is_ok() && follows(layout, first, second),
+        Err(_) => false,
+    }
+}
+
+/// `next_after` for a first time already known to lie on the format.
+pub(crate) fn follows(layout: &Layout, first: Time, second: Time) -> bool {
+    [365, 366]
+        .into_iter()
+        .any(|length| advance(layout, first, length) == Ok(second))
+}
+
+/// `first` less `second` within one year, in hundredths of a second.
+pub fn difference(first: Time, second: Time) -> Result<i64, Refusal> {
+    if !first.in_range() || !second.in_range() {
+        return Err(Refusal::Time);
+    }
+    let since_new_year = |time: Time| {
+        i64::from(time.day) * i64::from(Time::HUNDREDTHS_PER_DAY) + i64::from(time.hundredths)
+    };
+    Ok(since_new_year(first) - since_new_year(second))
+}

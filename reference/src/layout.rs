@@ -1,0 +1,202 @@
+//! Where each element of a frame stands: one constant table for each format,
+//! used by writer and reader alike.
+
+use crate::formats::{Format, MARK, ZERO};
+use crate::refusal::Refusal;
+
+/// The longest frame, in elements.
+pub const MAX_ELEMENTS: usize = 100;
+
+/// Consecutive elements carrying bits, lowest weight first.
+#[derive(Clone, Copy, Debug, PartialEq, Eq)]
+pub struct Field {
+    pub start: usize,
+    pub width: usize,
+}
+
+/// Elements `start` to `last`, both included.
+const fn field(start: usize, last: usize) -> Field {
+    Field {
+        start,
+        width: last - start + 1,
+    }
+}
+
+/// A digit that the format does not carry; it always counts as 0.
+const ABSENT: Field = Field { start: 0, width: 0 };
+
+/// What belongs at one index of a frame.
+#[derive(Clone, Copy, Debug, PartialEq, Eq)]
+pub enum Element {
+    Mark,
+    IndexMarker,
+    Bit,
+}
+
+/// The frame of one format. Decimal digits are listed highest first, the parts
+/// of a binary word lowest first.
+#[derive(Debug, PartialEq, Eq)]
+pub struct Layout {
+    /// Elements in a frame, n.
+    pub elements: usize,
+    /// Frame interval in hundredths of a second, S.
+    pub interval: u32,
+    pub seconds: [Field; 2],
+    pub minutes: [Field; 2],
+    pub hours: [Field; 2],
+    pub days: [Field; 3],
+    /// Tenths and hundredths of a second.
+    pub fraction: [Field; 2],
+    /// Control bits, empty where the expression has none.
+    pub control: &'static [Field],
+    /// Straight binary seconds, empty where the expression has none.
+    pub binary_seconds: &'static [Field],
+    /// What belongs at each index, derived from the fields above.
+    pub kinds: [Element; MAX_ELEMENTS],
+    /// A frame with its marks set and everything else zero.
+    pub blank: [u8; MAX_ELEMENTS],
+}
+
+impl Layout {
+    /// The table of a format, or refusal 1.
+    pub fn of(format: Format) -> Result<&'static Layout, Refusal> {
+        let (layouts, first_expression): (&'static [Layout], u8) = match format.letter {
+            b'A' => (&A, 0),
+            b'B' => (&B, 0),
+            b'D' => (&D, 1),
+            b'E' => (&E, 1),
+            b'G' => (&G, 1),
+            b'H' => (&H, 1),
+            _ => return Err(Refusal::Format),
+        };
+        format
+            .expression
+            .checked_sub(first_expression)
+            .and_then(|row| layouts.get(usize::from(row)))
+            .ok_or(Refusal::Format)
+    }
+
+    /// Number of control bits that a frame carries.
+    pub fn control_bits(&self) -> usize {
+        self.control.iter().map(|part| part.width).sum()
+    }
+}
+
+static A: [Layout; 4] = [
+    build(b'A', 0),
+    build(b'A', 1),
+    build(b'A', 2),
+    build(b'A', 3),
+];
+static B: [Layout; 4] = [
+    build(b'B', 0),
+    build(b'B', 1),
+    build(b'B', 2),
+    build(b'B', 3),
+];
+static D: [Layout; 2] = [build(b'D', 1), build(b'D', 2)];
+static E: [Layout; 2] = [build(b'E', 1), build(b'E', 2)];
+static G: [Layout; 2] = [build(b'G', 1), build(b'G', 2)];
+static H: [Layout; 2] = [build(b'H', 1), build(b'H', 2)];
+
+const CONTROL_A_B: &[Field] = &[field(50, 58), field(60, 68), field(70, 78)];
+const CONTROL_D_H: &[Field] = &[field(50, 58)];
+const CONTROL_E: &[Field] = &[
+    field(50, 58),
+    field(60, 68),
+    field(70, 78),
+    field(80, 88),
+    field(90, 98),
+];
+const CONTROL_G: &[Field] = &[field(60, 68), field(70, 78), field(80, 88), field(90, 98)];
+const BINARY_SECONDS: &[Field] = &[field(80, 88), field(90, 97)];
+
+const SECOND_UNITS: Field = field(1, 4);
+const SECOND_TENS: Field = field(6, 8);
+const MINUTES: [Field; 2] = [field(15, 17), field(10, 13)];
+const HOURS: [Field; 2] = [field(25, 26), field(20, 23)];
+const DAYS: [Field; 3] = [field(40, 41), field(35, 38), field(30, 33)];
+const TENTHS: Field = field(45, 48);
+const HUNDREDTHS: Field = field(50, 53);
+
+/// The table of a format that document 01 lists.
+const fn build(letter: u8, expression: u8) -> Layout {
+    let (elements, interval, control) = match letter {
+        b'A' => (100, 10, CONTROL_A_B),
+        b'B' => (100, 100, CONTROL_A_B),
+        b'D' => (60, 360_000, CONTROL_D_H),
+        b'E' => (100, 1_000, CONTROL_E),
+        b'G' => (100, 1, CONTROL_G),
+        b'H' => (60, 6_000, CONTROL_D_H),
+        _ => panic!("no such letter"),
+    };
+    let seconds = match letter {
+        b'A' | b'B' | b'G' => [SECOND_TENS, SECOND_UNITS],
+        b'E' => [SECOND_TENS, ABSENT],
+        _ => [ABSENT, ABSENT],
+    };
+    let minutes = match letter {
+        b'D' => [ABSENT, ABSENT],
+        _ => MINUTES,
+    };
+    let fraction = match letter {
+        b'A' => [TENTHS, ABSENT],
+        b'G' => [TENTHS, HUNDREDTHS],
+        _ => [ABSENT, ABSENT],
+    };
+    let control: &[Field] = if matches!(expression, 0 | 1) {
+        control
+    } else {
+        &[]
+    };
+    let binary_seconds: &[Field] = if matches!(expression, 0 | 3) {
+        BINARY_SECONDS
+    } else {
+        &[]
+    };
+
+    let mut kinds = [Element::IndexMarker; MAX_ELEMENTS];
+    set_bits(&mut kinds, &seconds);
+    set_bits(&mut kinds, &minutes);
+    set_bits(&mut kinds, &HOURS);
+    set_bits(&mut kinds, &DAYS);
+    set_bits(&mut kinds, &fraction);
+    set_bits(&mut kinds, control);
+    set_bits(&mut kinds, binary_seconds);
+
+    let mut blank = [ZERO; MAX_ELEMENTS];
+    let mut index = 0;
+    while index < elements {
+        if index == 0 || index % 10 == 9 {
+            kinds[index] = Element::Mark;
+            blank[index] = MARK;
+        }
+        index += 1;
+    }
+
+    Layout {
+        elements,
+        interval,
+        seconds,
+        minutes,
+        hours: HOURS,
+        days: DAYS,
+        fraction,
+        control,
+        binary_seconds,
+        kinds,
+        blank,
+    }
+}
+
+const fn set_bits(kinds: &mut [Element; MAX_ELEMENTS], fields: &[Field]) {
+    let mut row = 0;
+    while row < fields.len() {
+        let mut bit = 0;
+        while bit < fields[row].width {
+            kinds[fields[row].start + bit] = Element::Bit;
+            bit += 1;
+        }
+        row += 1;
+    }
+}

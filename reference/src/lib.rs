@@ -1,0 +1,26 @@
+//! Serial time code after IRIG 200-98: formats A, B, D, E, G and H as
+//! pulse-width elements.
+//!
+//! A symbol is one byte: 0 (zero or index marker), 1 (one), 2 (mark: position
+//! identifier or reference bit), 3 (spoiled).
+
+#![forbid(unsafe_code)]
+
+mod clock;
+mod formats;
+mod frame;
+mod layout;
+mod pulse;
+mod refusal;
+mod scan;
+mod stream;
+mod timeread;
+
+pub use clock::{difference, next_after, step};
+pub use formats::{Format, Time, MARK, ONE, SPOILED, ZERO};
+pub use frame::{read, write};
+pub use pulse::{classify, classify_and_feed, classify_list};
+pub use refusal::Refusal;
+pub use scan::scan;
+pub use stream::{Answer, Reader};
+pub use timeread::timeread;

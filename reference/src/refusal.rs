@@ -1,0 +1,61 @@
+//! The numbers a call refuses with.
+
+/// Why a call was refused. Number 5 and 6 carry the index of the element.
+#[derive(Clone, Copy, Debug, PartialEq, Eq)]
+pub enum Refusal {
+    /// 1: unknown letter or expression.
+    Format,
+    /// 2: day or hundredths out of range, or not on the format.
+    Time,
+    /// 3: frame not n bytes, or lists of different lengths.
+    Length,
+    /// 4: symbol above 3.
+    Symbol,
+    /// 5: mark missing, or a mark where none belongs.
+    Mark(usize),
+    /// 6: index marker not zero, or a spoiled digit, SBS or control bit.
+    Element(usize),
+    /// 7: digit over 9, or a clock field or day of year out of range.
+    Digit,
+    /// 8: straight binary seconds differ from the BCD time.
+    BinarySeconds,
+    /// 9: control word needs more bits than the frame carries.
+    Control,
+    /// 10: nominal element interval out of range.
+    Interval,
+    /// 11: year length not 365 or 366, or day beyond it.
+    YearLength,
+    /// 12: start past the end of the recording.
+    Start,
+    /// 13: reader out of range. A [`Reader`](crate::Reader) keeps its fields
+    /// to itself, so none made with this crate is ever refused so.
+    Reader,
+}
+
+impl Refusal {
+    pub fn number(self) -> u8 {
+        match self {
+            Refusal::Format => 1,
+            Refusal::Time => 2,
+            Refusal::Length => 3,
+            Refusal::Symbol => 4,
+            Refusal::Mark(_) => 5,
+            Refusal::Element(_) => 6,
+            Refusal::Digit => 7,
+            Refusal::BinarySeconds => 8,
+            Refusal::Control => 9,
+            Refusal::Interval => 10,
+            Refusal::YearLength => 11,
+            Refusal::Start => 12,
+            Refusal::Reader => 13,
+        }
+    }
+
+    /// Index of the offending element, for numbers 5 and 6.
+    pub fn index(self) -> Option<usize> {
+        match self {
+            Refusal::Mark(index) | Refusal::Element(index) => Some(index),
+            _ => None,
+        }
+    }
+}

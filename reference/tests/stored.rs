@@ -1,0 +1,87 @@
+//! The stored cases of `crates/calls` against this crate: every line of each data file has the answer that stands in
+//! stdout under the file's name.
+
+use reference::*;
+use std::fs::read_to_string;
+
+const CALLS: &str = concat!(env!("CARGO_MANIFEST_DIR"), "/../crates/calls");
+
+fn elements(word: &str) -> Vec<u8> {
+    let mut elements = vec![];
+    let mut characters = word.chars();
+    if word == "(empty)" {
+        return elements;
+    }
+    while let Some(character) = characters.next() {
+        elements.push(match character {
+            '0' => 0,
+            '1' => 1,
+            'P' => 2,
+            '-' => 3,
+            '?' => {
+                let digits: String = characters.by_ref().take(2).collect();
+                u8::from_str_radix(&digits, 16).unwrap()
+            }
+            _ => panic!("{word}"),
+        });
+    }
+    elements
+}
+
+fn shown(frame: &[u8]) -> String {
+    let symbol = |&s: &u8| match s {
+        0 => "0".into(),
+        1 => "1".into(),
+        2 => "P".into(),
+        3 => "-".into(),
+        _ => format!("?{s:02x}"),
+    };
+    frame.iter().map(symbol).collect()
+}
+
+fn refused(refusal: Refusal) -> String {
+    match refusal.index() {
+        Some(index) => format!("R{}@{index}", refusal.number()),
+        None => format!("R{}", refusal.number()),
+    }
+}
+
+fn answer(line: &str) -> String {
+    let words: Vec<&str> = line.split(' ').collect();
+    let format = || Format {
+        letter: words[1].as_bytes()[0],
+        expression: words[2].parse().unwrap(),
+    };
+    let time = |i: usize| Time {
+        day: words[i].parse().unwrap(),
+        hundredths: words[i + 1].parse().unwrap(),
+    };
+    let said = match words[0] {
+        "step" => step(format(), time(3), words[5].parse().unwrap())
+            .map(|t| format!("{} {}", t.day, t.hundredths)),
+        "write" => {
+            let mut frame = vec![7u8; words[6].parse().unwrap()];
+            let control = u64::from_str_radix(words[5], 16).unwrap();
+            write(format(), time(3), control, &mut frame).map(|()| shown(&frame))
+        }
+        "read" => read(format(), &elements(words[3]))
+            .map(|(t, control)| format!("{} {} {control:x}", t.day, t.hundredths)),
+        "difference" => difference(time(1), time(3)).map(|d| d.to_string()),
+        _ => Ok("unknown call".into()),
+    };
+    said.unwrap_or_else(refused)
+}
+
+#[test]
+fn stored_calls() {
+    let mut expected = String::new();
+    for name in read_to_string(format!("{CALLS}/args")).unwrap().lines() {
+        let file = name.rsplit('/').next().unwrap();
+        expected += &format!("== {name}\n");
+        for line in read_to_string(format!("{CALLS}/data/{file}")).unwrap().lines() {
+            expected += &answer(line);
+            expected.push('\n');
+        }
+    }
+    assert_eq!(expected, read_to_string(format!("{CALLS}/stdout")).unwrap());
+}
