@@ -56,6 +56,7 @@ fn answer(line: &str) -> String {
         day: words[i].parse().unwrap(),
         hundredths: words[i + 1].parse().unwrap(),
     };
+    let number = |i: usize| words[i].parse().unwrap();
     let said = match words[0] {
         "step" => step(format(), time(3), words[5].parse().unwrap())
             .map(|t| format!("{} {}", t.day, t.hundredths)),
@@ -66,6 +67,12 @@ fn answer(line: &str) -> String {
         }
         "read" => read(format(), &elements(words[3]))
             .map(|(t, control)| format!("{} {} {control:x}", t.day, t.hundredths)),
+        "classify" => classify(number(1), number(2), number(3)).map(|s| s.to_string()),
+        "scan" => scan(format(), &elements(words[3]), words[4].parse().unwrap()).map(|found| {
+            found.map_or("none".into(), |(place, t, control)| {
+                format!("{place} {} {} {control:x}", t.day, t.hundredths)
+            })
+        }),
         "difference" => difference(time(1), time(3)).map(|d| d.to_string()),
         _ => Ok("unknown call".into()),
     };
@@ -78,7 +85,10 @@ fn stored_calls() {
     for name in read_to_string(format!("{CALLS}/args")).unwrap().lines() {
         let file = name.rsplit('/').next().unwrap();
         expected += &format!("== {name}\n");
-        for line in read_to_string(format!("{CALLS}/data/{file}")).unwrap().lines() {
+        for line in read_to_string(format!("{CALLS}/data/{file}"))
+            .unwrap()
+            .lines()
+        {
             expected += &answer(line);
             expected.push('\n');
         }

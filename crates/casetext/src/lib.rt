@@ -5,10 +5,14 @@ use clock::difference;
 use clock::step;
 use frame::read;
 use frame::write;
+use pulse::classify;
+use scan::scan;
 use std::num::wrapping_add_u64;
+use timecode::Classified;
 use timecode::Format;
 use timecode::Reading;
 use timecode::Refusal;
+use timecode::Scanned;
 use timecode::Stepped;
 use timecode::Subtracted;
 use timecode::Time;
@@ -356,7 +360,47 @@ fn put_difference(line: &[u8], text: &mut [u8; 4096]) -> usize {
     }
 }
 
-// Makes the call on the line and puts its answer into the text; how long the text is. A new call is one more test here.
+fn put_classify(line: &[u8], text: &mut [u8; 4096]) -> usize {
+    let interval = (decimal(line, 1) % 4_294_967_296) as u32;
+    let width = (decimal(line, 2) % 4_294_967_296) as u32;
+    let period = (decimal(line, 3) % 4_294_967_296) as u32;
+    let classified = classify(interval, width, period);
+    match classified {
+        Classified::Symbol(symbol) => put_decimal(text, 0, symbol as u64),
+        Classified::Refused(refusal) => put_refusal(text, 0, refusal),
+    }
+}
+
+fn scan_part(format: Format, recording: &[u8], size: usize, start: usize) -> Scanned {
+    if size < recording.len() {
+        return scan(format, &recording[0..size], start);
+    }
+    scan(format, recording, start)
+}
+
+fn scan_first(format: Format, recording: &[u8; 512], size: usize, start: usize) -> Scanned {
+    scan_part(format, recording, size, start)
+}
+
+fn put_scan(line: &[u8], text: &mut [u8; 4096]) -> usize {
+    let mut recording = [0u8; 512];
+    let size = elements_in(line, 3, &mut recording);
+    let start = decimal(line, 4) as usize;
+    let scanned = scan_first(format_in(line), &recording, size, start);
+    match scanned {
+        Scanned::Found(place, time, control) => {
+            let at = put_decimal(text, 0, place as u64);
+            let at = put(text, at, b' ');
+            let at = put_time(text, at, time);
+            let at = put(text, at, b' ');
+            put_hexadecimal(text, at, control, 1)
+        }
+        Scanned::None => put_bytes(text, 0, b"none"),
+        Scanned::Refused(refusal) => put_refusal(text, 0, refusal),
+    }
+}
+
+// Makes the call on the line and puts its answer into the text; how long the text is.
 pub fn put_answer(line: &[u8], text: &mut [u8; 4096]) -> usize {
     if is_named(line, b"step") {
         return put_step(line, text);
@@ -369,6 +413,12 @@ pub fn put_answer(line: &[u8], text: &mut [u8; 4096]) -> usize {
     }
     if is_named(line, b"difference") {
         return put_difference(line, text);
+    }
+    if is_named(line, b"classify") {
+        return put_classify(line, text);
+    }
+    if is_named(line, b"scan") {
+        return put_scan(line, text);
     }
     put_bytes(text, 0, b"unknown call")
 }

@@ -1,0 +1,50 @@
+-- `print_lines` is safe and ends.
+use borrow.Author.Needs.{needs}
+use Prim.Native.Nat.{_-_}
+use Rattle.hostile.proofs.print_lines.Statement.{statement}
+use Rattle.hostile.proofs.print_lines.Tie as tie
+
+abbrev Inv-loop : tie.InvT-loop
+Inv-loop name case i₀ i = Unit {0}
+
+abbrev μ-loop : tie.MeasureT-loop
+μ-loop name case i₀ i = 16 - i
+
+loop-holds : tie.Need-loop-holds Inv-loop μ-loop
+loop-holds c = search needs
+
+format-at-requires : tie.Need-format-at-requires Inv-loop μ-loop
+format-at-requires c κs = search needs
+
+heard-in-requires : tie.Need-heard-in-requires Inv-loop μ-loop
+heard-in-requires c κs = search needs
+
+print-line-requires : tie.Need-print-line-requires Inv-loop μ-loop
+print-line-requires c κs = search needs
+
+add-i : tie.Need-add-i Inv-loop μ-loop
+add-i c = search needs
+
+loop-less : tie.Need-loop-less Inv-loop μ-loop
+loop-less c = search needs
+
+loop-again : tie.Need-loop-again Inv-loop μ-loop
+loop-again c = search needs
+
+returns : tie.Need-returns Inv-loop μ-loop
+returns c = search needs
+
+pub print-lines-spec : {M : Type 1} → statement M
+print-lines-spec =
+    tie.close
+    (tie.spec
+    Inv-loop
+    μ-loop
+    loop-holds
+    format-at-requires
+    heard-in-requires
+    print-line-requires
+    add-i
+    loop-less
+    loop-again
+    returns)

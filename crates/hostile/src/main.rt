@@ -1,0 +1,440 @@
+// Long hostile streams: for each case and format how many symbols a reader accepts, reports and refuses, and a checksum
+// over its reports. The expected lines are from an independent plain version of the rules in another language.
+ghost use Prim.Native.Nat.{_≤_};
+use clock::step;
+use frame::write;
+use layout::frame_interval;
+use layout::frame_size;
+use register::Register;
+use std::num::wrapping_add_u64;
+use stream::Made;
+use stream::Reader;
+use stream::answer_to;
+use stream::next_reader;
+use timecode::Answer;
+use timecode::Format;
+use timecode::Stepped;
+use timecode::Time;
+use timecode::Written;
+
+const FORMATS: usize = 16;
+
+// Symbols of a stream that no generator made.
+const SYMBOLS: u64 = 200_000;
+
+// Frames of a generator's stream.
+const FRAMES: u64 = 300;
+
+const PRIME: u64 = 1_000_000_007;
+
+// What a frame holds before it is written: no symbol, so that a frame that was not written is seen.
+const LENT: u8 = 7;
+
+enum Case {
+    Marks,
+    Spoiled,
+    Alternating,
+    Pairs,
+    Fours,
+    Refused,
+    Shaped,
+    Random,
+    Valid,
+    Damaged,
+    Lost,
+    Added,
+    Interrupted,
+    Leap,
+    Common,
+    Place,
+}
+
+// The reader, and what it has answered so far.
+struct Tally {
+    reader: Reader,
+    elements: u64,
+    reports: u64,
+    refused: u64,
+    sum: u64,
+}
+
+fn one_more(count: u64) -> u64 {
+    wrapping_add_u64(count, 1)
+}
+
+fn folded(sum: u64, number: u64) -> u64 {
+    (sum % PRIME * 31 + number % PRIME) % PRIME
+}
+
+// A report counts by where it came and by all that it says.
+fn with_report(sum: u64, elements: u64, time: Time, control: u64) -> u64 {
+    let sum = folded(sum, elements);
+    let sum = folded(sum, time.day as u64);
+    let sum = folded(sum, time.hundredths as u64);
+    folded(sum, control)
+}
+
+// One Feed.
+fn hear(tally: Tally, symbol: u8) -> Tally {
+    let before = tally.reader;
+    let answer = answer_to(before, symbol);
+    let reader = next_reader(before, symbol);
+    let elements = one_more(tally.elements);
+    match answer {
+        Answer::Quiet => Tally {
+            reader: reader,
+            elements: elements,
+            reports: tally.reports,
+            refused: tally.refused,
+            sum: tally.sum,
+        },
+        Answer::Report(time, control) => Tally {
+            reader: reader,
+            elements: elements,
+            reports: one_more(tally.reports),
+            refused: tally.refused,
+            sum: with_report(tally.sum, elements, time, control),
+        },
+        Answer::Refused(_) => Tally {
+            reader: reader,
+            elements: tally.elements,
+            reports: tally.reports,
+            refused: one_more(tally.refused),
+            sum: tally.sum,
+        },
+    }
+}
+
+fn tally_from(reader: Reader) -> Tally {
+    Tally {
+        reader: reader,
+        elements: 0,
+        reports: 0,
+        refused: 0,
+        sum: 0,
+    }
+}
+
+// A reader that no call made: of any format, at any place.
+fn reader_at(format: Format, place: usize) -> Reader {
+    let heard = Register {
+        word0: 0,
+        word1: 0,
+        word2: 0,
+        word3: 0,
+        word4: 0,
+        word5: 0,
+        word6: 0,
+    };
+    Reader {
+        format: format,
+        place: place,
+        heard: heard,
+    }
+}
+
+// An unknown format has no fresh reader: its tally is of one that no call made.
+fn fresh(format: Format) -> Tally {
+    let made = Reader::fresh(format);
+    match made {
+        Made::Fresh(reader) => tally_from(reader),
+        Made::Refused(_) => tally_from(reader_at(format, 0)),
+    }
+}
+
+// Marks where frames have them, and ones between.
+fn shaped(i: u64, n: u64) -> u8
+    requires { ⌜ 60 ≤ n ⌝ }
+{
+    let index = i % n;
+    if index == 0 {
+        return 2;
+    }
+    if index % 10 == 9 {
+        return 2;
+    }
+    1
+}
+
+// Symbol i of a stream that no generator made. Pairs has marks where two frames of 60 have them at every third symbol, and
+// Fours where two of 60 or of 100 have them at every fourth: frames are looked into far more often than generators end them.
+fn symbol_of(case: Case, i: u64, n: u64) -> u8
+    requires { ⌜ 60 ≤ n ⌝ }
+{
+    match case {
+        Case::Marks => 2,
+        Case::Spoiled => 3,
+        Case::Alternating => {
+            if i % 2 == 0 {
+                return 2;
+            }
+            0
+        }
+        Case::Pairs => {
+            if i % 3 == 2 {
+                return 0;
+            }
+            2
+        }
+        Case::Fours => {
+            if i % 4 < 2 {
+                return 2;
+            }
+            0
+        }
+        Case::Refused => (4 + i % 252) as u8,
+        _ => shaped(i, n),
+    }
+}
+
+fn hear_symbols(case: Case, format: Format, count: u64) -> Tally {
+    let n = frame_size(format) as u64;
+    let mut tally = fresh(format);
+    let mut i = 0;
+    while i < count {
+        tally = hear(tally, symbol_of(case, i, n));
+        i += 1;
+    }
+    tally
+}
+
+fn next_random(x: u64) -> u64 {
+    (x % 2_147_483_648 * 1_103_515_245 + 12_345) % 2_147_483_648
+}
+
+// Two of six bytes are no symbols.
+fn hear_random(format: Format) -> Tally {
+    let mut tally = fresh(format);
+    let mut x = 1;
+    let mut i = 0;
+    while i < SYMBOLS {
+        x = next_random(x);
+        tally = hear(tally, (x / 65_536 % 6) as u8);
+        i += 1;
+    }
+    tally
+}
+
+// Every byte there is.
+fn hear_bytes(tally: Tally) -> Tally {
+    let mut tally = tally;
+    let mut i = 0u64;
+    while i < 256 {
+        tally = hear(tally, i as u8);
+        i += 1;
+    }
+    tally
+}
+
+// Element k of a generator's stream, as the case has it arrive.
+fn arrive(case: Case, tally: Tally, k: u64, element: u8) -> Tally {
+    match case {
+        Case::Damaged => {
+            if k % 997 == 996 {
+                return hear(tally, 3);
+            }
+            hear(tally, element)
+        }
+        Case::Lost => {
+            if k % 997 == 996 {
+                return tally;
+            }
+            hear(tally, element)
+        }
+        Case::Added => {
+            if k % 997 == 996 {
+                return hear(hear(tally, 1), element);
+            }
+            hear(tally, element)
+        }
+        Case::Interrupted => {
+            if k % 50 == 49 {
+                return hear(hear(tally, 9), element);
+            }
+            hear(tally, element)
+        }
+        _ => hear(tally, element),
+    }
+}
+
+// A frame of n elements, the first of them element k of the stream.
+fn hear_frame(case: Case, tally: Tally, frame: &[u8; 100], n: usize, k: u64) -> Tally {
+    let mut tally = tally;
+    let mut i = 0;
+    while i < 100 {
+        if i < n {
+            tally = arrive(case, tally, wrapping_add_u64(k, i as u64), frame[i]);
+        }
+        i += 1;
+    }
+    tally
+}
+
+fn write_part(format: Format, time: Time, control: u64, lent: &mut [u8], n: usize) -> Written {
+    if n < lent.len() {
+        return write(format, time, control, &mut lent[0..n]);
+    }
+    write(format, time, control, lent)
+}
+
+// The array keeps its length where a caller changed it, so that the caller proves nothing.
+fn write_first(
+    format: Format,
+    time: Time,
+    control: u64,
+    lent: &mut [u8; 100],
+    n: usize,
+) -> Written {
+    write_part(format, time, control, lent, n)
+}
+
+// Frame j's control word: as many bits as the format carries, of a number that grows with j.
+fn control_of(format: Format, j: u64) -> u64 {
+    let number = j % 65_536 * 12_345;
+    if 1 < format.expression {
+        return 0;
+    }
+    let letter = format.letter;
+    match letter {
+        b'A' | b'B' => number % 134_217_728,
+        b'D' | b'H' => number % 512,
+        b'E' => number % 35_184_372_088_832,
+        _ => number % 68_719_476_736,
+    }
+}
+
+// Ten steps before the last time of day 365.
+fn first_time(format: Format) -> Time {
+    Time {
+        day: 365,
+        hundredths: Time::DAY_LENGTH - 11 * frame_interval(format),
+    }
+}
+
+// The year's length of step j: day 365 ends with step 10, so Leap goes on to day 366 and Common to day 1.
+fn year_of(case: Case, j: u64) -> u16 {
+    match case {
+        Case::Leap => {
+            if j % 2 == 0 {
+                return 366;
+            }
+            365
+        }
+        Case::Common => {
+            if j % 2 == 0 {
+                return 365;
+            }
+            366
+        }
+        _ => 366,
+    }
+}
+
+// A refused step leaves the time, and the next frame says it again.
+fn time_after(format: Format, time: Time, year: u16) -> Time {
+    let stepped = step(format, time, year);
+    match stepped {
+        Stepped::Next(next) => next,
+        Stepped::Refused(_) => time,
+    }
+}
+
+fn hear_frames(case: Case, format: Format) -> Tally {
+    let n = frame_size(format);
+    let mut tally = fresh(format);
+    let mut time = first_time(format);
+    let mut k = 0;
+    let mut j = 0;
+    while j < FRAMES {
+        let mut frame = [LENT; 100];
+        write_first(format, time, control_of(format, j), &mut frame, n);
+        tally = hear_frame(case, tally, &frame, n, k);
+        time = time_after(format, time, year_of(case, j));
+        k = wrapping_add_u64(k, n as u64);
+        j += 1;
+    }
+    tally
+}
+
+fn heard_in(case: Case, format: Format) -> Tally {
+    match case {
+        Case::Marks
+        | Case::Spoiled
+        | Case::Alternating
+        | Case::Pairs
+        | Case::Fours
+        | Case::Refused
+        | Case::Shaped => hear_symbols(case, format, SYMBOLS),
+        Case::Random => hear_random(format),
+        Case::Place => hear_bytes(tally_from(reader_at(format, frame_size(format)))),
+        _ => hear_frames(case, format),
+    }
+}
+
+fn print_count(name: &[u8], count: u64) {
+    io::write_all(libc::STDOUT_FILENO, name);
+    io::print_decimal(libc::STDOUT_FILENO, count);
+}
+
+fn print_line(name: &[u8], format: Format, tally: Tally) {
+    let letter = [b' ', format.letter];
+    io::write_all(libc::STDOUT_FILENO, name);
+    io::write_all(libc::STDOUT_FILENO, &letter);
+    print_count(b" ", format.expression as u64);
+    print_count(b" elements ", tally.elements);
+    print_count(b" reports ", tally.reports);
+    print_count(b" refused ", tally.refused);
+    print_count(b" sum ", tally.sum);
+    io::write_all(libc::STDOUT_FILENO, b"\n");
+}
+
+fn format_at(i: usize) -> Format {
+    let letters = *b"AAAABBBBDDEEGGHH";
+    let expressions = [0u8, 1, 2, 3, 0, 1, 2, 3, 1, 2, 1, 2, 1, 2, 1, 2];
+    Format {
+        letter: letters[i % 16],
+        expression: expressions[i % 16],
+    }
+}
+
+fn print_lines(name: &[u8], case: Case) {
+    let mut i = 0;
+    while i < FORMATS {
+        let format = format_at(i);
+        print_line(name, format, heard_in(case, format));
+        i += 1;
+    }
+}
+
+fn print_more() {
+    let b0 = Format {
+        letter: b'B',
+        expression: 0,
+    };
+    print_line(b"million", b0, hear_symbols(Case::Marks, b0, 1_000_000));
+    let c0 = Format {
+        letter: b'C',
+        expression: 0,
+    };
+    print_line(b"unknown", c0, hear_bytes(fresh(c0)));
+}
+
+fn main() {
+    print_lines(b"marks", Case::Marks);
+    print_lines(b"spoiled", Case::Spoiled);
+    print_lines(b"alternating", Case::Alternating);
+    print_lines(b"pairs", Case::Pairs);
+    print_lines(b"fours", Case::Fours);
+    print_lines(b"refused", Case::Refused);
+    print_lines(b"shaped", Case::Shaped);
+    print_lines(b"random", Case::Random);
+    print_lines(b"valid", Case::Valid);
+    print_lines(b"damaged", Case::Damaged);
+    print_lines(b"lost", Case::Lost);
+    print_lines(b"added", Case::Added);
+    print_lines(b"interrupted", Case::Interrupted);
+    print_lines(b"leap", Case::Leap);
+    print_lines(b"common", Case::Common);
+    print_lines(b"place", Case::Place);
+    print_more();
+}

@@ -1,0 +1,45 @@
+-- Document 01's third call of the classifier: one pulse classified and fed, number 10, then those of Feed.
+use mathlib.Core.Path.{_≡_}
+use Prim.Native.Nat.{ℕ, _*_, _≤_}
+use native.Mathlib.Omega.{arith}
+use Rattle.timecode.specs.Answers.{check}
+use Rattle.timecode.specs.Calls.{within, symbolOf, isInterval, classifyOf}
+use Rattle.timecode.specs.Laws.Tests.{by-test}
+use Rattle.timecode.specs.declared.Answer.{Answer}
+use Rattle.timecode.specs.declared.Classified.{Classified}
+use Rattle.timecode.specs.declared.Classified.the-variants.{Symbol}
+use Rattle.timecode.specs.declared.Refusal.{Refusal}
+use Rattle.stream.specs.Feeding.{feedOf}
+use Rattle.stream.specs.declared.Fed.{Fed}
+use Rattle.stream.specs.declared.Reader.{Reader}
+
+-- a refusal that hands back the same reader and feeds nothing
+abbrev pub refusedFeed : Reader → Refusal → Fed
+refusedFeed r x = record { reader = r; answer = Answer.Refused x }
+
+unfoldable pub feedPulseOf : Reader → ℕ → ℕ → ℕ → Fed
+feedPulseOf r T width period = check (refusedFeed r) 10 (isInterval T) (feedOf r (symbolOf T width period))
+
+-- the answer by the classifier's
+abbrev pub fedBy : Reader → Classified → Fed
+fedBy r (Symbol s) = feedOf r s
+fedBy r (Classified.Refused x) = refusedFeed r x
+
+pub fed-by : (r : Reader) (T width period : ℕ) → fedBy r (classifyOf T width period) ≡ feedPulseOf r T width period
+unfolding feedPulseOf classifyOf
+fed-by r T width period = by-test (isInterval T) (λ y. rw y) (λ n. rw n)
+
+-- Number 4 cannot occur: the symbol is at most 3.
+pub symbol-small : (T width period : ℕ) → symbolOf T width period ≤ 3
+unfolding symbolOf
+symbol-small T width period =
+    by-test (within (95 * T) (105 * T) (100 * period))
+    (λ p. rw p
+    (by-test (within (15 * T) (25 * T) (100 * width))
+    (λ a. rw a (omega arith))
+    (λ a. rw a
+    (by-test (within (45 * T) (55 * T) (100 * width))
+    (λ b. rw b (omega arith))
+    (λ b. rw b
+    (by-test (within (75 * T) (85 * T) (100 * width)) (λ d. rw d (omega arith)) (λ d. rw d (omega arith))))))))
+    (λ n. rw n (omega arith))

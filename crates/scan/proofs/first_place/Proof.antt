@@ -1,0 +1,14 @@
+-- `first_place` meets its contract.
+use native.Mathlib.Omega.{arith}
+use borrow.Author.Tests.{le-leb, lt-leb}
+use Rattle.scan.proofs.first_place.Statement.{statement}
+use Rattle.scan.proofs.first_place.Tie as tie
+
+returns : tie.Need-returns
+returns c = (rw (le-leb _ _ (c .if1 .taken)), c .if1 .taken)
+
+returns-2 : tie.Need-returns-2
+returns-2 c = (rw (lt-leb _ _ (c .if1 .left)), omega arith)
+
+pub first-place-spec : {M : Type 1} → statement M
+first-place-spec = tie.close (tie.spec returns returns-2)

@@ -1,0 +1,115 @@
+-- `lowest` meets its contract: the places from the one reached on decide.
+use borrow.Author.Needs.{needs}
+use native.Mathlib.Omega.{arith}
+use mathlib.Core.Path.{_≡_, refl, sym, _∙_}
+use Prim.Native.Nat.{_+_, _-_, _≤_}
+use Rattle.scan.specs.Places.{lowestFrom, part-at, refused-here, found-here, passed-over, none-left}
+use Rattle.scan.proofs.lowest.Statement.{statement}
+use Rattle.scan.proofs.lowest.Tie as tie
+
+abbrev Inv-loop : tie.InvT-loop
+Inv-loop format recording first n last place₀ place = (1 ≤ place) × (lowestFrom format recording first ≡ lowestFrom format recording place)
+
+abbrev μ-loop : tie.MeasureT-loop
+μ-loop format recording first n last place₀ place = last + 1 - place
+
+frame-size-requires : tie.Need-frame-size-requires Inv-loop μ-loop
+frame-size-requires c κs = search needs
+
+returns : tie.Need-returns Inv-loop μ-loop
+returns c = sym (none-left (c .before .before .before .args .format) (c .before .before .before .args .recording .now) (c .before .before .before .args .first) (omega (arith, c .before .frame-size .ensures .0)))
+
+sub-last : tie.Need-sub-last Inv-loop μ-loop
+sub-last c = omega arith
+
+loop-holds : tie.Need-loop-holds Inv-loop μ-loop
+loop-holds c = (c .before .before .before .pre, refl)
+
+marks-meet-requires : tie.Need-marks-meet-requires Inv-loop μ-loop
+marks-meet-requires c κs = (omega arith, omega (arith, c .before .before .before .frame-size .ensures))
+
+add-end : tie.Need-add-end Inv-loop μ-loop
+add-end c = omega arith
+
+sub-part : tie.Need-sub-part Inv-loop μ-loop
+sub-part c = omega arith
+
+part-part-start : tie.Need-part-part-start Inv-loop μ-loop
+part-part-start c = omega arith
+
+part-part-end : tie.Need-part-part-end Inv-loop μ-loop
+part-part-end c = omega arith
+
+read-requires : tie.Need-read-requires Inv-loop μ-loop
+read-requires c κs = search needs
+
+enum-known-time : tie.Need-enum-known-time Inv-loop μ-loop
+enum-known-time c = search needs
+
+enum-told : tie.Need-enum-told Inv-loop μ-loop
+enum-told c = search needs
+
+add-place : tie.Need-add-place Inv-loop μ-loop
+add-place c = omega arith
+
+loop-less : tie.Need-loop-less Inv-loop μ-loop
+loop-less c = omega arith
+
+loop-again : tie.Need-loop-again Inv-loop μ-loop
+loop-again c =
+    let start = c .before .before .before .before .before .before .before .before .before .before .before in
+    let n = c .before .before .before .before .before .before .before .before .before .frame-size in
+    let reached = c .before .before .before .before .before .before .before .loop in
+    let said = sym (part-at (start .args .format) (start .args .recording .now) (reached .place) (n .result) (n .ensures .0)) ∙ sym (c .before .before .read .ensures) ∙ c .enum-told .given .1 in
+    (omega arith, reached .inv .1 ∙ refused-here (start .args .format) (start .args .recording .now) (reached .place) (omega (arith, n .ensures .0)) _ said)
+
+returns-2 : tie.Need-returns-2 Inv-loop μ-loop
+returns-2 c =
+    let start = c .before .before .before .before .before .before .before .before .before .before .before .before in
+    let n = c .before .before .before .before .before .before .before .before .before .before .frame-size in
+    let reached = c .before .before .before .before .before .before .before .before .loop in
+    let said = sym (part-at (start .args .format) (start .args .recording .now) (reached .place) (n .result) (n .ensures .0)) ∙ sym (c .before .before .before .read .ensures) ∙ c .before .time .given .1 in
+    sym (reached .inv .1 ∙ found-here (start .args .format) (start .args .recording .now) (reached .place) (omega (arith, n .ensures .0)) (sym (c .before .before .before .before .before .before .marks-meet .ensures) ∙ c .before .before .before .before .before .if2 .taken) _ _ said)
+
+add-place-2 : tie.Need-add-place-2 Inv-loop μ-loop
+add-place-2 c = omega arith
+
+loop-less-2 : tie.Need-loop-less-2 Inv-loop μ-loop
+loop-less-2 c = omega arith
+
+loop-again-2 : tie.Need-loop-again-2 Inv-loop μ-loop
+loop-again-2 c =
+    let start = c .before .before .before .before .before .before .before in
+    (omega arith, c .before .before .before .loop .inv .1 ∙ passed-over (start .args .format) (start .args .recording .now) (c .before .before .before .loop .place) (omega (arith, c .before .before .before .before .before .frame-size .ensures .0)) (sym (c .before .marks-meet .ensures) ∙ c .if2 .left))
+
+returns-3 : tie.Need-returns-3 Inv-loop μ-loop
+returns-3 c =
+    let start = c .before .before .before .before .before in
+    sym (c .before .loop .inv .1 ∙ none-left (start .args .format) (start .args .recording .now) (c .before .loop .place) (omega (arith, c .before .before .before .frame-size .ensures .0)))
+
+pub lowest-spec : {M : Type 1} → statement M
+lowest-spec =
+    tie.close
+    (tie.spec
+    Inv-loop
+    μ-loop
+    frame-size-requires
+    returns
+    sub-last
+    loop-holds
+    marks-meet-requires
+    add-end
+    sub-part
+    part-part-start
+    part-part-end
+    read-requires
+    enum-known-time
+    enum-told
+    add-place
+    loop-less
+    loop-again
+    returns-2
+    add-place-2
+    loop-less-2
+    loop-again-2
+    returns-3)
