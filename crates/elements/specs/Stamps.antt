@@ -1,9 +1,9 @@
 -- Single stores into a frame: marks, and the bits of one digit.
 use mathlib.Core.Path.{_≡_, refl, sym, ap, _∙_}
-use mathlib.Core.Bool.{Bool, true, false, cond, not, _&&_, _||_, or-false, or-assoc}
+use mathlib.Core.Bool.{Bool, true, false, cond, not, _||_, or-false, or-assoc}
 use mathlib.Core.List.{List, [], _∷_, _++_}
-use Prim.Native.Nat.{ℕ, zero, suc, _+_, _-_, _/_, _%_, _^_, _<_, _≤_}
-use native.Mathlib.Nat.{zero-add, not-suc-le-zero}
+use Prim.Native.Nat.{ℕ, _+_, _-_, _/_, _%_, _^_, _<_, _≤_}
+use native.Mathlib.Nat.{zero-add}
 use native.Mathlib.Numerals.{add-one}
 use native.Mathlib.Omega.{arith}
 use native.Mathlib.Decide.{ℕ-discrete}
@@ -13,7 +13,7 @@ use lib.ListN.{getD, length, take, set, length-set}
 use lib.Seq.{ext-getD, getD-set-same, getD-set-other, take-suc}
 use Rattle.timecode.specs.Formats.{member}
 use Rattle.timecode.specs.Laws.Runs.{length-tabulate, getD-tabulate, tabulate-same, tabulate-self}
-use Rattle.timecode.specs.Laws.Tests.{by-test, and-left, and-right, or-second}
+use Rattle.timecode.specs.Laws.Tests.{by-test, or-second, everyBelow, below-every}
 use Rattle.timecode.specs.Layout.{Run, inRun, isMark, rest, symbolAt, tabulate, encode}
 use Rattle.timecode.specs.declared.Format.{Format}
 use Rattle.layout.specs.Tables.{markPlaces}
@@ -57,19 +57,6 @@ mark-step n k h =
     set-tabulate n p 2 (markedTo k) (markedTo (k + 1))
     (λ b. ap (λ (t : Bool). cond t 2 0) (split p ∙ or-second (member p (take k markPlaces)) (eqb p p) (eq-eqb p p refl)))
     (λ i b o. ap (λ (t : Bool). cond t 2 0) (split i ∙ ap (λ (t : Bool). member i (take k markPlaces) || t) (ne-eqb i p o) ∙ or-false (member i (take k markPlaces))))
-
--- a test that every number below n passes
-abbrev everyBelow : ℕ → (ℕ → Bool) → Bool
-everyBelow zero p = true
-everyBelow (suc n) p = p n && everyBelow n p
-
-below-every : (n : ℕ) (p : ℕ → Bool) → everyBelow n p ≡ true → (k : ℕ) → k < n → p k ≡ true
-below-every zero p h k l = absurd (not-suc-le-zero l)
-below-every (suc n) p h k l = go (ℕ-discrete k n) (below-every n p (and-right (p n) (everyBelow n p) h) k)
-  where
-    go : Dec (k ≡ n) → (k < n → p k ≡ true) → p k ≡ true
-    go (yes q) later = rw q (and-left (p n) (everyBelow n p) h)
-    go (no q) later = later (omega arith)
 
 abbrev alike : Bool → Bool → Bool
 alike true b = b

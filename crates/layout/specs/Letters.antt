@@ -10,8 +10,7 @@ use lib.ListN.{set}
 use Rattle.timecode.specs.Formats.{member, A, B, D, E, G, H, table, noRow, lookUp, rowOf, carriesControl, carriesSeconds}
 use Rattle.timecode.specs.Laws.Tests.{by-test}
 use Rattle.timecode.specs.Layout.{tabulate, seconds, minutes, hours, days, tenths, hundredths, hasSeconds, straightSeconds, controlRange, control, timeFields, fields, runs}
-use Rattle.timecode.specs.declared.Format.{Format}
-use Rattle.layout.specs.Tables.{startsOf, widthsOf, with-letter}
+use Rattle.layout.specs.Tables.{widthsOf, with-letter}
 
 -- e is one of the n numbers from a on, of which last is the last
 pub in-row : (n a last : ℕ) → a + n ≡ suc last → (e : ℕ) → member e (tabulate n a (λ (j : ℕ). j)) ≡ (leb a e && leb e last)
@@ -65,10 +64,6 @@ other-widths l o =
     )
 
 -- ---- what each expression carries, from what expression 0 does
-
-pub starts-same : (f g : Format) → startsOf f ≡ startsOf g
-unfolding startsOf runs fields timeFields seconds minutes hours days tenths hundredths straightSeconds control controlRange
-starts-same f g = refl
 
 abbrev pub clearSeconds : List ℕ → List ℕ
 clearSeconds ws = set (set ws 11 0) 12 0

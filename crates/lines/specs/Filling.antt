@@ -146,3 +146,43 @@ counted-turn number rest k h c = go (ℕ-discrete k 20)
 
 pub counted-end : (number rest k : ℕ) → rest < 10 → Counted number rest k → k ≡ placesOf number
 counted-end number rest k h c = omega (arith, c .total, c .some, places-last (20 - k) rest h)
+
+-- ---- a number below 10^20 has so many digits, and no fewer do: the first is no zero, but where it is the only one
+
+suc-pred : (p : ℕ) → suc p - 1 ≡ p
+suc-pred p = omega arith
+
+places-some : (k number : ℕ) → 1 ≤ placesIn k number
+unfolding placesIn
+places-some zero number = omega arith
+places-some (suc k) number = by-test (ltb number 10) (λ y. rw y (omega arith)) (λ m. rw m (omega arith))
+
+no-zero : (k number : ℕ) → 10 ≤ number → (1 < placesIn k (number / 10) → 10 ^ (placesIn k (number / 10) - 1) ≤ number / 10) → 10 ^ placesIn k (number / 10) ≤ number
+no-zero k number h more = go (ℕ-discrete (placesIn k (number / 10)) 1)
+  where
+    go : Dec (placesIn k (number / 10) ≡ 1) → 10 ^ placesIn k (number / 10) ≤ number
+    go (yes e) = rw e h
+    go (no n) =
+        let least = more (omega (arith, places-some k (number / 10), n)) in
+        let one-more : placesIn k (number / 10) ≡ suc (placesIn k (number / 10) - 1) = omega (arith, places-some k (number / 10)) in
+        let power : 10 ^ placesIn k (number / 10) ≡ 10 ^ (placesIn k (number / 10) - 1) * 10 = ap (λ (p : ℕ). 10 ^ p) one-more ∙ pow-suc 10 (placesIn k (number / 10) - 1) in
+        omega (arith, least, power)
+
+fewest-in : (k number : ℕ) → number < 10 ^ suc k → (number < 10 ^ placesIn k number) × (1 < placesIn k number → 10 ^ (placesIn k number - 1) ≤ number)
+unfolding placesIn
+fewest-in zero number h = (h, λ b. let n : ⊥ = omega arith in absurd n)
+fewest-in (suc k) number h =
+    by-test (ltb number 10)
+    (λ y. rw y (ltb-true number 10 y, λ b. let n : ⊥ = omega arith in absurd n))
+    (λ m.
+    let ten = ltb-false number 10 m in
+    let rest : number / 10 < 10 ^ suc k = div-lt-iff-lt-mul {k = 10} {x = number} {y = 10 ^ suc k} (omega arith) .1 (rw (pow-suc 10 (suc k)) at h) in
+    let more = fewest-in k (number / 10) rest in
+    rw (m, pow-suc 10 (placesIn k (number / 10))) (
+      div-lt-iff-lt-mul {k = 10} {x = number} {y = 10 ^ placesIn k (number / 10)} (omega arith) .0 (more .0),
+      λ b. rw (suc-pred (placesIn k (number / 10))) (no-zero k number ten (more .1)),
+    ))
+
+pub fewest : (number : ℕ) → number < 10 ^ 20 → (number < 10 ^ placesOf number) × (1 < placesOf number → 10 ^ (placesOf number - 1) ≤ number)
+unfolding placesOf
+fewest number h = fewest-in 19 number h

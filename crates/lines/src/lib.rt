@@ -82,8 +82,7 @@ fn put_clock(line: &mut [u8], at: usize, hundredths: u32) -> usize
     put_pair(line, second, c % 100, b' ')
 }
 
-// The line of a report: how many bytes of the lent line it is.
-pub fn report_line(line: &mut [u8], element: u64, time: Time, control: u64) -> usize
+fn put_report(line: &mut [u8], element: u64, time: Time, control: u64) -> usize
     requires { ⌜ length (now line) ≡ 64 ⌝ }
     ensures { λ r. ⌜ (r ≤ 64) × (take r (now (line .exit)) ≡ reportLine element time control) ⌝ }
 {
@@ -110,8 +109,7 @@ fn put_text(line: &mut [u8], at: usize, text: &[u8]) -> usize
     end
 }
 
-// The last line: how many elements and reports there were.
-pub fn counts_line(line: &mut [u8], elements: u64, reports: u64) -> usize
+fn put_counts(line: &mut [u8], elements: u64, reports: u64) -> usize
     requires { ⌜ length (now line) ≡ 64 ⌝ }
     ensures { λ r. ⌜ (r ≤ 64) × (take r (now (line .exit)) ≡ countsLine elements reports) ⌝ }
 {
@@ -122,12 +120,32 @@ pub fn counts_line(line: &mut [u8], elements: u64, reports: u64) -> usize
     put(line, last, b'\n')
 }
 
-// The line of a refusal, with document 01's number.
-pub fn refused_line(line: &mut [u8], number: u64) -> usize
+fn put_refused(line: &mut [u8], number: u64) -> usize
     requires { ⌜ length (now line) ≡ 64 ⌝ }
     ensures { λ r. ⌜ (r ≤ 64) × (take r (now (line .exit)) ≡ refusedLine number) ⌝ }
 {
     let first = put_text(line, 0, b"refused ");
     let last = put_decimal(line, first, number);
     put(line, last, b'\n')
+}
+
+// The line of a report: how many bytes of the lent line it is.
+pub fn report_line(line: &mut [u8; 64], element: u64, time: Time, control: u64) -> usize
+    ensures { λ r. ⌜ (r ≤ 64) × (take r (now (line .exit)) ≡ reportLine element time control) ⌝ }
+{
+    put_report(line, element, time, control)
+}
+
+// The last line: how many elements and reports there were.
+pub fn counts_line(line: &mut [u8; 64], elements: u64, reports: u64) -> usize
+    ensures { λ r. ⌜ (r ≤ 64) × (take r (now (line .exit)) ≡ countsLine elements reports) ⌝ }
+{
+    put_counts(line, elements, reports)
+}
+
+// The line of a refusal, with document 01's number.
+pub fn refused_line(line: &mut [u8; 64], number: u64) -> usize
+    ensures { λ r. ⌜ (r ≤ 64) × (take r (now (line .exit)) ≡ refusedLine number) ⌝ }
+{
+    put_refused(line, number)
 }

@@ -95,9 +95,5 @@ heard-shifted s ws j h b =
     rw (word, place, top, shift-at s ws (suc (j / 32)) (omega arith))
     (ap (λ (x : ℕ). x % 4) (div-one (getD ws (suc (j / 32)) 0 % 4611686018427387904 * 4 + getD ws (j / 32) 0 / 4611686018427387904 % 4)) ∙ omega arith))
 
-pub heard-small : (ws : List ℕ) (back : ℕ) → heardAt ws back < 4
-unfolding heardAt
-heard-small ws back = omega arith
-
 pub heard-earlier : (r : Register) (s j : ℕ) → suc j < 224 → heardAt (wordsOf (pushOf r s)) (suc j) ≡ heardAt (wordsOf r) j
 heard-earlier r s j b = ap (λ (ws : List ℕ). heardAt ws (suc j)) (words-pushed r s) ∙ heard-shifted (s % 4) (wordsOf r) j (omega arith) (omega arith)

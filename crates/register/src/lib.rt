@@ -15,10 +15,6 @@ pub struct Register {
     pub word6: u64,
 }
 
-impl Register {
-    pub const SYMBOLS: usize = 224;
-}
-
 // 2^62: what a word holds below its oldest symbol
 const OLDEST: u64 = 4_611_686_018_427_387_904;
 

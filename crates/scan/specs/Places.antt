@@ -1,5 +1,5 @@
 -- The places that Scan looks at, one turn after another: `lowestOf` where a frame fits, and where none fits any more.
-use mathlib.Core.Path.{_≡_, refl, sym, _∙_}
+use mathlib.Core.Path.{_≡_, sym, _∙_}
 use mathlib.Core.Bool.{Bool, true, false, _&&_}
 use mathlib.Core.List.{List}
 use Prim.Native.Nat.{ℕ, suc, _+_, _-_, _<_, _≤_}
@@ -13,6 +13,7 @@ use lib.Seq.{getD-take, getD-drop}
 use Rattle.timecode.specs.Calls.{partAt, found, lowestOf}
 use Rattle.timecode.specs.Formats.{size}
 use Rattle.timecode.specs.Frames.{readOf}
+use Rattle.timecode.specs.Laws.Checks.{by-reading}
 use Rattle.timecode.specs.Laws.Marks.{size-positive, accepted-first}
 use Rattle.timecode.specs.Laws.Tests.{by-test, and-right}
 use Rattle.timecode.specs.declared.Format.{Format}
@@ -33,10 +34,6 @@ lowestFrom f recording a = lowestOf f recording (placesFrom f recording a) a
 -- a mark at the place and before it
 abbrev pub marksMeet : List ℕ → ℕ → Bool
 marksMeet recording a = eqb (getD recording a 0) 2 && eqb (getD recording (a - 1) 0) 2
-
-by-reading : {P : Type 0} (r : Reading) → ((x : Refusal) → r ≡ Reading.Refused x → P) → ((t : Time) (w : ℕ) → r ≡ Accepted t w → P) → P
-by-reading (Reading.Refused x) g h = g x refl
-by-reading (Accepted t w) g h = h t w refl
 
 part-first : (f : Format) (recording : List ℕ) (a : ℕ) → getD (partAt f recording a) 0 0 ≡ getD recording a 0
 unfolding partAt

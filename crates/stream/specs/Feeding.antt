@@ -1,11 +1,11 @@
 -- What the program's reader is, and what a Feed makes of it, for every reader and symbol.
 use mathlib.Core.Path.{_≡_}
 use mathlib.Core.Bool.{Bool, true, cond, _&&_}
-use mathlib.Core.List.{List}
+use mathlib.Core.List.{List, []}
 use Prim.Native.Nat.{ℕ, _+_, _%_, _<_}
 use borrow.Author.Tests.{ltb-true}
 use lib.Dec.{ltb}
-use Rattle.timecode.specs.Answers.{check}
+use Rattle.timecode.specs.Answers.{check, Said, said, refused}
 use Rattle.timecode.specs.Formats.{isSymbol, known, size}
 use Rattle.timecode.specs.Laws.Tests.{and-right}
 use Rattle.timecode.specs.Stream.{windowLength, windowAnswer}
@@ -37,6 +37,11 @@ freshReader f = record { format = f; place = 0; heard = silence }
 -- Making a fresh reader checks 1.
 unfoldable pub madeOf : Format → Made
 madeOf f = check Made.Refused 1 (known f) (Made.Fresh (freshReader f))
+
+-- what making a reader says: document 01 gives no value with it
+abbrev pub madeSaid : Made → Said
+madeSaid (Made.Fresh r) = said []
+madeSaid (Made.Refused x) = refused x
 
 -- number 13: letter and expression are known, the place is below n
 unfoldable pub isValid : Reader → Bool

@@ -1,9 +1,9 @@
 -- Demand 3, of the program's reader: from a fresh reader of any format, the answers to any list of Feeds are the plain machine's.
 use mathlib.Core.Path.{_≡_, refl, sym, ap, ap₂, _∙_}
-use mathlib.Core.Bool.{Bool, true, cond, _&&_}
+use mathlib.Core.Bool.{true, cond}
 use mathlib.Core.List.{List, [], _∷_, _++_}
 use Prim.Native.Nat.{ℕ, zero, suc, _+_, _*_, _-_, _%_, _<_, _≤_}
-use native.Mathlib.Nat.{not-suc-le-zero, mod-lt, zero-mod, mod-add-mod}
+use native.Mathlib.Nat.{mod-lt, zero-mod, mod-add-mod}
 use native.Mathlib.Omega.{arith}
 use native.Mathlib.Decide.{decLe}
 use borrow.Author.Tests.{lt-ltb, le-ltb, le-leb, lt-leb, ltb-true, ltb-false, eqb-true}
@@ -15,7 +15,7 @@ use Rattle.timecode.specs.Formats.{known, size}
 use Rattle.timecode.specs.Laws.Machine.{feed-accepts, feed-refuses, answer-long, answer-short}
 use Rattle.timecode.specs.Laws.Marks.{size-positive}
 use Rattle.timecode.specs.Laws.Table.{size-range}
-use Rattle.timecode.specs.Laws.Tests.{by-test, and-left, and-right}
+use Rattle.timecode.specs.Laws.Tests.{by-test, everyBelow, below-every}
 use Rattle.timecode.specs.Stream.{windowLength, windowAnswer, lastOf, plainAnswer, plainFeed, plainAnswers, plainHeld, elementsOf}
 use Rattle.timecode.specs.declared.Answer.{Answer}
 use Rattle.timecode.specs.declared.Answer.the-variants.{Quiet}
@@ -44,24 +44,13 @@ backIn held back = cond (ltb back (length held)) (getD held (length held - 1 - b
 abbrev Shows : Register → List ℕ → Type 0
 Shows r held = (back : ℕ) → back < 224 → heardAt (wordsOf r) back ≡ backIn held back
 
-abbrev everyBelow : ℕ → (ℕ → Bool) → Bool
-everyBelow zero p = true
-everyBelow (suc n) p = p n && everyBelow n p
-
-below-at : (n : ℕ) (p : ℕ → Bool) → everyBelow n p ≡ true → (i : ℕ) → i < n → p i ≡ true
-below-at zero p h i b = absurd (not-suc-le-zero b)
-below-at (suc n) p h i b =
-    by-test (ltb i n)
-    (λ y. below-at n p (and-right (p n) (everyBelow n p) h) i (ltb-true i n y))
-    (λ m. let last : i ≡ n = omega (arith, ltb-false i n m) in rw last (and-left (p n) (everyBelow n p) h))
-
 all-spoiled : everyBelow 224 (λ back. eqb (heardAt (wordsOf silence) back) 3) ≡ true
 unfolding heardAt
 all-spoiled = refl
 
 silence-shows : Shows silence []
 silence-shows back b =
-    eqb-true (heardAt (wordsOf silence) back) 3 (below-at 224 (λ back. eqb (heardAt (wordsOf silence) back) 3) all-spoiled back b) ∙ rw (le-ltb back 0 (omega arith))
+    eqb-true (heardAt (wordsOf silence) back) 3 (below-every 224 (λ back. eqb (heardAt (wordsOf silence) back) 3) all-spoiled back b) ∙ rw (le-ltb back 0 (omega arith))
 
 push-shows : (r : Register) (held : List ℕ) (s : ℕ) → s ≤ 3 → Shows r held → Shows (pushOf r s) (held ++ (s ∷ []))
 push-shows r held s b h zero l =

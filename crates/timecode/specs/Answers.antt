@@ -85,10 +85,11 @@ index InvalidYearLength = []
 index StartPastEnd = []
 index InvalidReader = []
 
-abbrev refused : Refusal → Said
+-- a refusal carries its number, with 5 and 6 the index, and no value beside
+abbrev pub refused : Refusal → Said
 refused r = record { number = number r; values = index r }
 
-abbrev said : List ℤ → Said
+abbrev pub said : List ℤ → Said
 said vs = record { number = 0; values = vs }
 
 abbrev pub writtenSaid : Written → Said

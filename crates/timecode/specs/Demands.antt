@@ -12,7 +12,7 @@ use Rattle.timecode.specs.Answers.{refusal}
 use Rattle.timecode.specs.Calls.{scanOf}
 use Rattle.timecode.specs.Formats.{size, onFormat}
 use Rattle.timecode.specs.Frames.{Follows, nextAfter, writeOf, writeLeaves, readOf, Sent, Generator, elements}
-use Rattle.timecode.specs.Laws.Checks.{accepted}
+use Rattle.timecode.specs.Laws.Checks.{accepted, by-reading}
 use Rattle.timecode.specs.Laws.Existence.{frames, length-frames, control-at, first-time, generator}
 use Rattle.timecode.specs.Laws.Generators.{sentAt, length-elements, EndsFrame}
 use Rattle.timecode.specs.Laws.Machine.{feed-accepts, feed-refuses, EndsInFrames, held-elements, answer-no-refusal, feed-reports, SameWindow, same-answer, same-answers, answers-behind}
@@ -57,12 +57,8 @@ accepted-exactly-when-written f bytes t w = (
 pub refused-exactly-when-unwritten : (f : Format) (bytes : List ℕ) → ((r : Refusal) × (readOf f bytes ≡ Reading.Refused r)) ↔ ((t : Time) (w : ℕ) → Writes f t w bytes → ⊥)
 refused-exactly-when-unwritten f bytes = (
   λ refused t w writes. accepted t w (refused .0) (sym (refused .1) ∙ accepted-exactly-when-written f bytes t w .1 writes),
-  λ none. by-reading (readOf f bytes) refl none,
+  λ none. by-reading (readOf f bytes) (λ x h. (x, h)) (λ t w h. absurd (none t w (accepted-exactly-when-written f bytes t w .0 h))),
 )
-  where
-    by-reading : (r : Reading) → readOf f bytes ≡ r → ((t : Time) (w : ℕ) → Writes f t w bytes → ⊥) → (x : Refusal) × (readOf f bytes ≡ Reading.Refused x)
-    by-reading (Reading.Refused x) h none = (x, h)
-    by-reading (Accepted t w) h none = absurd (none t w (accepted-exactly-when-written f bytes t w .0 h))
 
 -- ---- Demand 3, of the plain machine. A list of Feeds starts with a fresh one, which holds nothing.
 

@@ -1,7 +1,6 @@
 -- `unsigned` is safe: a number that is not negative fits a u64.
 use borrow.Author.Needs.{needs}
 use native.Mathlib.Omega.{arith}
-use Prim.Native.Nat.{suc}
 use lib.IntN.{ℤ, pos, negsuc, natAbs}
 use lib.Signed.{yes-nonNeg}
 use mir.Syntax.{w64}

@@ -1,9 +1,8 @@
 -- `answer_to` meets its contract: no window ends in another symbol than a mark.
 use borrow.Author.Needs.{needs}
-use mathlib.Core.Path.{_≡_, refl, sym, ap, ap₂, _∙_, subst}
-use borrow.Author.Tests.{lt-ltb, le-ltb, le-leb, lt-leb, eq-eqb, ne-eqb}
-use Rattle.stream.specs.Feeding.{freshReader, madeOf, isValid, nextOf, windowIn, answerOf, feedOf}
-use Rattle.stream.specs.Marked.{marksStand, marks-lead, marked-answer, unmarked-quiet, other-quiet}
+use borrow.Author.Tests.{le-leb, lt-leb}
+use Rattle.stream.specs.Feeding.{answerOf}
+use Rattle.stream.specs.Marked.{other-quiet}
 use Rattle.stream.proofs.answer_to.Statement.{statement}
 use Rattle.stream.proofs.answer_to.Tie as tie
 

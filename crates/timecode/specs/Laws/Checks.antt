@@ -48,3 +48,8 @@ quiet-no-report t w h = absurd (no-path cc)
 
 pub refused-no-report : {P : Type 0} (r : Refusal) (t : Time) (w : ℕ) → Answer.Refused r ≡ Report t w → P
 refused-no-report r t w h = absurd (no-path cc)
+
+-- a reading is a refusal or a time and a control word
+pub by-reading : {P : Type 0} (r : Reading) → ((x : Refusal) → r ≡ Reading.Refused x → P) → ((t : Time) (w : ℕ) → r ≡ Accepted t w → P) → P
+by-reading (Reading.Refused x) refused taken = refused x refl
+by-reading (Accepted t w) refused taken = taken t w refl

@@ -12,11 +12,10 @@ use lib.ListN.{getD, length, drop, length-take, length-drop}
 use Rattle.timecode.specs.Calls.{partAt, found, lowestOf, firstPlace, scanOf}
 use Rattle.timecode.specs.Formats.{known, size}
 use Rattle.timecode.specs.Frames.{readOf}
-use Rattle.timecode.specs.Laws.Checks.{passed, passes, accepted}
+use Rattle.timecode.specs.Laws.Checks.{passed, passes, accepted, by-reading}
 use Rattle.timecode.specs.Laws.Marks.{size-positive, accepted-length}
 use Rattle.timecode.specs.Laws.Tests.{by-test}
 use Rattle.timecode.specs.declared.Format.{Format}
-use Rattle.timecode.specs.declared.Reading.{Reading}
 use Rattle.timecode.specs.declared.Reading.the-variants.{Accepted}
 use Rattle.timecode.specs.declared.Refusal.{Refusal}
 use Rattle.timecode.specs.declared.Scanned.{Scanned}
@@ -30,10 +29,6 @@ pub record Fits (f : Format) (recording : List ℕ) (a : ℕ) (t : Time) (w : �
 
 abbrev pub NoFit : Format → List ℕ → ℕ → Type 0
 NoFit f recording a = (t : Time) (w : ℕ) → Fits f recording a t w → ⊥
-
-by-reading : {P : Type 0} (r : Reading) → ((x : Refusal) → r ≡ Reading.Refused x → P) → ((t : Time) (w : ℕ) → r ≡ Accepted t w → P) → P
-by-reading (Reading.Refused x) refused taken = refused x refl
-by-reading (Accepted t w) refused taken = taken t w refl
 
 module _ (f : Format) (recording : List ℕ) where
   -- a fit at the first place is the answer

@@ -1,6 +1,11 @@
 -- Tests as equations: small laws of Bool.
 use mathlib.Core.Path.{_≡_, refl, sym, _∙_}
 use mathlib.Core.Bool.{Bool, true, false, _&&_, _||_, true≢false, false≢true}
+use Prim.Native.Nat.{ℕ, zero, suc, _<_}
+use native.Mathlib.Nat.{not-suc-le-zero}
+use native.Mathlib.Omega.{arith}
+use borrow.Author.Tests.{ltb-true, ltb-false}
+use lib.Dec.{ltb}
 
 pub by-test {ℓ} : {P : Type ℓ} (b : Bool) → (b ≡ true → P) → (b ≡ false → P) → P
 by-test true f g = f refl
@@ -38,3 +43,15 @@ neither-first false b h = refl
 pub neither-second : (a b : Bool) → (a || b) ≡ false → b ≡ false
 neither-second true b h = absurd (true≢false h)
 neither-second false b h = h
+
+-- a test that every number below n passes
+abbrev pub everyBelow : ℕ → (ℕ → Bool) → Bool
+everyBelow zero p = true
+everyBelow (suc n) p = p n && everyBelow n p
+
+pub below-every : (n : ℕ) (p : ℕ → Bool) → everyBelow n p ≡ true → (i : ℕ) → i < n → p i ≡ true
+below-every zero p h i b = absurd (not-suc-le-zero b)
+below-every (suc n) p h i b =
+    by-test (ltb i n)
+    (λ y. below-every n p (and-right (p n) (everyBelow n p) h) i (ltb-true i n y))
+    (λ m. let last : i ≡ n = omega (arith, ltb-false i n m) in rw last (and-left (p n) (everyBelow n p) h))

@@ -1,11 +1,11 @@
--- `counts_line` meets its contract: its texts, one behind another.
+-- `put_counts` meets its contract: its texts, one behind another.
 use borrow.Author.Needs.{needs}
 use native.Mathlib.Omega.{arith}
 use mathlib.Core.List.{[], _∷_}
 use Rattle.lines.specs.Filling.{onto-together}
 use Rattle.lines.specs.Text.{decimal, countsLine}
-use Rattle.lines.proofs.counts_line.Statement.{statement}
-use Rattle.lines.proofs.counts_line.Tie as tie
+use Rattle.lines.proofs.put_counts.Statement.{statement}
+use Rattle.lines.proofs.put_counts.Tie as tie
 
 slice-aggregate-put-text : tie.Need-slice-aggregate-put-text
 slice-aggregate-put-text c = search needs
@@ -37,8 +37,8 @@ returns c =
     let start = c .before .before .before .before .before .before .before .before .before .before .before .before .before .before .before .before .before .before .before .before .before .before .before in
     (omega (arith, c .before .before .before .before .before .before .before .before .before .before .before .before .before .before .before .before .before .before .before .put-text .ensures .0, c .before .before .before .before .before .before .before .before .before .before .before .before .before .before .before .put-decimal .ensures .0, c .before .before .before .before .before .before .before .before .before .before .put-text2 .ensures .0, c .before .before .before .before .before .before .put-decimal2 .ensures .0, c .before .before .put .ensures .0), rw (c .before .before .put .ensures .2, c .before .before .before .before .before .before .put-decimal2 .ensures .2, c .before .before .before .before .before .before .before .before .before .before .put-text2 .ensures .2, c .before .before .before .before .before .before .before .before .before .before .before .before .before .before .before .put-decimal .ensures .2, c .before .before .before .before .before .before .before .before .before .before .before .before .before .before .before .before .before .before .before .put-text .ensures .2) (onto-together [] ((101 ∷ 108 ∷ 101 ∷ 109 ∷ 101 ∷ 110 ∷ 116 ∷ 115 ∷ 32 ∷ []) ∷ decimal (start .args .elements) ∷ (32 ∷ 114 ∷ 101 ∷ 112 ∷ 111 ∷ 114 ∷ 116 ∷ 115 ∷ 32 ∷ []) ∷ decimal (start .args .reports) ∷ (10 ∷ []) ∷ [])))
 
-pub counts-line-spec : {M : Type 1} → statement M
-counts-line-spec =
+pub put-counts-spec : {M : Type 1} → statement M
+put-counts-spec =
     tie.close
     (tie.spec
     slice-aggregate-put-text

@@ -1,11 +1,11 @@
--- `report_line` meets its contract: its texts, one behind another.
+-- `put_report` meets its contract: its texts, one behind another.
 use borrow.Author.Needs.{needs}
 use native.Mathlib.Omega.{arith}
 use mathlib.Core.List.{[], _∷_}
 use Rattle.lines.specs.Filling.{onto-together}
 use Rattle.lines.specs.Text.{digitsOf, decimal, clockOf, reportLine}
-use Rattle.lines.proofs.report_line.Statement.{statement}
-use Rattle.lines.proofs.report_line.Tie as tie
+use Rattle.lines.proofs.put_report.Statement.{statement}
+use Rattle.lines.proofs.put_report.Tie as tie
 
 cast-day : tie.Need-cast-day
 cast-day c = search needs
@@ -43,8 +43,8 @@ returns c =
     let w = start .args .control in
     (omega (arith, c .before .before .before .before .before .before .before .before .before .before .before .before .before .before .before .before .before .before .before .before .before .before .before .before .before .before .put-decimal .ensures .0, c .before .before .before .before .before .before .before .before .before .before .before .before .before .before .before .before .before .before .before .before .before .before .put .ensures .0, c .before .before .before .before .before .before .before .before .before .before .before .before .before .before .before .before .before .before .put-digits .ensures .0, c .before .before .before .before .before .before .before .before .before .before .before .before .before .before .put2 .ensures .0, c .before .before .before .before .before .before .before .before .before .before .put-clock .ensures .0, c .before .before .before .before .before .before .put-digits2 .ensures .0, c .before .before .put3 .ensures .0), rw (c .before .before .put3 .ensures .2, c .before .before .before .before .before .before .put-digits2 .ensures .2, c .before .before .before .before .before .before .before .before .before .before .put-clock .ensures .2, c .before .before .before .before .before .before .before .before .before .before .before .before .before .before .put2 .ensures .2, c .before .before .before .before .before .before .before .before .before .before .before .before .before .before .before .before .before .before .put-digits .ensures .2, c .before .before .before .before .before .before .before .before .before .before .before .before .before .before .before .before .before .before .before .before .before .before .put .ensures .2, c .before .before .before .before .before .before .before .before .before .before .before .before .before .before .before .before .before .before .before .before .before .before .before .before .before .before .put-decimal .ensures .2) (onto-together [] (decimal e ∷ (32 ∷ []) ∷ digitsOf 10 3 (t .day) ∷ (32 ∷ []) ∷ clockOf (t .hundredths) ∷ digitsOf 16 12 w ∷ (10 ∷ []) ∷ [])))
 
-pub report-line-spec : {M : Type 1} → statement M
-report-line-spec =
+pub put-report-spec : {M : Type 1} → statement M
+put-report-spec =
     tie.close
     (tie.spec
     cast-day

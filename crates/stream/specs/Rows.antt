@@ -1,0 +1,31 @@
+-- Document 01's example of number 13, that of 1 for a fresh reader and that of 4 for Feed, and the order of Feed's checks.
+use mathlib.Core.Path.{_≡_, refl}
+use mathlib.Core.List.{List, [], _∷_}
+use Prim.Native.Nat.{ℕ}
+use Rattle.timecode.specs.Answers.{Said, said, refused, answerSaid}
+use Rattle.timecode.specs.Formats.{D, H, table, lookUp, rowOf, known, size}
+use Rattle.timecode.specs.declared.Format.{Format}
+use Rattle.timecode.specs.declared.Refusal.the-variants.{UnknownFormat, UnknownSymbol, InvalidReader}
+use Rattle.stream.specs.Feeding.{silence, freshReader, madeOf, madeSaid, isValid, answerOf}
+use Rattle.stream.specs.declared.Reader.{Reader}
+
+abbrev format : ℕ → ℕ → Format
+format letter expression = record { letter = letter; expression = expression }
+
+-- a reader at that place
+abbrev at : Format → ℕ → Reader
+at f place = record { format = f; place = place; heard = silence }
+
+abbrev saids : List Said
+saids =
+    madeSaid (madeOf (format D 0))
+    ∷ madeSaid (madeOf (format H 1))
+    ∷ answerSaid (answerOf (at (format H 1) 60) 0)
+    ∷ answerSaid (answerOf (at (format D 0) 0) 0)
+    ∷ answerSaid (answerOf (freshReader (format H 1)) 7)
+    ∷ answerSaid (answerOf (at (format H 1) 60) 7)
+    ∷ []
+
+pub reader-rows : saids ≡ refused UnknownFormat ∷ said [] ∷ refused InvalidReader ∷ refused InvalidReader ∷ refused UnknownSymbol ∷ refused InvalidReader ∷ []
+unfolding madeOf answerOf isValid known size rowOf lookUp table
+reader-rows = refl
