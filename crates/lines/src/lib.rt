@@ -8,8 +8,8 @@ use timecode::Time;
 
 // No line is longer than 64 bytes: the longest, of the counts, has at most 59.
 fn put(line: &mut [u8], at: usize, byte: u8) -> usize
-    requires { ⌜ (at < 64) × (length (now line) ≡ 64) ⌝ }
-    ensures { λ r. ⌜ (r ≡ at + 1) × (length (now (line .exit)) ≡ 64) × (take r (now (line .exit)) ≡ take at (now (line .entry)) ++ (byte ∷ [])) ⌝ }
+    requires { ⌜ at < length (now line) ⌝ }
+    ensures { λ r. ⌜ (r ≡ at + 1) × (length (now (line .exit)) ≡ length (now (line .entry))) × (take r (now (line .exit)) ≡ take at (now (line .entry)) ++ (byte ∷ [])) ⌝ }
 {
     line[at] = byte;
     at + 1
@@ -84,7 +84,7 @@ fn put_clock(line: &mut [u8], at: usize, hundredths: u32) -> usize
 
 fn put_report(line: &mut [u8], element: u64, time: Time, control: u64) -> usize
     requires { ⌜ length (now line) ≡ 64 ⌝ }
-    ensures { λ r. ⌜ (r ≤ 64) × (take r (now (line .exit)) ≡ reportLine element time control) ⌝ }
+    ensures { λ r. ⌜ (r ≤ 64) × (length (now (line .exit)) ≡ 64) × (take r (now (line .exit)) ≡ reportLine element time control) ⌝ }
 {
     let day = time.day as u64;
     let number = put_decimal(line, 0, element);
@@ -96,9 +96,10 @@ fn put_report(line: &mut [u8], element: u64, time: Time, control: u64) -> usize
     put(line, word, b'\n')
 }
 
-fn put_text(line: &mut [u8], at: usize, text: &[u8]) -> usize
-    requires { ⌜ (at + length (now text) ≤ 64) × (length (now line) ≡ 64) ⌝ }
-    ensures { λ r. ⌜ (r ≡ at + length (now (text .entry))) × (length (now (line .exit)) ≡ 64) × (take r (now (line .exit)) ≡ take at (now (line .entry)) ++ now (text .entry)) ⌝ }
+// Puts a text behind what stands before the place, in any lent memory that has room for it.
+pub fn put_text(line: &mut [u8], at: usize, text: &[u8]) -> usize
+    requires { ⌜ at + length (now text) ≤ length (now line) ⌝ }
+    ensures { λ r. ⌜ (r ≡ at + length (now (text .entry))) × (length (now (line .exit)) ≡ length (now (line .entry))) × (take r (now (line .exit)) ≡ take at (now (line .entry)) ++ now (text .entry)) ⌝ }
 {
     let mut end = at;
     let mut i = 0;
@@ -111,7 +112,7 @@ fn put_text(line: &mut [u8], at: usize, text: &[u8]) -> usize
 
 fn put_counts(line: &mut [u8], elements: u64, reports: u64) -> usize
     requires { ⌜ length (now line) ≡ 64 ⌝ }
-    ensures { λ r. ⌜ (r ≤ 64) × (take r (now (line .exit)) ≡ countsLine elements reports) ⌝ }
+    ensures { λ r. ⌜ (r ≤ 64) × (length (now (line .exit)) ≡ 64) × (take r (now (line .exit)) ≡ countsLine elements reports) ⌝ }
 {
     let first = put_text(line, 0, b"elements ");
     let number = put_decimal(line, first, elements);
@@ -122,7 +123,7 @@ fn put_counts(line: &mut [u8], elements: u64, reports: u64) -> usize
 
 fn put_refused(line: &mut [u8], number: u64) -> usize
     requires { ⌜ length (now line) ≡ 64 ⌝ }
-    ensures { λ r. ⌜ (r ≤ 64) × (take r (now (line .exit)) ≡ refusedLine number) ⌝ }
+    ensures { λ r. ⌜ (r ≤ 64) × (length (now (line .exit)) ≡ 64) × (take r (now (line .exit)) ≡ refusedLine number) ⌝ }
 {
     let first = put_text(line, 0, b"refused ");
     let last = put_decimal(line, first, number);
@@ -131,21 +132,21 @@ fn put_refused(line: &mut [u8], number: u64) -> usize
 
 // The line of a report: how many bytes of the lent line it is.
 pub fn report_line(line: &mut [u8; 64], element: u64, time: Time, control: u64) -> usize
-    ensures { λ r. ⌜ (r ≤ 64) × (take r (now (line .exit)) ≡ reportLine element time control) ⌝ }
+    ensures { λ r. ⌜ (r ≤ 64) × (length (now (line .exit)) ≡ 64) × (take r (now (line .exit)) ≡ reportLine element time control) ⌝ }
 {
     put_report(line, element, time, control)
 }
 
 // The last line: how many elements and reports there were.
 pub fn counts_line(line: &mut [u8; 64], elements: u64, reports: u64) -> usize
-    ensures { λ r. ⌜ (r ≤ 64) × (take r (now (line .exit)) ≡ countsLine elements reports) ⌝ }
+    ensures { λ r. ⌜ (r ≤ 64) × (length (now (line .exit)) ≡ 64) × (take r (now (line .exit)) ≡ countsLine elements reports) ⌝ }
 {
     put_counts(line, elements, reports)
 }
 
 // The line of a refusal, with document 01's number.
 pub fn refused_line(line: &mut [u8; 64], number: u64) -> usize
-    ensures { λ r. ⌜ (r ≤ 64) × (take r (now (line .exit)) ≡ refusedLine number) ⌝ }
+    ensures { λ r. ⌜ (r ≤ 64) × (length (now (line .exit)) ≡ 64) × (take r (now (line .exit)) ≡ refusedLine number) ⌝ }
 {
     put_refused(line, number)
 }

@@ -1,7 +1,7 @@
 -- `put` meets its contract.
 use borrow.Author.Needs.{needs}
 use native.Mathlib.Omega.{arith}
-use mathlib.Core.Path.{refl, _∙_}
+use mathlib.Core.Path.{refl}
 use lib.ListN.{length-set}
 use lib.Seq.{take-suc-set}
 use native.Mathlib.Numerals.{add-one}
@@ -18,7 +18,7 @@ same-length : tie.Need-same-length
 same-length c = search needs
 
 returns : tie.Need-returns
-returns c = (refl, length-set (c .args .line .now) (c .args .at) (c .args .byte) ∙ c .pre .1, rw (add-one (c .args .at)) (take-suc-set (c .args .line .now) (c .args .at) (c .args .byte) (omega (arith, c .pre))))
+returns c = (refl, length-set (c .args .line .now) (c .args .at) (c .args .byte), rw (add-one (c .args .at)) (take-suc-set (c .args .line .now) (c .args .at) (c .args .byte) (c .pre)))
 
 pub put-spec : {M : Type 1} → statement M
 put-spec = tie.close (tie.spec slice-write-line add-result same-length returns)

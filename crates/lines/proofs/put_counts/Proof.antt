@@ -1,6 +1,7 @@
 -- `put_counts` meets its contract: its texts, one behind another.
 use borrow.Author.Needs.{needs}
 use native.Mathlib.Omega.{arith}
+use mathlib.Core.Path.{_∙_}
 use mathlib.Core.List.{[], _∷_}
 use Rattle.lines.specs.Filling.{onto-together}
 use Rattle.lines.specs.Text.{decimal, countsLine}
@@ -35,7 +36,7 @@ returns : tie.Need-returns
 unfolding countsLine
 returns c =
     let start = c .before .before .before .before .before .before .before .before .before .before .before .before .before .before .before .before .before .before .before .before .before .before .before in
-    (omega (arith, c .before .before .before .before .before .before .before .before .before .before .before .before .before .before .before .before .before .before .before .put-text .ensures .0, c .before .before .before .before .before .before .before .before .before .before .before .before .before .before .before .put-decimal .ensures .0, c .before .before .before .before .before .before .before .before .before .before .put-text2 .ensures .0, c .before .before .before .before .before .before .put-decimal2 .ensures .0, c .before .before .put .ensures .0), rw (c .before .before .put .ensures .2, c .before .before .before .before .before .before .put-decimal2 .ensures .2, c .before .before .before .before .before .before .before .before .before .before .put-text2 .ensures .2, c .before .before .before .before .before .before .before .before .before .before .before .before .before .before .before .put-decimal .ensures .2, c .before .before .before .before .before .before .before .before .before .before .before .before .before .before .before .before .before .before .before .put-text .ensures .2) (onto-together [] ((101 ∷ 108 ∷ 101 ∷ 109 ∷ 101 ∷ 110 ∷ 116 ∷ 115 ∷ 32 ∷ []) ∷ decimal (start .args .elements) ∷ (32 ∷ 114 ∷ 101 ∷ 112 ∷ 111 ∷ 114 ∷ 116 ∷ 115 ∷ 32 ∷ []) ∷ decimal (start .args .reports) ∷ (10 ∷ []) ∷ [])))
+    (omega (arith, c .before .before .before .before .before .before .before .before .before .before .before .before .before .before .before .before .before .before .before .put-text .ensures .0, c .before .before .before .before .before .before .before .before .before .before .before .before .before .before .before .put-decimal .ensures .0, c .before .before .before .before .before .before .before .before .before .before .put-text2 .ensures .0, c .before .before .before .before .before .before .put-decimal2 .ensures .0, c .before .before .put .ensures .0), c .before .before .put .ensures .1 ∙ c .before .before .before .before .before .before .put-decimal2 .ensures .1, rw (c .before .before .put .ensures .2, c .before .before .before .before .before .before .put-decimal2 .ensures .2, c .before .before .before .before .before .before .before .before .before .before .put-text2 .ensures .2, c .before .before .before .before .before .before .before .before .before .before .before .before .before .before .before .put-decimal .ensures .2, c .before .before .before .before .before .before .before .before .before .before .before .before .before .before .before .before .before .before .before .put-text .ensures .2) (onto-together [] ((101 ∷ 108 ∷ 101 ∷ 109 ∷ 101 ∷ 110 ∷ 116 ∷ 115 ∷ 32 ∷ []) ∷ decimal (start .args .elements) ∷ (32 ∷ 114 ∷ 101 ∷ 112 ∷ 111 ∷ 114 ∷ 116 ∷ 115 ∷ 32 ∷ []) ∷ decimal (start .args .reports) ∷ (10 ∷ []) ∷ [])))
 
 pub put-counts-spec : {M : Type 1} → statement M
 put-counts-spec =

@@ -2,6 +2,7 @@
 use borrow.Author.Needs.{needs}
 use native.Mathlib.Omega.{arith}
 use mathlib.Core.List.{append-assoc}
+use mathlib.Core.Path.{_∙_}
 use Rattle.lines.specs.Text.{pairOf}
 use Rattle.lines.proofs.put_pair.Statement.{statement}
 use Rattle.lines.proofs.put_pair.Tie as tie
@@ -20,7 +21,7 @@ unfolding pairOf
 returns c =
     let d = c .before .before .before .before .before .before .put-digits .ensures in
     let s = c .before .before .put .ensures in
-    (omega (arith, d .0, s .0), s .1, rw (s .2, d .2) (simp append-assoc))
+    (omega (arith, d .0, s .0), s .1 ∙ d .1, rw (s .2, d .2) (simp append-assoc))
 
 pub put-pair-spec : {M : Type 1} → statement M
 put-pair-spec = tie.close (tie.spec put-digits-requires put-requires same-length returns)

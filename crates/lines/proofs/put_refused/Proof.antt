@@ -1,6 +1,7 @@
 -- `put_refused` meets its contract: its texts, one behind another.
 use borrow.Author.Needs.{needs}
 use native.Mathlib.Omega.{arith}
+use mathlib.Core.Path.{_∙_}
 use mathlib.Core.List.{[], _∷_}
 use Rattle.lines.specs.Filling.{onto-together}
 use Rattle.lines.specs.Text.{decimal, refusedLine}
@@ -25,7 +26,7 @@ same-length c = search needs
 returns : tie.Need-returns
 unfolding refusedLine
 returns c =
-    (omega (arith, c .before .before .before .before .before .before .before .before .before .before .put-text .ensures .0, c .before .before .before .before .before .before .put-decimal .ensures .0, c .before .before .put .ensures .0), rw (c .before .before .put .ensures .2, c .before .before .before .before .before .before .put-decimal .ensures .2, c .before .before .before .before .before .before .before .before .before .before .put-text .ensures .2) (onto-together [] ((114 ∷ 101 ∷ 102 ∷ 117 ∷ 115 ∷ 101 ∷ 100 ∷ 32 ∷ []) ∷ decimal (c .before .before .before .before .before .before .before .before .before .before .before .before .before .before .args .number) ∷ (10 ∷ []) ∷ [])))
+    (omega (arith, c .before .before .before .before .before .before .before .before .before .before .put-text .ensures .0, c .before .before .before .before .before .before .put-decimal .ensures .0, c .before .before .put .ensures .0), c .before .before .put .ensures .1 ∙ c .before .before .before .before .before .before .put-decimal .ensures .1, rw (c .before .before .put .ensures .2, c .before .before .before .before .before .before .put-decimal .ensures .2, c .before .before .before .before .before .before .before .before .before .before .put-text .ensures .2) (onto-together [] ((114 ∷ 101 ∷ 102 ∷ 117 ∷ 115 ∷ 101 ∷ 100 ∷ 32 ∷ []) ∷ decimal (c .before .before .before .before .before .before .before .before .before .before .before .before .before .before .args .number) ∷ (10 ∷ []) ∷ [])))
 
 pub put-refused-spec : {M : Type 1} → statement M
 put-refused-spec =

@@ -1,6 +1,7 @@
 -- `put_report` meets its contract: its texts, one behind another.
 use borrow.Author.Needs.{needs}
 use native.Mathlib.Omega.{arith}
+use mathlib.Core.Path.{_∙_}
 use mathlib.Core.List.{[], _∷_}
 use Rattle.lines.specs.Filling.{onto-together}
 use Rattle.lines.specs.Text.{digitsOf, decimal, clockOf, reportLine}
@@ -41,7 +42,7 @@ returns c =
     let e = start .args .element in
     let t = start .args .time in
     let w = start .args .control in
-    (omega (arith, c .before .before .before .before .before .before .before .before .before .before .before .before .before .before .before .before .before .before .before .before .before .before .before .before .before .before .put-decimal .ensures .0, c .before .before .before .before .before .before .before .before .before .before .before .before .before .before .before .before .before .before .before .before .before .before .put .ensures .0, c .before .before .before .before .before .before .before .before .before .before .before .before .before .before .before .before .before .before .put-digits .ensures .0, c .before .before .before .before .before .before .before .before .before .before .before .before .before .before .put2 .ensures .0, c .before .before .before .before .before .before .before .before .before .before .put-clock .ensures .0, c .before .before .before .before .before .before .put-digits2 .ensures .0, c .before .before .put3 .ensures .0), rw (c .before .before .put3 .ensures .2, c .before .before .before .before .before .before .put-digits2 .ensures .2, c .before .before .before .before .before .before .before .before .before .before .put-clock .ensures .2, c .before .before .before .before .before .before .before .before .before .before .before .before .before .before .put2 .ensures .2, c .before .before .before .before .before .before .before .before .before .before .before .before .before .before .before .before .before .before .put-digits .ensures .2, c .before .before .before .before .before .before .before .before .before .before .before .before .before .before .before .before .before .before .before .before .before .before .put .ensures .2, c .before .before .before .before .before .before .before .before .before .before .before .before .before .before .before .before .before .before .before .before .before .before .before .before .before .before .put-decimal .ensures .2) (onto-together [] (decimal e ∷ (32 ∷ []) ∷ digitsOf 10 3 (t .day) ∷ (32 ∷ []) ∷ clockOf (t .hundredths) ∷ digitsOf 16 12 w ∷ (10 ∷ []) ∷ [])))
+    (omega (arith, c .before .before .before .before .before .before .before .before .before .before .before .before .before .before .before .before .before .before .before .before .before .before .before .before .before .before .put-decimal .ensures .0, c .before .before .before .before .before .before .before .before .before .before .before .before .before .before .before .before .before .before .before .before .before .before .put .ensures .0, c .before .before .before .before .before .before .before .before .before .before .before .before .before .before .before .before .before .before .put-digits .ensures .0, c .before .before .before .before .before .before .before .before .before .before .before .before .before .before .put2 .ensures .0, c .before .before .before .before .before .before .before .before .before .before .put-clock .ensures .0, c .before .before .before .before .before .before .put-digits2 .ensures .0, c .before .before .put3 .ensures .0), c .before .before .put3 .ensures .1 ∙ c .before .before .before .before .before .before .put-digits2 .ensures .1, rw (c .before .before .put3 .ensures .2, c .before .before .before .before .before .before .put-digits2 .ensures .2, c .before .before .before .before .before .before .before .before .before .before .put-clock .ensures .2, c .before .before .before .before .before .before .before .before .before .before .before .before .before .before .put2 .ensures .2, c .before .before .before .before .before .before .before .before .before .before .before .before .before .before .before .before .before .before .put-digits .ensures .2, c .before .before .before .before .before .before .before .before .before .before .before .before .before .before .before .before .before .before .before .before .before .before .put .ensures .2, c .before .before .before .before .before .before .before .before .before .before .before .before .before .before .before .before .before .before .before .before .before .before .before .before .before .before .put-decimal .ensures .2) (onto-together [] (decimal e ∷ (32 ∷ []) ∷ digitsOf 10 3 (t .day) ∷ (32 ∷ []) ∷ clockOf (t .hundredths) ∷ digitsOf 16 12 w ∷ (10 ∷ []) ∷ [])))
 
 pub put-report-spec : {M : Type 1} → statement M
 put-report-spec =

@@ -1,0 +1,63 @@
+-- What timeread keeps from one read to the next, what each byte makes of it, and what is printed meanwhile.
+use mathlib.Core.Bool.{Bool, true, false, cond, _||_}
+use mathlib.Core.List.{List, [], _∷_, _++_}
+use Prim.Native.Nat.{ℕ, suc}
+use lib.Dec.{ltb}
+use Rattle.timecode.specs.Answers.{number, check}
+use Rattle.timecode.specs.declared.Answer.{Answer}
+use Rattle.timecode.specs.declared.Answer.the-variants.{Quiet, Report}
+use Rattle.lines.specs.Text.{reportLine, countsLine, refusedLine}
+use Rattle.stream.specs.Feeding.{freshReader, nextOf, answerOf}
+use Rattle.stream.specs.declared.Made.{Made}
+use Rattle.stream.specs.declared.Reader.{Reader}
+use Rattle.listing.specs.Printed.{formatIn, isFirstLine, isSkipped, symbolOf}
+use Rattle.listing.specs.declared.Progress.{Progress}
+
+-- the reader that the first line asks for, or number 1
+unfoldable pub begunOf : List ℕ → Made
+begunOf bytes = check Made.Refused 1 (isFirstLine bytes) (Made.Fresh (freshReader (formatIn bytes)))
+
+-- nothing heard, nothing printed
+abbrev pub startOf : Reader → Progress
+startOf r = record { reader = r; elements = 0; reports = 0; ended = false }
+
+-- a count of 64 bits stays at its end
+unfoldable pub oneMore : ℕ → ℕ
+oneMore k = cond (ltb k 18446744073709551615) (suc k) k
+
+-- an answer, with the reader that came with it; a refusal ends the listing
+abbrev pub answered : Progress → Reader → Answer → Progress
+answered p r Quiet = record { reader = r; elements = oneMore (p .elements); reports = p .reports; ended = false }
+answered p r (Report t w) = record { reader = r; elements = oneMore (p .elements); reports = oneMore (p .reports); ended = false }
+answered p r (Answer.Refused x) = record { reader = r; elements = p .elements; reports = p .reports; ended = true }
+
+abbrev pub isQuiet : Answer → Bool
+isQuiet Quiet = true
+isQuiet (Report t w) = false
+isQuiet (Answer.Refused x) = false
+
+-- the line that an answer is told by, if any
+abbrev pub lineFor : ℕ → Answer → List ℕ
+lineFor element Quiet = []
+lineFor element (Report t w) = reportLine element t w
+lineFor element (Answer.Refused x) = refusedLine (number x)
+
+-- one byte more: a byte that is skipped changes nothing, nor does any byte after the end
+unfoldable pub stepOf : Progress → ℕ → Progress
+stepOf p b = cond (p .ended || isSkipped b) p (answered p (nextOf (p .reader) (symbolOf b)) (answerOf (p .reader) (symbolOf b)))
+
+unfoldable pub lineOf : Progress → ℕ → List ℕ
+lineOf p b = cond (p .ended || isSkipped b) [] (lineFor (stepOf p b .elements) (answerOf (p .reader) (symbolOf b)))
+
+-- a list of bytes
+unfoldable pub afterOf : Progress → List ℕ → Progress
+afterOf p [] = p
+afterOf p (b ∷ bs) = afterOf (stepOf p b) bs
+
+unfoldable pub textOf : Progress → List ℕ → List ℕ
+textOf p [] = []
+textOf p (b ∷ bs) = lineOf p b ++ textOf (stepOf p b) bs
+
+-- the last line, unless a refusal was it
+unfoldable pub endingOf : Progress → List ℕ
+endingOf p = cond (p .ended) [] (countsLine (p .elements) (p .reports))

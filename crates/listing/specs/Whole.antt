@@ -1,0 +1,170 @@
+-- timeread prints what document 01 says: the parts put while the bytes are read, and the last line, are the whole.
+use mathlib.Core.Path.{_≡_, refl, sym, ap, _∙_}
+use mathlib.Core.Bool.{true, false, _&&_}
+use mathlib.Core.List.{List, [], _∷_, _++_, append-assoc, append-nil}
+use Prim.Native.Nat.{ℕ, suc, _+_, _<_, _≤_}
+use native.Mathlib.Omega.{arith}
+use borrow.Author.Tests.{lt-ltb, le-leb}
+use lib.Dec.{eqb, leb}
+use lib.ListN.{getD, length, take, drop, length-drop}
+use Rattle.timecode.specs.Answers.{number}
+use Rattle.timecode.specs.Formats.{known}
+use Rattle.timecode.specs.Laws.Tests.{by-test, and-right}
+use Rattle.timecode.specs.declared.Answer.{Answer}
+use Rattle.timecode.specs.declared.Answer.the-variants.{Quiet, Report}
+use Rattle.timecode.specs.declared.Refusal.{Refusal}
+use Rattle.timecode.specs.declared.Time.{Time}
+use Rattle.lines.specs.Text.{reportLine, refusedLine, together}
+use Rattle.stream.specs.Feeding.{freshReader, nextOf, answerOf, feedOf}
+use Rattle.stream.specs.Refinement.{answers, answers-are-plain}
+use Rattle.stream.specs.declared.Reader.{Reader}
+use Rattle.listing.specs.Parts.{step-skipped, step-fed, ended-stays, ended-silent, after-parts, text-parts}
+use Rattle.listing.specs.Printed.{formatIn, isFirstLine, isSkipped, symbolOf, feedsOf, printedFor, printed}
+use Rattle.listing.specs.Progress.{begunOf, startOf, oneMore, answered, lineFor, stepOf, lineOf, afterOf, textOf, endingOf}
+use Rattle.listing.specs.declared.Progress.{Progress}
+
+-- what is printed from a progress on: the lines of the bytes and the last line
+unfoldable pub restPrinted : Progress → List ℕ → List ℕ
+restPrinted p bytes = textOf p bytes ++ endingOf (afterOf p bytes)
+
+-- no 64-bit count comes to its end
+pub record Room (p : Progress) (k : ℕ) : Type 0 where
+  pub elements-room : p .elements + k < 18446744073709551616
+  pub reports-room : p .reports + k < 18446744073709551616
+
+more-is : (k : ℕ) → k + 1 < 18446744073709551616 → oneMore k ≡ suc k
+unfolding oneMore
+more-is k h = rw (lt-ltb k 18446744073709551615 (omega arith))
+
+rest-step : (p : Progress) (b : ℕ) (bs : List ℕ) → restPrinted p (b ∷ bs) ≡ lineOf p b ++ restPrinted (stepOf p b) bs
+unfolding restPrinted textOf afterOf
+rest-step p b bs = append-assoc (lineOf p b) (textOf (stepOf p b) bs) (endingOf (afterOf (stepOf p b) bs))
+
+rest-ended : (p : Progress) (bytes : List ℕ) → p .ended ≡ true → restPrinted p bytes ≡ []
+unfolding restPrinted endingOf
+rest-ended p bytes e = rw (← ended-silent p bytes e, ← ended-stays p bytes e, e)
+
+rest-nothing : (p : Progress) → p .ended ≡ false → printedFor (p .elements) (p .reports) [] ≡ restPrinted p []
+unfolding restPrinted textOf afterOf endingOf printedFor
+rest-nothing p g = rw g
+
+rest-skipped : (p : Progress) (b : ℕ) (bs : List ℕ) → isSkipped b ≡ true → p .ended ≡ false → restPrinted p (b ∷ bs) ≡ restPrinted p bs
+rest-skipped p b bs y g = let step = step-skipped p b y g in rest-step p b bs ∙ rw (step .0, step .1)
+
+rest-fed : (p : Progress) (b : ℕ) (bs : List ℕ) → isSkipped b ≡ false → p .ended ≡ false → (a : Answer) → answerOf (p .reader) (symbolOf b) ≡ a → restPrinted p (b ∷ bs) ≡ lineFor (answered p (nextOf (p .reader) (symbolOf b)) a .elements) a ++ restPrinted (answered p (nextOf (p .reader) (symbolOf b)) a) bs
+rest-fed p b bs n g a e = let step = step-fed p b n g in rest-step p b bs ∙ rw (step .1, step .0, e)
+
+-- ---- from any progress on, what is printed is what the answers to the rest of the Feeds say
+
+-- of these bytes, from any progress on
+abbrev Agrees : List ℕ → Type 0
+Agrees bytes = (p : Progress) → p .ended ≡ false → Room p (length bytes) → printedFor (p .elements) (p .reports) (answers (p .reader) (feedsOf bytes)) ≡ restPrinted p bytes
+
+less-room : (p : Progress) (k : ℕ) → Room p (suc k) → Room p k
+less-room p k room = record { elements-room = omega (arith, room .elements-room); reports-room = omega (arith, room .reports-room) }
+
+module _ (e m : ℕ) (as′ : List Answer) where
+  printed-quiet : printedFor e m (Quiet ∷ as′) ≡ printedFor (suc e) m as′
+  unfolding printedFor
+  printed-quiet = refl
+
+  printed-report : (t : Time) (w : ℕ) → printedFor e m (Report t w ∷ as′) ≡ reportLine (suc e) t w ++ printedFor (suc e) (suc m) as′
+  unfolding printedFor
+  printed-report t w = refl
+
+  printed-refused : (x : Refusal) → printedFor e m (Answer.Refused x ∷ as′) ≡ refusedLine (number x)
+  unfolding printedFor
+  printed-refused x = refl
+
+module _ (b : ℕ) (bs : List ℕ) (rest : Agrees bs) (p : Progress) (g : p .ended ≡ false) (room : Room p (suc (length bs))) (n : isSkipped b ≡ false) where
+  abbrev r : Reader
+  r = nextOf (p .reader) (symbolOf b)
+
+  more : oneMore (p .elements) ≡ suc (p .elements)
+  more = more-is (p .elements) (omega (arith, room .elements-room))
+
+  reports : oneMore (p .reports) ≡ suc (p .reports)
+  reports = more-is (p .reports) (omega (arith, room .reports-room))
+
+  fed-answers : (a : Answer) → answerOf (p .reader) (symbolOf b) ≡ a → printedFor (p .elements) (p .reports) (answers (p .reader) (symbolOf b ∷ feedsOf bs)) ≡ printedFor (p .elements) (p .reports) (a ∷ answers r (feedsOf bs))
+  unfolding answers feedOf
+  fed-answers a e = ap (λ (x : Answer). printedFor (p .elements) (p .reports) (x ∷ answers r (feedsOf bs))) e
+
+  fed-agrees : (a : Answer) → answerOf (p .reader) (symbolOf b) ≡ a → printedFor (p .elements) (p .reports) (answers (p .reader) (symbolOf b ∷ feedsOf bs)) ≡ restPrinted p (b ∷ bs)
+  fed-agrees Quiet e =
+      fed-answers Quiet e
+      ∙ printed-quiet (p .elements) (p .reports) (answers r (feedsOf bs))
+      ∙ rw (← more) (rest (answered p r Quiet) refl (record { elements-room = omega (arith, more, room .elements-room); reports-room = omega (arith, room .reports-room) }))
+      ∙ sym (rest-fed p b bs n g Quiet e)
+  fed-agrees (Report t w) e =
+      fed-answers (Report t w) e
+      ∙ printed-report (p .elements) (p .reports) (answers r (feedsOf bs)) t w
+      ∙ rw (← more, ← reports)
+      (ap (λ (s : List ℕ). reportLine (oneMore (p .elements)) t w ++ s) (rest (answered p r (Report t w)) refl (record { elements-room = omega (arith, more, room .elements-room); reports-room = omega (arith, reports, room .reports-room) })))
+      ∙ sym (rest-fed p b bs n g (Report t w) e)
+  fed-agrees (Answer.Refused x) e =
+      fed-answers (Answer.Refused x) e
+      ∙ printed-refused (p .elements) (p .reports) (answers r (feedsOf bs)) x
+      ∙ sym (rest-fed p b bs n g (Answer.Refused x) e ∙ rw (rest-ended (answered p r (Answer.Refused x)) bs refl) (append-nil (refusedLine (number x))))
+
+nothing-agrees : (p : Progress) → p .ended ≡ false → printedFor (p .elements) (p .reports) (answers (p .reader) (feedsOf [])) ≡ restPrinted p []
+unfolding answers feedsOf
+nothing-agrees p g = rest-nothing p g
+
+feeds-fed : (b : ℕ) (bs : List ℕ) → isSkipped b ≡ false → feedsOf (b ∷ bs) ≡ symbolOf b ∷ feedsOf bs
+unfolding feedsOf
+feeds-fed b bs n = rw n
+
+feeds-skipped : (b : ℕ) (bs : List ℕ) → isSkipped b ≡ true → feedsOf (b ∷ bs) ≡ feedsOf bs
+unfolding feedsOf
+feeds-skipped b bs y = rw y
+
+rest-is : (bytes : List ℕ) → Agrees bytes
+rest-is [] p g room = nothing-agrees p g
+rest-is (b ∷ bs) p g room =
+    by-test (isSkipped b)
+    (λ y. rw (feeds-skipped b bs y, rest-skipped p b bs y g) (rest-is bs p g (less-room p (length bs) room)))
+    (λ n. rw (feeds-fed b bs n) (fed-agrees b bs (rest-is bs) p g room n (answerOf (p .reader) (symbolOf b)) refl))
+
+-- ---- the whole
+
+module _ (bytes : List ℕ) (first : isFirstLine bytes ≡ true) (short : length bytes < 18446744073709551616) where
+  format-known : known (formatIn bytes) ≡ true
+  unfolding isFirstLine
+  format-known =
+      and-right (leb 48 (getD bytes 1 0)) (known (formatIn bytes))
+      (and-right (eqb (getD bytes 2 0) 10) (leb 48 (getD bytes 1 0) && known (formatIn bytes))
+      (and-right (leb 3 (length bytes)) (eqb (getD bytes 2 0) 10 && (leb 48 (getD bytes 1 0) && known (formatIn bytes))) first))
+
+  -- After a first line that is so, the lines put while the bytes behind it are read and the last line are what document 01 says.
+  pub listing-is-printed : printed bytes ≡ restPrinted (startOf (freshReader (formatIn bytes))) (drop 3 bytes)
+  unfolding printed
+  listing-is-printed =
+      rw (first, ← answers-are-plain (formatIn bytes) format-known (feedsOf (drop 3 bytes)))
+      (rest-is (drop 3 bytes) (startOf (freshReader (formatIn bytes))) refl (record { elements-room = omega (arith, length-drop 3 bytes); reports-room = omega (arith, length-drop 3 bytes) }))
+
+-- Any other input prints `refused 1`, and no other line follows.
+pub other-line-refused : (bytes : List ℕ) → isFirstLine bytes ≡ false → printed bytes ≡ refusedLine 1
+unfolding printed
+other-line-refused bytes n = rw n
+
+-- The first three bytes decide of the first line.
+pub begun-by-three : (bytes : List ℕ) → begunOf (take 3 bytes) ≡ begunOf bytes
+unfolding begunOf isFirstLine
+begun-by-three [] = refl
+begun-by-three (a ∷ []) = refl
+begun-by-three (a ∷ b ∷ []) = refl
+begun-by-three (a ∷ b ∷ c ∷ bs) = let long : leb 3 (length (a ∷ b ∷ c ∷ bs)) ≡ true = le-leb 3 (length (a ∷ b ∷ c ∷ bs)) (omega arith) in rw long
+
+-- The bytes may come in parts of any length: what is put for each, and the last line, are the whole.
+unfoldable pub partsPrinted : Progress → List (List ℕ) → List ℕ
+partsPrinted p [] = endingOf p
+partsPrinted p (part ∷ parts) = textOf p part ++ partsPrinted (afterOf p part) parts
+
+pub parts-are-whole : (p : Progress) (parts : List (List ℕ)) → partsPrinted p parts ≡ restPrinted p (together parts)
+unfolding partsPrinted restPrinted textOf afterOf
+parts-are-whole p [] = refl
+parts-are-whole p (part ∷ parts) =
+    ap (λ (t : List ℕ). textOf p part ++ t) (parts-are-whole (afterOf p part) parts)
+    ∙ sym (append-assoc (textOf p part) (textOf (afterOf p part) (together parts)) (endingOf (afterOf (afterOf p part) (together parts))))
+    ∙ rw (← text-parts p part (together parts), ← after-parts p part (together parts))

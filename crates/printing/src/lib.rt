@@ -1,0 +1,126 @@
+// Prints the listing of the recording behind a descriptor on standard output.
+// What a read brings and where a write goes is the C library's: beneath this crate nothing says which bytes they are.
+ghost use mathlib.Core.Path.{_≡_};
+ghost use mathlib.Core.Bool.{true, false};
+ghost use Rattle.listing.specs.Progress.{afterOf};
+use lines::refused_line;
+use listing::Progress;
+use listing::begin;
+use listing::finish;
+use listing::list;
+use listing::start;
+use refusals::number_of;
+use stream::Made;
+use stream::Reader;
+use timecode::Refusal;
+
+// The progress after a read, and whether another is to come.
+struct Printed {
+    progress: Progress,
+    more: bool,
+}
+
+fn write_part(out: &[u8], filled: usize) -> bool {
+    if filled <= out.len() {
+        if io::write_all(libc::STDOUT_FILENO, &out[0..filled]) {
+            return true;
+        }
+        os::fail(b"standard output");
+    }
+    false
+}
+
+fn write_first(out: &mut [u8; 65536], filled: usize) -> bool {
+    write_part(out, filled)
+}
+
+// Where nothing can be written any more, the listing has ended.
+fn stop(progress: Progress) -> Printed
+    ensures { λ r. ⌜ (r .more ≡ false) × (r .progress .ended ≡ true) ⌝ }
+{
+    let mut stopped = progress;
+    stopped.ended = true;
+    Printed {
+        progress: stopped,
+        more: false,
+    }
+}
+
+// Lists one read's bytes, and writes the lines whenever the output is full, and at the end.
+fn print_part(progress: Progress, bytes: &[u8], out: &mut [u8; 65536]) -> Printed
+    ensures { λ r. ⌜ (r .more ≡ true → r .progress ≡ afterOf progress (now (bytes .entry))) ⌝ }
+{
+    let mut current = progress;
+    let mut taken = 0;
+    while taken < bytes.len() {
+        let listed = list(current, &bytes[taken..], out);
+        current = listed.progress;
+        taken += listed.taken;
+        if write_first(out, listed.filled) {
+            continue;
+        }
+        return stop(current);
+    }
+    let more = !current.ended;
+    Printed {
+        progress: current,
+        more: more,
+    }
+}
+
+fn print_read(fd: i32, progress: Progress, out: &mut [u8; 65536]) -> Printed {
+    let mut input = io::large_buffer();
+    let got = libc::read(fd, &mut input);
+    if got < 0 {
+        os::fail(b"input");
+    }
+    if got <= 0 {
+        return Printed {
+            progress: progress,
+            more: false,
+        };
+    }
+    let n = io::count(got, &input);
+    print_part(progress, &input[..n], out)
+}
+
+// A proved loop has to end, and nothing says that the input does: the reads are counted down from a number that no run uses up.
+fn print_reads(fd: i32, reader: Reader, out: &mut [u8; 65536]) -> Progress {
+    let mut progress = start(reader);
+    let mut more = true;
+    let mut left = u64::MAX;
+    while 0 < left && more {
+        let printed = print_read(fd, progress, out);
+        progress = printed.progress;
+        more = printed.more;
+        left -= 1;
+    }
+    progress
+}
+
+fn print_recording(fd: i32, reader: Reader) {
+    let mut out = io::large_buffer();
+    let progress = print_reads(fd, reader, &mut out);
+    let filled = finish(progress, &mut out);
+    write_first(&mut out, filled);
+}
+
+fn print_refused(refusal: Refusal) {
+    let mut line = [0u8; 64];
+    let filled = refused_line(&mut line, number_of(refusal) as u64);
+    write_line(&line, filled);
+}
+
+fn write_line(line: &[u8; 64], filled: usize) {
+    write_part(line, filled);
+}
+
+// The whole listing of what the descriptor gives.
+pub fn print_listing(fd: i32) {
+    let mut head = [0u8; 3];
+    let n = io::read_full(fd, &mut head);
+    match begin(&head[..n]) {
+        Made::Fresh(reader) => print_recording(fd, reader),
+        Made::Refused(refusal) => print_refused(refusal),
+    }
+}

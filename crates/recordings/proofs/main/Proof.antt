@@ -1,0 +1,58 @@
+-- `main` ends: each argument once.
+use borrow.Author.Needs.{needs}
+use native.Mathlib.Omega.{arith}
+use Prim.Native.Nat.{_-_}
+use Rattle.recordings.proofs.main.Statement.{statement}
+use Rattle.recordings.proofs.main.Tie as tie
+use Rattle.recordings.proofs.main.Reads as reads
+use Rattle.recordings.proofs.main.Lts as lts
+use Rattle.os.proofs.arg_count.Reads as arg-count-reads
+use Rattle.recordings.proofs.print_recording.Reads as print-recording-reads
+
+abbrev Inv-loop : tie.InvT-loop
+Inv-loop count i₀ i = Unit {0}
+
+abbrev μ-loop : tie.MeasureT-loop
+μ-loop count i₀ i = count - i
+
+-- src/main.rt:23:9
+arg-count-requires : tie.Need-arg-count-requires Inv-loop μ-loop
+arg-count-requires c κs = search needs
+
+-- src/main.rt:25:5
+loop-holds : tie.Need-loop-holds Inv-loop μ-loop
+loop-holds c = search needs
+
+-- src/main.rt:26:9
+print-recording-requires : tie.Need-print-recording-requires Inv-loop μ-loop
+print-recording-requires c κs = search needs
+
+-- src/main.rt:27:9
+add-i : tie.Need-add-i Inv-loop μ-loop
+add-i c = search needs
+
+-- src/main.rt:25:5
+loop-less : tie.Need-loop-less Inv-loop μ-loop
+loop-less c = search needs
+
+-- src/main.rt:25:5
+loop-again : tie.Need-loop-again Inv-loop μ-loop
+loop-again c = search needs
+
+-- src/main.rt:22:1
+returns : tie.Need-returns Inv-loop μ-loop
+returns c = search needs
+
+pub main-spec : {M : Type 1} → statement M
+main-spec =
+    tie.close
+    (tie.spec
+    Inv-loop
+    μ-loop
+    arg-count-requires
+    loop-holds
+    print-recording-requires
+    add-i
+    loop-less
+    loop-again
+    returns)

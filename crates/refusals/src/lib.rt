@@ -1,0 +1,24 @@
+// Document 01's number of a refusal, for programs and callers that take numbers alone.
+ghost use mathlib.Core.Path.{_≡_};
+ghost use Rattle.timecode.specs.Answers.{number};
+use timecode::Refusal;
+
+pub fn number_of(refusal: Refusal) -> u8
+    ensures { λ r. ⌜ r ≡ number refusal ⌝ }
+{
+    match refusal {
+        Refusal::UnknownFormat => 1,
+        Refusal::InvalidTime => 2,
+        Refusal::WrongLength => 3,
+        Refusal::UnknownSymbol => 4,
+        Refusal::MisplacedMark(_) => 5,
+        Refusal::InvalidElement(_) => 6,
+        Refusal::InvalidDigit => 7,
+        Refusal::SecondsDiffer => 8,
+        Refusal::ControlTooLong => 9,
+        Refusal::InvalidInterval => 10,
+        Refusal::InvalidYearLength => 11,
+        Refusal::StartPastEnd => 12,
+        Refusal::InvalidReader => 13,
+    }
+}
