@@ -2,17 +2,20 @@
 use mathlib.Core.Path.{_≡_, refl, sym, ap, _∙_}
 use mathlib.Core.Bool.{Bool, true, false, cond, _||_, false≢true}
 use mathlib.Core.List.{List, [], _∷_, _++_, append-assoc, append-nil}
-use Prim.Native.Nat.{ℕ, zero, suc, _+_, _-_, _<_, _≤_}
+use Prim.Native.Nat.{ℕ, zero, suc, _+_, _-_, _/_, _%_, _<_, _≤_}
 use native.Mathlib.Numerals.{add-one}
 use native.Mathlib.Omega.{arith}
+use borrow.Author.Tests.{eqb-true, eqb-false, ne-eqb}
+use lib.Dec.{eqb}
 use lib.ListN.{getD, length, take, drop, length-drop}
 use lib.Seq.{take-suc, take-add, take-length}
+use Rattle.timecode.specs.Laws.Tests.{by-test}
 use Rattle.timecode.specs.declared.Answer.{Answer}
 use Rattle.timecode.specs.declared.Answer.the-variants.{Quiet, Report}
 use Rattle.stream.specs.Feeding.{nextOf, answerOf}
 use Rattle.stream.specs.declared.Reader.{Reader}
 use Rattle.listing.specs.Printed.{isSkipped, symbolOf}
-use Rattle.listing.specs.Progress.{answered, isQuiet, lineFor, stepOf, lineOf, afterOf, textOf}
+use Rattle.listing.specs.Progress.{goingOn, oneMore, answered, isQuiet, lineFor, stepOf, lineOf, afterOf, textOf}
 use Rattle.listing.specs.declared.Progress.{Progress}
 
 pub after-parts : (p : Progress) (xs ys : List ℕ) → afterOf p (xs ++ ys) ≡ afterOf (afterOf p xs) ys
@@ -48,6 +51,38 @@ quiet-going : (p : Progress) (r : Reader) (a : Answer) → isQuiet a ≡ true �
 quiet-going p r Quiet y = refl
 quiet-going p r (Report t w) y = refl
 quiet-going p r (Answer.Refused x) y = absurd (false≢true y)
+
+pub going-on : (p : Progress) → p .ended ≡ false → goingOn (p .reader) (p .elements) (p .reports) ≡ p
+going-on p g = ap (λ (e : Bool). record { reader = p .reader; elements = p .elements; reports = p .reports; ended = e }) (sym g)
+
+-- the characters 0 and 1
+pub digit-symbol : (b : ℕ) → b / 2 ≡ 24 → b % 2 ≡ symbolOf b
+unfolding symbolOf
+digit-symbol b h =
+    by-test (eqb b 48)
+    (λ e. rw (eqb-true b 48 e))
+    (λ n. let is : b ≡ 49 = omega (arith, eqb-false b 48 n) in rw is)
+
+pub other-symbol : (b : ℕ) → ¬ (b / 2 ≡ 24) → symbolOf b ≡ cond (eqb b 80) 2 (cond (eqb b 45) 3 4)
+unfolding symbolOf
+other-symbol b h = rw (ne-eqb b 48 (λ e. h (rw e)), ne-eqb b 49 (λ e. h (rw e)))
+
+-- a character that is skipped stands for no symbol
+pub skipped-symbol : (b : ℕ) → isSkipped b ≡ true → symbolOf b ≡ 4
+unfolding isSkipped symbolOf
+skipped-symbol b y =
+    by-test (eqb b 32)
+    (λ e. rw (eqb-true b 32 e))
+    (λ m.
+    by-test (eqb b 13)
+    (λ e. rw (eqb-true b 13 e))
+    (λ n. rw (eqb-true b 10 (rw (m, n) at y))))
+
+-- a quiet answer counts its element
+quiet-answered : (r : Reader) (elements reports : ℕ) (next : Reader) (a : Answer) → isQuiet a ≡ true → answered (goingOn r elements reports) next a ≡ goingOn next (oneMore elements) reports
+quiet-answered r elements reports next Quiet y = refl
+quiet-answered r elements reports next (Report t w) y = absurd (false≢true y)
+quiet-answered r elements reports next (Answer.Refused x) y = absurd (false≢true y)
 
 pub step-skipped : (p : Progress) (b : ℕ) → isSkipped b ≡ true → p .ended ≡ false → (stepOf p b ≡ p) × (lineOf p b ≡ [])
 unfolding stepOf lineOf
@@ -97,6 +132,11 @@ module _ (from p : Progress) (bytes : List ℕ) (i : ℕ) (h : i < length bytes)
 
     pub answer-silent : isQuiet a ≡ true → Silent from q bytes (i + 1)
     answer-silent y = record { reached = answer-reached; nothing = sym answer-told ∙ quiet-line (q .elements) a y; going = ap (λ (s : Progress). s .ended) moved ∙ quiet-going p r a y }
+
+-- a quiet answer at a turn of the loop, which keeps the reader and the count apart
+pub quiet-turn : (from : Progress) (reader next : Reader) (elements more reports : ℕ) (a : Answer) (bytes : List ℕ) (i : ℕ) → i < length bytes → Silent from (goingOn reader elements reports) bytes i → isSkipped (getD bytes i 0) ≡ false → next ≡ nextOf reader (symbolOf (getD bytes i 0)) → a ≡ answerOf reader (symbolOf (getD bytes i 0)) → isQuiet a ≡ true → more ≡ oneMore elements → Silent from (goingOn next more reports) bytes (i + 1)
+quiet-turn from reader next elements more reports a bytes i h silent n fed said y m =
+    answer-silent from (goingOn reader elements reports) bytes i h silent n next a (goingOn next more reports) fed said (rw m (sym (quiet-answered reader elements reports next a y))) y
 
 -- ---- after the end
 

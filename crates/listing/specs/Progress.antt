@@ -17,9 +17,9 @@ use Rattle.listing.specs.declared.Progress.{Progress}
 unfoldable pub begunOf : List ℕ → Made
 begunOf bytes = check Made.Refused 1 (isFirstLine bytes) (Made.Fresh (freshReader (formatIn bytes)))
 
--- nothing heard, nothing printed
-abbrev pub startOf : Reader → Progress
-startOf r = record { reader = r; elements = 0; reports = 0; ended = false }
+-- no refusal yet
+abbrev pub goingOn : Reader → ℕ → ℕ → Progress
+goingOn r elements reports = record { reader = r; elements = elements; reports = reports; ended = false }
 
 -- a count of 64 bits stays at its end
 unfoldable pub oneMore : ℕ → ℕ
@@ -27,8 +27,8 @@ oneMore k = cond (ltb k 18446744073709551615) (suc k) k
 
 -- an answer, with the reader that came with it; a refusal ends the listing
 abbrev pub answered : Progress → Reader → Answer → Progress
-answered p r Quiet = record { reader = r; elements = oneMore (p .elements); reports = p .reports; ended = false }
-answered p r (Report t w) = record { reader = r; elements = oneMore (p .elements); reports = oneMore (p .reports); ended = false }
+answered p r Quiet = goingOn r (oneMore (p .elements)) (p .reports)
+answered p r (Report t w) = goingOn r (oneMore (p .elements)) (oneMore (p .reports))
 answered p r (Answer.Refused x) = record { reader = r; elements = p .elements; reports = p .reports; ended = true }
 
 abbrev pub isQuiet : Answer → Bool

@@ -20,7 +20,7 @@ use Rattle.stream.specs.Refinement.{answers, answers-are-plain}
 use Rattle.stream.specs.declared.Reader.{Reader}
 use Rattle.listing.specs.Parts.{step-skipped, step-fed, ended-stays, ended-silent, after-parts, text-parts}
 use Rattle.listing.specs.Printed.{formatIn, isFirstLine, isSkipped, symbolOf, feedsOf, printedFor, printed}
-use Rattle.listing.specs.Progress.{begunOf, startOf, oneMore, answered, lineFor, stepOf, lineOf, afterOf, textOf, endingOf}
+use Rattle.listing.specs.Progress.{begunOf, goingOn, oneMore, answered, lineFor, stepOf, lineOf, afterOf, textOf, endingOf}
 use Rattle.listing.specs.declared.Progress.{Progress}
 
 -- what is printed from a progress on: the lines of the bytes and the last line
@@ -137,11 +137,11 @@ module _ (bytes : List ℕ) (first : isFirstLine bytes ≡ true) (short : length
       (and-right (leb 3 (length bytes)) (eqb (getD bytes 2 0) 10 && (leb 48 (getD bytes 1 0) && known (formatIn bytes))) first))
 
   -- After a first line that is so, the lines put while the bytes behind it are read and the last line are what document 01 says.
-  pub listing-is-printed : printed bytes ≡ restPrinted (startOf (freshReader (formatIn bytes))) (drop 3 bytes)
+  pub listing-is-printed : printed bytes ≡ restPrinted (goingOn (freshReader (formatIn bytes)) 0 0) (drop 3 bytes)
   unfolding printed
   listing-is-printed =
       rw (first, ← answers-are-plain (formatIn bytes) format-known (feedsOf (drop 3 bytes)))
-      (rest-is (drop 3 bytes) (startOf (freshReader (formatIn bytes))) refl (record { elements-room = omega (arith, length-drop 3 bytes); reports-room = omega (arith, length-drop 3 bytes) }))
+      (rest-is (drop 3 bytes) (goingOn (freshReader (formatIn bytes)) 0 0) refl (record { elements-room = omega (arith, length-drop 3 bytes); reports-room = omega (arith, length-drop 3 bytes) }))
 
 -- Any other input prints `refused 1`, and no other line follows.
 pub other-line-refused : (bytes : List ℕ) → isFirstLine bytes ≡ false → printed bytes ≡ refusedLine 1

@@ -7,7 +7,7 @@ ghost use lib.ListN.{length, take};
 ghost use Rattle.timecode.specs.Answers.{number};
 ghost use Rattle.lines.specs.Text.{reportLine, countsLine, refusedLine};
 ghost use Rattle.listing.specs.Printed.{isSkipped, symbolOf};
-ghost use Rattle.listing.specs.Progress.{begunOf, startOf, oneMore, answered, isQuiet, lineFor, afterOf, textOf, endingOf};
+ghost use Rattle.listing.specs.Progress.{begunOf, goingOn, oneMore, answered, isQuiet, lineFor, afterOf, textOf, endingOf};
 use lines::counts_line;
 use lines::put_text;
 use lines::refused_line;
@@ -61,15 +61,22 @@ pub fn begin(head: &[u8]) -> Made
     Made::Refused(Refusal::UnknownFormat)
 }
 
-pub fn start(reader: Reader) -> Progress
-    ensures { λ r. ⌜ r ≡ startOf reader ⌝ }
+fn progress_at(reader: Reader, elements: u64, reports: u64) -> Progress
+    ensures { λ r. ⌜ r ≡ goingOn reader elements reports ⌝ }
 {
     Progress {
         reader: reader,
-        elements: 0,
-        reports: 0,
+        elements: elements,
+        reports: reports,
         ended: false,
     }
+}
+
+// Nothing heard, nothing printed.
+pub fn start(reader: Reader) -> Progress
+    ensures { λ r. ⌜ r ≡ goingOn reader 0 0 ⌝ }
+{
+    progress_at(reader, 0, 0)
 }
 
 fn is_skipped(byte: u8) -> bool
@@ -84,15 +91,12 @@ fn is_skipped(byte: u8) -> bool
     byte == b'\n'
 }
 
-// A character that stands for no symbol gives 4, which Feed refuses.
+// A character that stands for no symbol gives 4, which Feed refuses. The digits are most of a recording, so they come first.
 fn symbol_of(byte: u8) -> u8
     ensures { λ r. ⌜ r ≡ symbolOf byte ⌝ }
 {
-    if byte == b'0' {
-        return 0;
-    }
-    if byte == b'1' {
-        return 1;
+    if byte / 2 == b'0' / 2 {
+        return byte % 2;
     }
     if byte == b'P' {
         return 2;
@@ -101,6 +105,17 @@ fn symbol_of(byte: u8) -> u8
         return 3;
     }
     4
+}
+
+// The same, where the symbol is known: a character that is skipped stands for none.
+fn is_skipped_as(symbol: u8, byte: u8) -> bool
+    requires { ⌜ symbol ≡ symbolOf byte ⌝ }
+    ensures { λ r. ⌜ r ≡ isSkipped byte ⌝ }
+{
+    if symbol == 4 {
+        return is_skipped(byte);
+    }
+    false
 }
 
 // No recording is so long that the count stays at its end; that it may is what a 64-bit number asks.
@@ -161,29 +176,33 @@ fn hear(progress: Progress, bytes: &[u8]) -> Heard
             answer: Answer::Quiet,
         };
     }
-    let mut current = progress;
+    let reports = progress.reports;
+    let mut reader = progress.reader;
+    let mut elements = progress.elements;
     let mut i = 0;
     while i < bytes.len() {
         let byte = bytes[i];
         i += 1;
-        if is_skipped(byte) {
-            continue;
-        }
         let symbol = symbol_of(byte);
-        let reader = current.reader;
-        let answer = answer_to(reader, symbol);
-        current = advance(current, next_reader(reader, symbol), answer);
-        if is_quiet(answer) {
+        if is_skipped_as(symbol, byte) {
             continue;
         }
+        let answer = answer_to(reader, symbol);
+        let next = next_reader(reader, symbol);
+        if is_quiet(answer) {
+            reader = next;
+            elements = one_more(elements);
+            continue;
+        }
+        let current = progress_at(reader, elements, reports);
         return Heard {
-            progress: current,
+            progress: advance(current, next, answer),
             taken: i,
             answer: answer,
         };
     }
     Heard {
-        progress: current,
+        progress: progress_at(reader, elements, reports),
         taken: i,
         answer: Answer::Quiet,
     }

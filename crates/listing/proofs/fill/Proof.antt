@@ -45,7 +45,7 @@ add-taken c = let part : length (restOf (c .before .before .before .before .befo
 
 -- src/lib.rt:233:9
 put-line-requires : tie.Need-put-line-requires Inv-loop μ-loop
-put-line-requires c κs = (leb-true _ _ (c .before .before .before .before .before .if1 .taken), c .before .before .before .before .before .before .before .loop .inv .2)
+put-line-requires c κs = let room = leb-true (c .before .before .before .before .before .before .before .loop .filled) 65472 (c .before .before .before .before .before .if1 .taken) in (omega (arith, room), c .before .before .before .before .before .before .before .loop .inv .2)
 
 -- src/lib.rt:228:5
 loop-less : tie.Need-loop-less Inv-loop μ-loop

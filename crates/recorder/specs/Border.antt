@@ -1,0 +1,123 @@
+-- The C interface of the calls: what each says to numbers and lists, what a call leaves in the caller's memory, and the reader as ten words.
+use mathlib.Core.Bool.{cond}
+use mathlib.Core.List.{List, [], _∷_}
+use Prim.Native.Nat.{ℕ}
+use lib.Dec.{ltb, eqb}
+use lib.IntN.{ℤ}
+use lib.ListN.{getD}
+use Rattle.timecode.specs.Answers.{Said, writtenSaid, readingSaid, steppedSaid, subtractedSaid, classifiedSaid, scannedSaid, answerSaid}
+use Rattle.timecode.specs.Calls.{classifyOf, classifyListOf, differenceOf, scanOf}
+use Rattle.timecode.specs.Frames.{stepOf, writeOf, readOf}
+use Rattle.timecode.specs.declared.Format.{Format}
+use Rattle.timecode.specs.declared.Time.{Time}
+use Rattle.stream.specs.Feeding.{freshReader, madeOf, madeSaid, feedOf}
+use Rattle.stream.specs.declared.Fed.{Fed}
+use Rattle.stream.specs.declared.Reader.{Reader}
+use Rattle.pulse_feed.specs.Pulses.{feedPulseOf}
+
+-- ---- What a call says to the caller's numbers: document 01's answer, as its number and its values
+
+abbrev pub formatOf : ℕ → ℕ → Format
+formatOf letter expression = record { letter = letter; expression = expression }
+
+abbrev pub timeOf : ℕ → ℕ → Time
+timeOf day hundredths = record { day = day; hundredths = hundredths }
+
+abbrev pub writeSaid : ℕ → ℕ → ℕ → ℕ → ℕ → List ℕ → Said
+writeSaid letter expression day hundredths control frame = writtenSaid (writeOf (formatOf letter expression) (timeOf day hundredths) control frame)
+
+abbrev pub readSaid : ℕ → ℕ → List ℕ → Said
+readSaid letter expression frame = readingSaid (readOf (formatOf letter expression) frame)
+
+abbrev pub stepSaid : ℕ → ℕ → ℕ → ℕ → ℕ → Said
+stepSaid letter expression day hundredths year = steppedSaid (stepOf (formatOf letter expression) (timeOf day hundredths) year)
+
+abbrev pub differenceSaid : ℕ → ℕ → ℕ → ℕ → Said
+differenceSaid firstDay firstHundredths secondDay secondHundredths = subtractedSaid (differenceOf (timeOf firstDay firstHundredths) (timeOf secondDay secondHundredths))
+
+abbrev pub classifySaid : ℕ → ℕ → ℕ → Said
+classifySaid interval width period = classifiedSaid (classifyOf interval width period)
+
+abbrev pub classifyListSaid : ℕ → List ℕ → List ℕ → List ℕ → Said
+classifyListSaid interval widths periods symbols = writtenSaid (classifyListOf interval widths periods symbols)
+
+abbrev pub scanSaid : ℕ → ℕ → List ℕ → ℕ → Said
+scanSaid letter expression recording start = scannedSaid (scanOf (formatOf letter expression) recording start)
+
+abbrev pub freshSaid : ℕ → ℕ → Said
+freshSaid letter expression = madeSaid (madeOf (formatOf letter expression))
+
+abbrev pub fedSaid : Fed → Said
+fedSaid fed = answerSaid (fed .answer)
+
+-- ---- What a call leaves in the caller's memory
+
+-- the new contents, or after a refusal the old
+abbrev pub unlessRefused : {Any : Type 0} → Said → Any → Any → Any
+unlessRefused s new old = cond (eqb (s .number) 0) new old
+
+-- the values, or where there are none what was there
+abbrev pub orElse : List ℤ → List ℤ → List ℤ
+orElse [] old = old
+orElse (v ∷ vs) old = v ∷ vs
+
+-- the out-parameters for the values of an answer
+abbrev pub valuesLeft : Said → List ℤ → List ℤ
+valuesLeft s old = unlessRefused s (orElse (s .values) old) old
+
+-- 1 where there are values, 0 where there are none
+abbrev pub some : List ℤ → ℕ
+some [] = 0
+some (v ∷ vs) = 1
+
+-- the out-parameter that tells Report from Quiet, and a frame found from None
+abbrev pub flagLeft : Said → ℕ → ℕ
+flagLeft s old = unlessRefused s (some (s .values)) old
+
+-- the out-parameter for the index, which a refusal has with 5 and 6 alone
+abbrev pub indexLeft : Said → ℤ → ℤ
+indexLeft s old = unlessRefused s old (getD (s .values) 0 old)
+
+-- ---- The reader as ten words: the letter, the expression, the place, and the seven of the register
+
+unfoldable pub wordsFor : Reader → List ℕ
+wordsFor r =
+    r .format .letter ∷ r .format .expression ∷ r .place
+    ∷ r .heard .word0 ∷ r .heard .word1 ∷ r .heard .word2 ∷ r .heard .word3 ∷ r .heard .word4 ∷ r .heard .word5 ∷ r .heard .word6
+    ∷ []
+
+-- A word that is no byte stands for 255, which is neither a letter nor an expression, so that number 13 refuses it.
+unfoldable pub byteIn : ℕ → ℕ
+byteIn word = cond (ltb word 256) word 255
+
+-- the reader that any words hold
+unfoldable pub readerIn : List ℕ → Reader
+readerIn words =
+    record {
+      format = formatOf (byteIn (getD words 0 0)) (byteIn (getD words 1 0));
+      place = getD words 2 0;
+      heard = record {
+        word0 = getD words 3 0;
+        word1 = getD words 4 0;
+        word2 = getD words 5 0;
+        word3 = getD words 6 0;
+        word4 = getD words 7 0;
+        word5 = getD words 8 0;
+        word6 = getD words 9 0;
+      };
+    }
+
+-- the words after a fresh reader is made
+abbrev pub freshLeft : ℕ → ℕ → List ℕ → List ℕ
+freshLeft letter expression old = unlessRefused (freshSaid letter expression) (wordsFor (freshReader (formatOf letter expression))) old
+
+-- one Feed of the caller's words, by a symbol and by a pulse
+abbrev pub feedWords : List ℕ → ℕ → Fed
+feedWords words symbol = feedOf (readerIn words) symbol
+
+abbrev pub feedPulseWords : List ℕ → ℕ → ℕ → ℕ → Fed
+feedPulseWords words interval width period = feedPulseOf (readerIn words) interval width period
+
+-- the words after a Feed
+abbrev pub wordsLeft : Fed → List ℕ → List ℕ
+wordsLeft fed old = unlessRefused (fedSaid fed) (wordsFor (fed .reader)) old

@@ -1,0 +1,404 @@
+// The calls as a flat C interface: numbers, lists and a reader of ten words in the caller's memory.
+// A call returns 0 or document 01's number. Every input is allowed; values go through out-parameters, which a refusal leaves as they were.
+ghost use mathlib.Core.Path.{_≡_};
+ghost use mathlib.Core.List.{[], _∷_};
+ghost use lib.IntN.{pos};
+ghost use lib.ListN.{getD};
+ghost use Rattle.timecode.specs.Answers.{refused, writtenSaid};
+ghost use Rattle.timecode.specs.Calls.{classifyListLeaves};
+ghost use Rattle.timecode.specs.Frames.{writeLeaves};
+ghost use Rattle.recorder.specs.Border.{formatOf, timeOf, writeSaid, readSaid, stepSaid, differenceSaid, classifySaid, classifyListSaid, scanSaid, freshSaid, fedSaid, valuesLeft, flagLeft, indexLeft, wordsFor, byteIn, readerIn, freshLeft, feedWords, feedPulseWords, wordsLeft};
+use clock::step;
+use frame::read;
+use frame::write;
+use pulse::classify;
+use pulse::classify_list;
+use pulse_feed::feed_pulse;
+use refusals::number_of;
+use register::Register;
+use scan::scan;
+use stream::Fed;
+use stream::Made;
+use stream::Reader;
+use stream::feed;
+use timecode::Answer;
+use timecode::Classified;
+use timecode::Format;
+use timecode::Reading;
+use timecode::Refusal;
+use timecode::Scanned;
+use timecode::Stepped;
+use timecode::Subtracted;
+use timecode::Time;
+use timecode::Written;
+
+fn format_of(letter: u8, expression: u8) -> Format
+    ensures { λ r. ⌜ r ≡ formatOf letter expression ⌝ }
+{
+    Format {
+        letter: letter,
+        expression: expression,
+    }
+}
+
+fn time_of(day: u16, hundredths: u32) -> Time
+    ensures { λ r. ⌜ r ≡ timeOf day hundredths ⌝ }
+{
+    Time {
+        day: day,
+        hundredths: hundredths,
+    }
+}
+
+// The index of a refusal that has one, with 5 and 6; the other numbers leave it.
+fn put_index(refusal: Refusal, index: &mut usize)
+    ensures { λ _. ⌜ pos (now (index .exit)) ≡ getD (refused refusal .values) 0 (pos (now (index .entry))) ⌝ }
+{
+    match refusal {
+        Refusal::UnknownFormat => {}
+        Refusal::InvalidTime => {}
+        Refusal::WrongLength => {}
+        Refusal::UnknownSymbol => {}
+        Refusal::MisplacedMark(mark) => {
+            *index = mark;
+        }
+        Refusal::InvalidElement(element) => {
+            *index = element;
+        }
+        Refusal::InvalidDigit => {}
+        Refusal::SecondsDiffer => {}
+        Refusal::ControlTooLong => {}
+        Refusal::InvalidInterval => {}
+        Refusal::InvalidYearLength => {}
+        Refusal::StartPastEnd => {}
+        Refusal::InvalidReader => {}
+    }
+}
+
+// The time and the control word, into the caller's memory.
+fn put_values(time: Time, word: u64, day: &mut u16, hundredths: &mut u32, control: &mut u64)
+    ensures { λ _. ⌜ now (day .exit) ≡ time .day ⌝ }
+    ensures { λ _. ⌜ now (hundredths .exit) ≡ time .hundredths ⌝ }
+    ensures { λ _. ⌜ now (control .exit) ≡ word ⌝ }
+{
+    *day = time.day;
+    *hundredths = time.hundredths;
+    *control = word;
+}
+
+// 0, or the number of the refusal.
+fn number_of_written(written: Written) -> u8
+    ensures { λ r. ⌜ r ≡ writtenSaid written .number ⌝ }
+{
+    match written {
+        Written::Done => 0,
+        Written::Refused(refusal) => number_of(refusal),
+    }
+}
+
+// A word that is no byte stands for 255: no letter and no expression.
+fn byte_in(word: u64) -> u8
+    ensures { λ r. ⌜ r ≡ byteIn word ⌝ }
+{
+    if word < 256 {
+        return word as u8;
+    }
+    255
+}
+
+// The reader that the caller's words hold, whatever they are.
+fn reader_in(words: [u64; 10]) -> Reader
+    ensures { λ r. ⌜ r ≡ readerIn words ⌝ }
+{
+    let heard = Register {
+        word0: words[3],
+        word1: words[4],
+        word2: words[5],
+        word3: words[6],
+        word4: words[7],
+        word5: words[8],
+        word6: words[9],
+    };
+    let format = format_of(byte_in(words[0]), byte_in(words[1]));
+    Reader {
+        format: format,
+        place: words[2] as usize,
+        heard: heard,
+    }
+}
+
+// The reader's ten words: the letter, the expression, the place, and the seven of the register.
+fn words_for(reader: Reader) -> [u64; 10]
+    ensures { λ r. ⌜ r ≡ wordsFor reader ⌝ }
+{
+    let format = reader.format;
+    let heard = reader.heard;
+    [
+        format.letter as u64,
+        format.expression as u64,
+        reader.place as u64,
+        heard.word0,
+        heard.word1,
+        heard.word2,
+        heard.word3,
+        heard.word4,
+        heard.word5,
+        heard.word6,
+    ]
+}
+
+// Write: a time and a control word as the bytes of the frame.
+#[no_mangle]
+pub extern "C" fn duskveyra_write(
+    letter: u8,
+    expression: u8,
+    day: u16,
+    hundredths: u32,
+    control: u64,
+    frame: &mut [u8],
+) -> u8
+    ensures { λ r. ⌜ r ≡ writeSaid letter expression day hundredths control (now (frame .entry)) .number ⌝ }
+    ensures { λ _. ⌜ now (frame .exit) ≡ writeLeaves (formatOf letter expression) (timeOf day hundredths) control (now (frame .entry)) ⌝ }
+{
+    let written = write(
+        format_of(letter, expression),
+        time_of(day, hundredths),
+        control,
+        frame,
+    );
+    number_of_written(written)
+}
+
+// Read: the time and the control word of a frame; with 5 and 6 the index.
+#[no_mangle]
+pub extern "C" fn duskveyra_read(
+    letter: u8,
+    expression: u8,
+    frame: &[u8],
+    day: &mut u16,
+    hundredths: &mut u32,
+    control: &mut u64,
+    index: &mut usize,
+) -> u8
+    ensures { λ r. ⌜ r ≡ readSaid letter expression (now (frame .entry)) .number ⌝ }
+    ensures { λ _. ⌜ pos (now (day .exit)) ∷ pos (now (hundredths .exit)) ∷ pos (now (control .exit)) ∷ [] ≡ valuesLeft (readSaid letter expression (now (frame .entry))) (pos (now (day .entry)) ∷ pos (now (hundredths .entry)) ∷ pos (now (control .entry)) ∷ []) ⌝ }
+    ensures { λ _. ⌜ pos (now (index .exit)) ≡ indexLeft (readSaid letter expression (now (frame .entry))) (pos (now (index .entry))) ⌝ }
+{
+    let reading = read(format_of(letter, expression), frame);
+    match reading {
+        Reading::Accepted(time, word) => {
+            put_values(time, word, day, hundredths, control);
+            0
+        }
+        Reading::Refused(refusal) => {
+            put_index(refusal, index);
+            number_of(refusal)
+        }
+    }
+}
+
+// Step: the next time.
+#[no_mangle]
+pub extern "C" fn duskveyra_step(
+    letter: u8,
+    expression: u8,
+    day: u16,
+    hundredths: u32,
+    year_length: u16,
+    next_day: &mut u16,
+    next_hundredths: &mut u32,
+) -> u8
+    ensures { λ r. ⌜ r ≡ stepSaid letter expression day hundredths «year_length» .number ⌝ }
+    ensures { λ _. ⌜ pos (now («next_day» .exit)) ∷ pos (now («next_hundredths» .exit)) ∷ [] ≡ valuesLeft (stepSaid letter expression day hundredths «year_length») (pos (now («next_day» .entry)) ∷ pos (now («next_hundredths» .entry)) ∷ []) ⌝ }
+{
+    let stepped = step(
+        format_of(letter, expression),
+        time_of(day, hundredths),
+        year_length,
+    );
+    match stepped {
+        Stepped::Next(time) => {
+            *next_day = time.day;
+            *next_hundredths = time.hundredths;
+            0
+        }
+        Stepped::Refused(refusal) => number_of(refusal),
+    }
+}
+
+// Difference: the first time less the second.
+#[no_mangle]
+pub extern "C" fn duskveyra_difference(
+    first_day: u16,
+    first_hundredths: u32,
+    second_day: u16,
+    second_hundredths: u32,
+    difference: &mut i64,
+) -> u8
+    ensures { λ r. ⌜ r ≡ differenceSaid «first_day» «first_hundredths» «second_day» «second_hundredths» .number ⌝ }
+    ensures { λ _. ⌜ now (difference .exit) ∷ [] ≡ valuesLeft (differenceSaid «first_day» «first_hundredths» «second_day» «second_hundredths») (now (difference .entry) ∷ []) ⌝ }
+{
+    let subtracted = clock::difference(
+        time_of(first_day, first_hundredths),
+        time_of(second_day, second_hundredths),
+    );
+    match subtracted {
+        Subtracted::Hundredths(hundredths) => {
+            *difference = hundredths;
+            0
+        }
+        Subtracted::Refused(refusal) => number_of(refusal),
+    }
+}
+
+// A fresh reader.
+#[no_mangle]
+pub extern "C" fn duskveyra_fresh(letter: u8, expression: u8, reader: &mut [u64; 10]) -> u8
+    ensures { λ r. ⌜ r ≡ freshSaid letter expression .number ⌝ }
+    ensures { λ _. ⌜ now (reader .exit) ≡ freshLeft letter expression (now (reader .entry)) ⌝ }
+{
+    let made = Reader::fresh(format_of(letter, expression));
+    match made {
+        Made::Fresh(fresh) => {
+            *reader = words_for(fresh);
+            0
+        }
+        Made::Refused(refusal) => number_of(refusal),
+    }
+}
+
+// What one Feed brought: the reader's new words and the report, or its refusal and nothing written.
+fn put_fed(
+    fed: Fed,
+    reader: &mut [u64; 10],
+    reported: &mut u8,
+    day: &mut u16,
+    hundredths: &mut u32,
+    control: &mut u64,
+) -> u8
+    ensures { λ r. ⌜ r ≡ fedSaid fed .number ⌝ }
+    ensures { λ _. ⌜ now (reader .exit) ≡ wordsLeft fed (now (reader .entry)) ⌝ }
+    ensures { λ _. ⌜ now (reported .exit) ≡ flagLeft (fedSaid fed) (now (reported .entry)) ⌝ }
+    ensures { λ _. ⌜ pos (now (day .exit)) ∷ pos (now (hundredths .exit)) ∷ pos (now (control .exit)) ∷ [] ≡ valuesLeft (fedSaid fed) (pos (now (day .entry)) ∷ pos (now (hundredths .entry)) ∷ pos (now (control .entry)) ∷ []) ⌝ }
+{
+    let next = fed.reader;
+    let answer = fed.answer;
+    match answer {
+        Answer::Quiet => {
+            *reader = words_for(next);
+            *reported = 0;
+            0
+        }
+        Answer::Report(time, word) => {
+            *reader = words_for(next);
+            *reported = 1;
+            put_values(time, word, day, hundredths, control);
+            0
+        }
+        Answer::Refused(refusal) => number_of(refusal),
+    }
+}
+
+// One Feed of a symbol.
+#[no_mangle]
+pub extern "C" fn duskveyra_feed(
+    reader: &mut [u64; 10],
+    symbol: u8,
+    reported: &mut u8,
+    day: &mut u16,
+    hundredths: &mut u32,
+    control: &mut u64,
+) -> u8
+    ensures { λ r. ⌜ r ≡ fedSaid (feedWords (now (reader .entry)) symbol) .number ⌝ }
+    ensures { λ _. ⌜ now (reader .exit) ≡ wordsLeft (feedWords (now (reader .entry)) symbol) (now (reader .entry)) ⌝ }
+    ensures { λ _. ⌜ now (reported .exit) ≡ flagLeft (fedSaid (feedWords (now (reader .entry)) symbol)) (now (reported .entry)) ⌝ }
+    ensures { λ _. ⌜ pos (now (day .exit)) ∷ pos (now (hundredths .exit)) ∷ pos (now (control .exit)) ∷ [] ≡ valuesLeft (fedSaid (feedWords (now (reader .entry)) symbol)) (pos (now (day .entry)) ∷ pos (now (hundredths .entry)) ∷ pos (now (control .entry)) ∷ []) ⌝ }
+{
+    let fed = feed(reader_in(*reader), symbol);
+    put_fed(fed, reader, reported, day, hundredths, control)
+}
+
+// The classifier: the symbol of one pulse.
+#[no_mangle]
+pub extern "C" fn duskveyra_classify(interval: u32, width: u32, period: u32, symbol: &mut u8) -> u8
+    ensures { λ r. ⌜ r ≡ classifySaid interval width period .number ⌝ }
+    ensures { λ _. ⌜ pos (now (symbol .exit)) ∷ [] ≡ valuesLeft (classifySaid interval width period) (pos (now (symbol .entry)) ∷ []) ⌝ }
+{
+    let classified = classify(interval, width, period);
+    match classified {
+        Classified::Symbol(classed) => {
+            *symbol = classed;
+            0
+        }
+        Classified::Refused(refusal) => number_of(refusal),
+    }
+}
+
+// The classifier over lists of pulses.
+#[no_mangle]
+pub extern "C" fn duskveyra_classify_list(
+    interval: u32,
+    widths: &[u32],
+    periods: &[u32],
+    symbols: &mut [u8],
+) -> u8
+    ensures { λ r. ⌜ r ≡ classifyListSaid interval (now (widths .entry)) (now (periods .entry)) (now (symbols .entry)) .number ⌝ }
+    ensures { λ _. ⌜ now (symbols .exit) ≡ classifyListLeaves interval (now (widths .entry)) (now (periods .entry)) (now (symbols .entry)) ⌝ }
+{
+    let classified = classify_list(interval, widths, periods, symbols);
+    number_of_written(classified)
+}
+
+// One Feed of a pulse's symbol.
+#[no_mangle]
+pub extern "C" fn duskveyra_feed_pulse(
+    reader: &mut [u64; 10],
+    interval: u32,
+    width: u32,
+    period: u32,
+    reported: &mut u8,
+    day: &mut u16,
+    hundredths: &mut u32,
+    control: &mut u64,
+) -> u8
+    ensures { λ r. ⌜ r ≡ fedSaid (feedPulseWords (now (reader .entry)) interval width period) .number ⌝ }
+    ensures { λ _. ⌜ now (reader .exit) ≡ wordsLeft (feedPulseWords (now (reader .entry)) interval width period) (now (reader .entry)) ⌝ }
+    ensures { λ _. ⌜ now (reported .exit) ≡ flagLeft (fedSaid (feedPulseWords (now (reader .entry)) interval width period)) (now (reported .entry)) ⌝ }
+    ensures { λ _. ⌜ pos (now (day .exit)) ∷ pos (now (hundredths .exit)) ∷ pos (now (control .exit)) ∷ [] ≡ valuesLeft (fedSaid (feedPulseWords (now (reader .entry)) interval width period)) (pos (now (day .entry)) ∷ pos (now (hundredths .entry)) ∷ pos (now (control .entry)) ∷ []) ⌝ }
+{
+    let fed = feed_pulse(reader_in(*reader), interval, width, period);
+    put_fed(fed, reader, reported, day, hundredths, control)
+}
+
+// Scan: where a frame begins, and its time and control word.
+#[no_mangle]
+pub extern "C" fn duskveyra_scan(
+    letter: u8,
+    expression: u8,
+    recording: &[u8],
+    start: usize,
+    found: &mut u8,
+    at: &mut usize,
+    day: &mut u16,
+    hundredths: &mut u32,
+    control: &mut u64,
+) -> u8
+    ensures { λ r. ⌜ r ≡ scanSaid letter expression (now (recording .entry)) start .number ⌝ }
+    ensures { λ _. ⌜ now (found .exit) ≡ flagLeft (scanSaid letter expression (now (recording .entry)) start) (now (found .entry)) ⌝ }
+    ensures { λ _. ⌜ pos (now (at .exit)) ∷ pos (now (day .exit)) ∷ pos (now (hundredths .exit)) ∷ pos (now (control .exit)) ∷ [] ≡ valuesLeft (scanSaid letter expression (now (recording .entry)) start) (pos (now (at .entry)) ∷ pos (now (day .entry)) ∷ pos (now (hundredths .entry)) ∷ pos (now (control .entry)) ∷ []) ⌝ }
+{
+    let scanned = scan(format_of(letter, expression), recording, start);
+    match scanned {
+        Scanned::Found(place, time, word) => {
+            *found = 1;
+            *at = place;
+            put_values(time, word, day, hundredths, control);
+            0
+        }
+        Scanned::None => {
+            *found = 0;
+            0
+        }
+        Scanned::Refused(refusal) => number_of(refusal),
+    }
+}
