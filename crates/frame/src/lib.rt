@@ -157,19 +157,27 @@ fn search(format: Format, widths: &[u8], digits: &[u64], frame: &[u8]) -> Readin
     }
 }
 
-// The two agree as far as the frame goes.
+fn and_equal(before: bool, first: u8, second: u8) -> bool
+    ensures { λ r. ⌜ (r ≡ true → (before ≡ true) × (first ≡ second)) ⌝ }
+{
+    if first == second {
+        return before;
+    }
+    false
+}
+
+// The two agree as far as the frame goes. It looks at every element: without a way out the compiler takes many at a time.
 fn agree(form: &[u8], frame: &[u8]) -> bool
     requires { ⌜ length (now frame) ≤ length (now form) ⌝ }
     ensures { λ r. ⌜ (r ≡ true → (k : ℕ) → k < length (now (frame .entry)) → getD (now (frame .entry)) k 0 ≡ getD (now (form .entry)) k 0) ⌝ }
 {
+    let mut same = true;
     let mut i = 0;
     while i < frame.len() {
-        if frame[i] != form[i] {
-            return false;
-        }
+        same = and_equal(same, frame[i], form[i]);
         i += 1;
     }
-    true
+    same
 }
 
 // The frame is the one in which these digits stand.

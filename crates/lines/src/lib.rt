@@ -1,4 +1,5 @@
 // The lines that timeread prints, as ASCII at the start of a lent line.
+// No line is longer than 64 bytes: the longest, of the counts, has at most 59.
 ghost use mathlib.Core.Path.{_≡_};
 ghost use mathlib.Core.List.{[], _∷_, _++_};
 ghost use Prim.Native.Nat.{_+_, _≤_, _<_};
@@ -6,8 +7,8 @@ ghost use lib.ListN.{length, take};
 ghost use Rattle.lines.specs.Text.{glyph, digitsOf, placesOf, decimal, pairOf, clockOf, reportLine, countsLine, refusedLine};
 use timecode::Time;
 
-// No line is longer than 64 bytes: the longest, of the counts, has at most 59.
-fn put(line: &mut [u8], at: usize, byte: u8) -> usize
+// Puts a byte behind what stands before the place, in any lent memory that has room for it.
+pub fn put(line: &mut [u8], at: usize, byte: u8) -> usize
     requires { ⌜ at < length (now line) ⌝ }
     ensures { λ r. ⌜ (r ≡ at + 1) × (length (now (line .exit)) ≡ length (now (line .entry))) × (take r (now (line .exit)) ≡ take at (now (line .entry)) ++ (byte ∷ [])) ⌝ }
 {

@@ -30,7 +30,8 @@ fn write_part(out: &[u8], filled: usize) -> bool {
     false
 }
 
-fn write_first(out: &mut [u8; 65536], filled: usize) -> bool {
+// Writes the first bytes of the output, or says on standard error why it cannot.
+pub fn write_first(out: &mut [u8; 65536], filled: usize) -> bool {
     write_part(out, filled)
 }
 
@@ -105,7 +106,8 @@ fn print_recording(fd: i32, reader: Reader) {
     write_first(&mut out, filled);
 }
 
-fn print_refused(refusal: Refusal) {
+// The line of a refusal, with document 01's number.
+pub fn print_refused(refusal: Refusal) {
     let mut line = [0u8; 64];
     let filled = refused_line(&mut line, number_of(refusal) as u64);
     write_line(&line, filled);

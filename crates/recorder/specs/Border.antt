@@ -8,6 +8,7 @@ use lib.ListN.{getD}
 use Rattle.timecode.specs.Answers.{Said, writtenSaid, readingSaid, steppedSaid, subtractedSaid, classifiedSaid, scannedSaid, answerSaid}
 use Rattle.timecode.specs.Calls.{classifyOf, classifyListOf, differenceOf, scanOf}
 use Rattle.timecode.specs.Frames.{stepOf, writeOf, readOf}
+use Rattle.timecode.specs.declared.Answer.{Answer}
 use Rattle.timecode.specs.declared.Format.{Format}
 use Rattle.timecode.specs.declared.Time.{Time}
 use Rattle.stream.specs.Feeding.{freshReader, madeOf, madeSaid, feedOf}
@@ -49,6 +50,10 @@ freshSaid letter expression = madeSaid (madeOf (formatOf letter expression))
 
 abbrev pub fedSaid : Fed → Said
 fedSaid fed = answerSaid (fed .answer)
+
+-- a Feed's reader and its answer
+abbrev pub fedWith : Reader → Answer → Fed
+fedWith next answer = record { reader = next; answer = answer }
 
 -- ---- What a call leaves in the caller's memory
 

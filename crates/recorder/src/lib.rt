@@ -7,7 +7,7 @@ ghost use lib.ListN.{getD};
 ghost use Rattle.timecode.specs.Answers.{refused, writtenSaid};
 ghost use Rattle.timecode.specs.Calls.{classifyListLeaves};
 ghost use Rattle.timecode.specs.Frames.{writeLeaves};
-ghost use Rattle.recorder.specs.Border.{formatOf, timeOf, writeSaid, readSaid, stepSaid, differenceSaid, classifySaid, classifyListSaid, scanSaid, freshSaid, fedSaid, valuesLeft, flagLeft, indexLeft, wordsFor, byteIn, readerIn, freshLeft, feedWords, feedPulseWords, wordsLeft};
+ghost use Rattle.recorder.specs.Border.{formatOf, timeOf, writeSaid, readSaid, stepSaid, differenceSaid, classifySaid, classifyListSaid, scanSaid, freshSaid, fedSaid, fedWith, valuesLeft, flagLeft, indexLeft, wordsFor, byteIn, readerIn, freshLeft, feedWords, feedPulseWords, wordsLeft};
 use clock::step;
 use frame::read;
 use frame::write;
@@ -17,10 +17,11 @@ use pulse_feed::feed_pulse;
 use refusals::number_of;
 use register::Register;
 use scan::scan;
-use stream::Fed;
 use stream::Made;
 use stream::Reader;
-use stream::feed;
+use stream::answer_to;
+use stream::is_valid;
+use stream::next_reader;
 use timecode::Answer;
 use timecode::Classified;
 use timecode::Format;
@@ -269,20 +270,19 @@ pub extern "C" fn duskveyra_fresh(letter: u8, expression: u8, reader: &mut [u64;
 
 // What one Feed brought: the reader's new words and the report, or its refusal and nothing written.
 fn put_fed(
-    fed: Fed,
+    next: Reader,
+    answer: Answer,
     reader: &mut [u64; 10],
     reported: &mut u8,
     day: &mut u16,
     hundredths: &mut u32,
     control: &mut u64,
 ) -> u8
-    ensures { λ r. ⌜ r ≡ fedSaid fed .number ⌝ }
-    ensures { λ _. ⌜ now (reader .exit) ≡ wordsLeft fed (now (reader .entry)) ⌝ }
-    ensures { λ _. ⌜ now (reported .exit) ≡ flagLeft (fedSaid fed) (now (reported .entry)) ⌝ }
-    ensures { λ _. ⌜ pos (now (day .exit)) ∷ pos (now (hundredths .exit)) ∷ pos (now (control .exit)) ∷ [] ≡ valuesLeft (fedSaid fed) (pos (now (day .entry)) ∷ pos (now (hundredths .entry)) ∷ pos (now (control .entry)) ∷ []) ⌝ }
+    ensures { λ r. ⌜ r ≡ fedSaid (fedWith next answer) .number ⌝ }
+    ensures { λ _. ⌜ now (reader .exit) ≡ wordsLeft (fedWith next answer) (now (reader .entry)) ⌝ }
+    ensures { λ _. ⌜ now (reported .exit) ≡ flagLeft (fedSaid (fedWith next answer)) (now (reported .entry)) ⌝ }
+    ensures { λ _. ⌜ pos (now (day .exit)) ∷ pos (now (hundredths .exit)) ∷ pos (now (control .exit)) ∷ [] ≡ valuesLeft (fedSaid (fedWith next answer)) (pos (now (day .entry)) ∷ pos (now (hundredths .entry)) ∷ pos (now (control .entry)) ∷ []) ⌝ }
 {
-    let next = fed.reader;
-    let answer = fed.answer;
     match answer {
         Answer::Quiet => {
             *reader = words_for(next);
@@ -297,6 +297,26 @@ fn put_fed(
         }
         Answer::Refused(refusal) => number_of(refusal),
     }
+}
+
+// One Feed of a symbol that is no mark, which brings no report. Most symbols are none, and no reader is copied for them.
+fn feed_other(reader: &mut [u64; 10], symbol: u8, reported: &mut u8) -> u8
+    requires { ⌜ ¬ (symbol ≡ 2) ⌝ }
+    ensures { λ r. ⌜ r ≡ fedSaid (feedWords (now (reader .entry)) symbol) .number ⌝ }
+    ensures { λ _. ⌜ now (reader .exit) ≡ wordsLeft (feedWords (now (reader .entry)) symbol) (now (reader .entry)) ⌝ }
+    ensures { λ _. ⌜ now (reported .exit) ≡ flagLeft (fedSaid (feedWords (now (reader .entry)) symbol)) (now (reported .entry)) ⌝ }
+    ensures { λ _. ⌜ fedSaid (feedWords (now (reader .entry)) symbol) .values ≡ [] ⌝ }
+{
+    let held = reader_in(*reader);
+    if is_valid(held) {
+        if symbol <= 3 {
+            *reader = words_for(next_reader(held, symbol));
+            *reported = 0;
+            return 0;
+        }
+        return 4;
+    }
+    13
 }
 
 // One Feed of a symbol.
@@ -314,8 +334,13 @@ pub extern "C" fn duskveyra_feed(
     ensures { λ _. ⌜ now (reported .exit) ≡ flagLeft (fedSaid (feedWords (now (reader .entry)) symbol)) (now (reported .entry)) ⌝ }
     ensures { λ _. ⌜ pos (now (day .exit)) ∷ pos (now (hundredths .exit)) ∷ pos (now (control .exit)) ∷ [] ≡ valuesLeft (fedSaid (feedWords (now (reader .entry)) symbol)) (pos (now (day .entry)) ∷ pos (now (hundredths .entry)) ∷ pos (now (control .entry)) ∷ []) ⌝ }
 {
-    let fed = feed(reader_in(*reader), symbol);
-    put_fed(fed, reader, reported, day, hundredths, control)
+    if symbol == 2 {
+        let held = reader_in(*reader);
+        let answer = answer_to(held, symbol);
+        let next = next_reader(held, symbol);
+        return put_fed(next, answer, reader, reported, day, hundredths, control);
+    }
+    feed_other(reader, symbol, reported)
 }
 
 // The classifier: the symbol of one pulse.
@@ -367,7 +392,9 @@ pub extern "C" fn duskveyra_feed_pulse(
     ensures { λ _. ⌜ pos (now (day .exit)) ∷ pos (now (hundredths .exit)) ∷ pos (now (control .exit)) ∷ [] ≡ valuesLeft (fedSaid (feedPulseWords (now (reader .entry)) interval width period)) (pos (now (day .entry)) ∷ pos (now (hundredths .entry)) ∷ pos (now (control .entry)) ∷ []) ⌝ }
 {
     let fed = feed_pulse(reader_in(*reader), interval, width, period);
-    put_fed(fed, reader, reported, day, hundredths, control)
+    let next = fed.reader;
+    let answer = fed.answer;
+    put_fed(next, answer, reader, reported, day, hundredths, control)
 }
 
 // Scan: where a frame begins, and its time and control word.

@@ -5,7 +5,7 @@ use mathlib.Core.List.{List}
 use Prim.Native.Nat.{ℕ, _+_, _*_, _-_, _<_, _≤_}
 use native.Mathlib.Nat.{zero-add}
 use native.Mathlib.Omega.{arith}
-use borrow.Author.Tests.{eqb-true, eq-eqb, ne-eqb}
+use borrow.Author.Tests.{eqb-true, eq-eqb, ne-eqb, le-leb}
 use lib.Dec.{eqb}
 use lib.ListN.{getD, length}
 use lib.Seq.{ext-getD}
@@ -22,7 +22,8 @@ use Rattle.timecode.specs.declared.Format.{Format}
 use Rattle.timecode.specs.declared.Time.{Time}
 use Rattle.register.specs.Symbols.{wordsOf, pushOf, heardAt, heardFrame, heard-newest}
 use Rattle.register.specs.declared.Register.{Register}
-use Rattle.stream.specs.Feeding.{windowIn}
+use Rattle.stream.specs.Feeding.{isValid, windowIn, answerOf}
+use Rattle.stream.specs.declared.Reader.{Reader}
 
 -- ---- the window's symbols and frames
 
@@ -116,3 +117,8 @@ pub other-quiet : (f : Format) (r : Register) (s : ℕ) → s ≤ 3 → (s ≡ 2
 other-quiet f r s b n =
     let words = wordsOf (pushOf r s) in
     sym (window-quiet f (windowIn f words) (λ t w a. n (let newest = sym (heard-newest r s) ∙ confirmed-newest f words t w (window-confirmed f (windowIn f words) t w a) in omega arith)))
+
+-- the answer to a symbol that is no mark
+pub other-answer : (r : Reader) (s : ℕ) → isValid r ≡ true → s ≤ 3 → (s ≡ 2 → ⊥) → answerOf r s ≡ Quiet
+unfolding answerOf
+other-answer r s v b n = rw (v, le-leb s 3 b) (sym (other-quiet (r .format) (r .heard) s b n))

@@ -70,7 +70,7 @@ impl Reader {
 }
 
 // Number 13: the format is known, and the place is below n.
-fn is_valid(reader: Reader) -> bool
+pub fn is_valid(reader: Reader) -> bool
     ensures { λ r. ⌜ r ≡ isValid reader ⌝ }
 {
     if is_known(reader.format) {

@@ -1,20 +1,55 @@
 -- `duskveyra_feed` meets its contract: one Feed of the reader that the words are.
 use borrow.Author.Needs.{needs}
+use Rattle.stream.specs.Feeding.{feedOf}
+use Rattle.recorder.specs.Border.{fedSaid, feedWords}
+use Rattle.recorder.specs.Laws.{no-values-left}
 use Rattle.recorder.proofs.duskveyra_feed.Statement.{statement}
 use Rattle.recorder.proofs.duskveyra_feed.Tie as tie
+use Rattle.recorder.proofs.duskveyra_feed.Reads as reads
+use Rattle.recorder.proofs.duskveyra_feed.Lts as lts
+use Rattle.recorder.proofs.feed_other.Reads as feed-other-reads
+use Rattle.recorder.proofs.put_fed.Reads as put-fed-reads
+use Rattle.recorder.proofs.reader_in.Reads as reader-in-reads
+use Rattle.stream.proofs.answer_to.Reads as answer-to-reads
+use Rattle.stream.proofs.next_reader.Reads as next-reader-reads
 
+-- src/lib.rt:338:13
 reader-in-requires : tie.Need-reader-in-requires
 reader-in-requires c κs = search needs
 
-feed-requires : tie.Need-feed-requires
-feed-requires c κs = search needs
+-- src/lib.rt:339:13
+answer-to-requires : tie.Need-answer-to-requires
+answer-to-requires c κs = search needs
 
+-- src/lib.rt:340:13
+next-reader-requires : tie.Need-next-reader-requires
+next-reader-requires c κs = search needs
+
+-- src/lib.rt:341:9
 put-fed-requires : tie.Need-put-fed-requires
 put-fed-requires c κs = search needs
 
+-- src/lib.rt:341:9
 returns : tie.Need-returns
-returns c = rw (← c .before .before .before .before .before .before .before .reader-in .ensures, ← c .before .before .before .before .before .before .feed .ensures) (c .put-fed .ensures)
+unfolding feedOf
+returns c = rw (← c .before .before .before .before .before .before .before .before .reader-in .ensures, ← c .before .before .before .before .before .before .next-reader .ensures, ← c .before .before .before .before .before .before .before .answer-to .ensures) (c .put-fed .ensures)
+
+-- src/lib.rt:343:5
+feed-other-requires : tie.Need-feed-other-requires
+feed-other-requires c κs = c .before .before .if1 .left
+
+-- src/lib.rt:323:1
+returns-2 : tie.Need-returns-2
+returns-2 c = (c .feed-other .ensures .0, (c .feed-other .ensures .1 .0, (c .feed-other .ensures .1 .1 .0, no-values-left (fedSaid (feedWords (c .before .before .before .before .args .reader .now) (c .before .before .before .before .args .symbol))) _ (c .feed-other .ensures .1 .1 .1))))
 
 pub duskveyra-feed-spec : {M : Type 1} → statement M
 duskveyra-feed-spec =
-    tie.close (tie.spec reader-in-requires feed-requires put-fed-requires returns)
+    tie.close
+    (tie.spec
+    reader-in-requires
+    answer-to-requires
+    next-reader-requires
+    put-fed-requires
+    returns
+    feed-other-requires
+    returns-2)

@@ -2,18 +2,27 @@
 use borrow.Author.Needs.{needs}
 use Rattle.recorder.proofs.duskveyra_feed_pulse.Statement.{statement}
 use Rattle.recorder.proofs.duskveyra_feed_pulse.Tie as tie
+use Rattle.recorder.proofs.duskveyra_feed_pulse.Reads as reads
+use Rattle.recorder.proofs.duskveyra_feed_pulse.Lts as lts
+use Rattle.pulse_feed.proofs.feed_pulse.Reads as feed-pulse-reads
+use Rattle.recorder.proofs.put_fed.Reads as put-fed-reads
+use Rattle.recorder.proofs.reader_in.Reads as reader-in-reads
 
+-- src/lib.rt:370:26
 reader-in-requires : tie.Need-reader-in-requires
 reader-in-requires c κs = search needs
 
+-- src/lib.rt:370:9
 feed-pulse-requires : tie.Need-feed-pulse-requires
 feed-pulse-requires c κs = search needs
 
+-- src/lib.rt:373:5
 put-fed-requires : tie.Need-put-fed-requires
 put-fed-requires c κs = search needs
 
+-- src/lib.rt:354:1
 returns : tie.Need-returns
-returns c = rw (← c .before .before .before .before .before .before .before .reader-in .ensures, ← c .before .before .before .before .before .before .feed-pulse .ensures) (c .put-fed .ensures)
+returns c = rw (← c .before .before .before .before .before .before .before .before .reader-in .ensures, ← c .before .before .before .before .before .before .before .feed-pulse .ensures) (c .put-fed .ensures)
 
 pub duskveyra-feed-pulse-spec : {M : Type 1} → statement M
 duskveyra-feed-pulse-spec =

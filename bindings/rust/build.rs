@@ -1,0 +1,27 @@
+//! Links librecorder.a from the directory in DUSKVEYRA_LIB, or else from target/staticlib of this repository.
+//! A relative path counts from the directory of this file.
+
+use std::path::{Path, PathBuf};
+use std::{env, process};
+
+fn main() {
+    println!("cargo:rerun-if-env-changed=DUSKVEYRA_LIB");
+    let package = env::var_os("CARGO_MANIFEST_DIR").unwrap_or_default();
+    let directory = match env::var_os("DUSKVEYRA_LIB") {
+        Some(given) => PathBuf::from(given),
+        None => PathBuf::from("../../target/staticlib"),
+    };
+    // The linker runs in another directory, so the path must be a whole one.
+    let directory = Path::new(&package).join(directory);
+    let archive = directory.join("librecorder.a");
+    println!("cargo:rerun-if-changed={}", archive.display());
+    if !archive.is_file() {
+        eprintln!(
+            "no {}: run `rt staticlib recorder` in the repository, or set DUSKVEYRA_LIB",
+            archive.display()
+        );
+        process::exit(1);
+    }
+    println!("cargo:rustc-link-search=native={}", directory.display());
+    println!("cargo:rustc-link-lib=static=recorder");
+}

@@ -1,0 +1,338 @@
+//! The time code engine for Rust: safe types over the library librecorder.a.
+//!
+//! A symbol is one byte: [`ZERO`] (zero or index marker), [`ONE`], [`MARK`] (position identifier or reference bit) or
+//! [`SPOILED`]. Every value of every argument is allowed: what is out of range is refused with its number, and a
+//! refusal leaves lent memory and the reader as they were.
+//!
+//! ```
+//! use duskveyra::{write, Format, Reader, Report, Time};
+//!
+//! let format = Format { letter: b'H', expression: 1 };
+//! let mut reader = Reader::fresh(format)?;
+//! let mut frame = [0; 60];
+//! // A reader reports with the last element of the second of two frames behind a mark.
+//! assert_eq!(reader.feed(duskveyra::MARK), Ok(None));
+//! write(format, Time { day: 191, hundredths: 5_088_000 }, 0, &mut frame)?;
+//! for symbol in frame {
+//!     assert_eq!(reader.feed(symbol), Ok(None));
+//! }
+//! let time = Time { day: 191, hundredths: 5_094_000 };
+//! write(format, time, 0b101, &mut frame)?;
+//! let last = frame.map(|symbol| reader.feed(symbol))[59];
+//! assert_eq!(last, Ok(Some(Report { time, control: 0b101 })));
+//! # Ok::<(), duskveyra::Refusal>(())
+//! ```
+
+#![warn(missing_docs)]
+
+mod refusal;
+#[allow(missing_docs)]
+pub mod sys;
+
+pub use refusal::Refusal;
+
+/// Symbol of a zero or an index marker.
+pub const ZERO: u8 = 0;
+/// Symbol of a one.
+pub const ONE: u8 = 1;
+/// Symbol of a mark: a position identifier or reference bit.
+pub const MARK: u8 = 2;
+/// Symbol of a spoiled element.
+pub const SPOILED: u8 = 3;
+/// The elements of the longest frame.
+pub const LONGEST_FRAME: usize = 100;
+/// The words of a [`Reader`].
+pub const READER_WORDS: usize = 10;
+
+/// A rate letter and a coded expression. Any two bytes make a value of this type; a call refuses one that is no format
+/// with [`Refusal::UnknownFormat`].
+///
+/// | letter | expressions | elements of a frame | frame interval in hundredths | control bits (expressions 0, 1) |
+/// |---|---|---|---|---|
+/// | A | 0 to 3 | 100 | 10 | 27 |
+/// | B | 0 to 3 | 100 | 100 | 27 |
+/// | D | 1, 2 | 60 | 360,000 | 9 |
+/// | E | 1, 2 | 100 | 1,000 | 45 |
+/// | G | 1, 2 | 100 | 1 | 36 |
+/// | H | 1, 2 | 60 | 6,000 | 9 |
+#[derive(Clone, Copy, Debug, PartialEq, Eq, Hash)]
+pub struct Format {
+    /// The rate letter in capital ASCII.
+    pub letter: u8,
+    /// The coded expression: 0 = BCD, CF, SBS; 1 = BCD, CF; 2 = BCD; 3 = BCD, SBS.
+    pub expression: u8,
+}
+
+/// A day of the year and the hundredths of a second since midnight. Any two numbers make a value of this type; a call
+/// refuses one that is out of range, or not on the format, with [`Refusal::InvalidTime`].
+#[derive(Clone, Copy, Debug, PartialEq, Eq, Hash)]
+pub struct Time {
+    /// The day, 1 to 366.
+    pub day: u16,
+    /// Hundredths of a second since midnight, 0 to 8,639,999.
+    pub hundredths: u32,
+}
+
+/// A time and control word that a frame carries.
+#[derive(Clone, Copy, Debug, PartialEq, Eq, Hash)]
+pub struct Report {
+    /// The time at the leading edge of the frame's reference mark.
+    pub time: Time,
+    /// The control word; control bit 1 is its lowest bit.
+    pub control: u64,
+}
+
+/// What [`scan`] finds.
+#[derive(Clone, Copy, Debug, PartialEq, Eq, Hash)]
+pub struct Found {
+    /// The index of the frame's first element in the recording.
+    pub at: usize,
+    /// What the frame says.
+    pub report: Report,
+}
+
+/// Writes a time and a control word as the symbols of one frame; every byte of `frame` is set.
+///
+/// Refuses with 1; 2; 9; 3 where `frame` has not the format's number of elements; in this order. A refusal leaves
+/// `frame` as it was.
+#[inline]
+pub fn write(format: Format, time: Time, control: u64, frame: &mut [u8]) -> Result<(), Refusal> {
+    // SAFETY: the pointer and the length are those of one lent slice, which nothing else points into.
+    let number = unsafe {
+        sys::duskveyra_write(
+            format.letter,
+            format.expression,
+            time.day,
+            time.hundredths,
+            control,
+            frame.as_mut_ptr(),
+            frame.len(),
+        )
+    };
+    Refusal::check(number, 0)
+}
+
+/// Reads one frame: the time and the control word that are written as these symbols.
+///
+/// Refuses with 1; 3; 4; the lowest index that offends with 5 or 6; 7; 8; in this order.
+#[inline]
+pub fn read(format: Format, frame: &[u8]) -> Result<Report, Refusal> {
+    let (mut day, mut hundredths, mut control, mut index) = (0, 0, 0, 0);
+    // SAFETY: the pointer and the length are those of one slice, and the other four point to locals.
+    let number = unsafe {
+        sys::duskveyra_read(
+            format.letter,
+            format.expression,
+            frame.as_ptr(),
+            frame.len(),
+            &mut day,
+            &mut hundredths,
+            &mut control,
+            &mut index,
+        )
+    };
+    Refusal::check(number, index)?;
+    Ok(report(day, hundredths, control))
+}
+
+/// The time of the frame after the one with this time, in a year of `year_length` days.
+///
+/// Refuses with 1; 2; 11; in this order.
+#[inline]
+pub fn step(format: Format, time: Time, year_length: u16) -> Result<Time, Refusal> {
+    let (mut day, mut hundredths) = (0, 0);
+    // SAFETY: both pointers point to locals.
+    let number = unsafe {
+        sys::duskveyra_step(
+            format.letter,
+            format.expression,
+            time.day,
+            time.hundredths,
+            year_length,
+            &mut day,
+            &mut hundredths,
+        )
+    };
+    Refusal::check(number, 0)?;
+    Ok(Time { day, hundredths })
+}
+
+/// The first time less the second, within one year, in signed hundredths of a second.
+///
+/// Refuses with 2 where a day or hundredths are out of range; no grid of a format is asked for.
+#[inline]
+pub fn difference(first: Time, second: Time) -> Result<i64, Refusal> {
+    let mut difference = 0;
+    // SAFETY: the pointer points to a local.
+    let number = unsafe {
+        sys::duskveyra_difference(
+            first.day,
+            first.hundredths,
+            second.day,
+            second.hundredths,
+            &mut difference,
+        )
+    };
+    Refusal::check(number, 0)?;
+    Ok(difference)
+}
+
+/// The symbol of one pulse by its width and its period, in the ticks of `interval`, the nominal element interval.
+///
+/// Refuses with 10.
+#[inline]
+pub fn classify(interval: u32, width: u32, period: u32) -> Result<u8, Refusal> {
+    let mut symbol = 0;
+    // SAFETY: the pointer points to a local.
+    let number = unsafe { sys::duskveyra_classify(interval, width, period, &mut symbol) };
+    Refusal::check(number, 0)?;
+    Ok(symbol)
+}
+
+/// Classifies a list of pulses: symbol i is that of width i and period i; every symbol is set.
+///
+/// Refuses with 10; 3 where the three lengths are not one; in this order. A refusal leaves `symbols` as they were.
+#[inline]
+pub fn classify_list(
+    interval: u32,
+    widths: &[u32],
+    periods: &[u32],
+    symbols: &mut [u8],
+) -> Result<(), Refusal> {
+    // SAFETY: each pointer and length are those of one slice, and nothing else points into the symbols.
+    let number = unsafe {
+        sys::duskveyra_classify_list(
+            interval,
+            widths.as_ptr(),
+            widths.len(),
+            periods.as_ptr(),
+            periods.len(),
+            symbols.as_mut_ptr(),
+            symbols.len(),
+        )
+    };
+    Refusal::check(number, 0)
+}
+
+/// Looks in a recording of symbols for the first frame that begins at `start` or later, and at index 1 or later, behind
+/// a mark; `None` where there is none. Bytes above 3 fit nowhere.
+///
+/// Refuses with 1; 12 where `start` is above the recording's length; in this order.
+#[inline]
+pub fn scan(format: Format, recording: &[u8], start: usize) -> Result<Option<Found>, Refusal> {
+    let (mut found, mut at, mut day, mut hundredths, mut control) = (0, 0, 0, 0, 0);
+    // SAFETY: the pointer and the length are those of one slice, and the other five point to locals.
+    let number = unsafe {
+        sys::duskveyra_scan(
+            format.letter,
+            format.expression,
+            recording.as_ptr(),
+            recording.len(),
+            start,
+            &mut found,
+            &mut at,
+            &mut day,
+            &mut hundredths,
+            &mut control,
+        )
+    };
+    Refusal::check(number, 0)?;
+    Ok((found != 0).then(|| Found {
+        at,
+        report: report(day, hundredths, control),
+    }))
+}
+
+/// A stream reader: it hears one symbol at a time and reports with the one that ends the second of two frames behind a
+/// mark, the second's time next after the first's.
+#[derive(Clone, Debug, PartialEq, Eq, Hash)]
+pub struct Reader {
+    words: [u64; READER_WORDS],
+}
+
+impl Reader {
+    /// A reader that has a format and has heard nothing.
+    ///
+    /// Refuses with 1.
+    #[inline]
+    pub fn fresh(format: Format) -> Result<Reader, Refusal> {
+        let mut words = [0; READER_WORDS];
+        // SAFETY: the pointer points to a local of ten words.
+        let number = unsafe { sys::duskveyra_fresh(format.letter, format.expression, &mut words) };
+        Refusal::check(number, 0)?;
+        Ok(Reader { words })
+    }
+
+    /// The reader that these words hold, as [`words`](Reader::words) gave them. Any words are allowed: a letter,
+    /// expression or place out of range is refused with 13 when the reader is fed. Of other words that no feeding
+    /// made, what is reported is not promised.
+    #[inline]
+    pub fn from_words(words: [u64; READER_WORDS]) -> Reader {
+        Reader { words }
+    }
+
+    /// The reader's words, to be stored: the letter, the expression, the place, and seven of the symbols heard last.
+    #[inline]
+    pub fn words(&self) -> [u64; READER_WORDS] {
+        self.words
+    }
+
+    /// Feeds one symbol: `Some` where it ended the second of two frames that follow each other behind a mark, with that
+    /// frame's time and control word; else `None`.
+    ///
+    /// Refuses with 13; 4; in this order, and then feeds nothing and leaves the reader as it was. A reader made by
+    /// [`fresh`](Reader::fresh) and changed by feeding alone never meets 13.
+    #[inline]
+    pub fn feed(&mut self, symbol: u8) -> Result<Option<Report>, Refusal> {
+        let (mut reported, mut day, mut hundredths, mut control) = (0, 0, 0, 0);
+        // SAFETY: the reader's words are lent alone, and the other four pointers point to locals.
+        let number = unsafe {
+            sys::duskveyra_feed(
+                &mut self.words,
+                symbol,
+                &mut reported,
+                &mut day,
+                &mut hundredths,
+                &mut control,
+            )
+        };
+        Refusal::check(number, 0)?;
+        Ok((reported != 0).then(|| report(day, hundredths, control)))
+    }
+
+    /// Classifies one pulse, as [`classify`] does, and feeds its symbol.
+    ///
+    /// Refuses with 10; 13; in this order, and then feeds nothing and leaves the reader as it was.
+    #[inline]
+    pub fn feed_pulse(
+        &mut self,
+        interval: u32,
+        width: u32,
+        period: u32,
+    ) -> Result<Option<Report>, Refusal> {
+        let (mut reported, mut day, mut hundredths, mut control) = (0, 0, 0, 0);
+        // SAFETY: the reader's words are lent alone, and the other four pointers point to locals.
+        let number = unsafe {
+            sys::duskveyra_feed_pulse(
+                &mut self.words,
+                interval,
+                width,
+                period,
+                &mut reported,
+                &mut day,
+                &mut hundredths,
+                &mut control,
+            )
+        };
+        Refusal::check(number, 0)?;
+        Ok((reported != 0).then(|| report(day, hundredths, control)))
+    }
+}
+
+#[inline]
+fn report(day: u16, hundredths: u32, control: u64) -> Report {
+    Report {
+        time: Time { day, hundredths },
+        control,
+    }
+}

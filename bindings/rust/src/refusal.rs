@@ -1,0 +1,114 @@
+//! The thirteen numbers that a call refuses with.
+
+use std::error::Error;
+use std::fmt;
+
+/// Why a call was refused. The numbers 5 and 6 carry the index of the element, counted from 0.
+#[derive(Clone, Copy, Debug, PartialEq, Eq, Hash)]
+pub enum Refusal {
+    /// 1: letter or expression not among the formats.
+    UnknownFormat,
+    /// 2: day or hundredths out of range, or not on the format.
+    InvalidTime,
+    /// 3: frame not of the format's length, or the classifier's three lengths differ.
+    WrongLength,
+    /// 4: symbol above 3.
+    UnknownSymbol,
+    /// 5: mark missing, or where none belongs.
+    MisplacedMark(usize),
+    /// 6: a 1 or 3 as index marker, or a 3 in the place of a digit, straight binary seconds or control bit.
+    InvalidElement(usize),
+    /// 7: digit over 9, hours over 23, minutes or seconds over 59, day 0 or over 366.
+    InvalidDigit,
+    /// 8: straight binary seconds differ from the digits.
+    SecondsDiffer,
+    /// 9: control word needs more bits than are carried.
+    ControlTooLong,
+    /// 10: nominal element interval not 100 to 10,000,000 ticks.
+    InvalidInterval,
+    /// 11: year length not 365 or 366, or the day is beyond it.
+    InvalidYearLength,
+    /// 12: start past the recording's end.
+    StartPastEnd,
+    /// 13: the reader's letter, expression or place out of range.
+    InvalidReader,
+}
+
+impl Refusal {
+    /// The number, 1 to 13.
+    pub fn number(self) -> u8 {
+        match self {
+            Refusal::UnknownFormat => 1,
+            Refusal::InvalidTime => 2,
+            Refusal::WrongLength => 3,
+            Refusal::UnknownSymbol => 4,
+            Refusal::MisplacedMark(_) => 5,
+            Refusal::InvalidElement(_) => 6,
+            Refusal::InvalidDigit => 7,
+            Refusal::SecondsDiffer => 8,
+            Refusal::ControlTooLong => 9,
+            Refusal::InvalidInterval => 10,
+            Refusal::InvalidYearLength => 11,
+            Refusal::StartPastEnd => 12,
+            Refusal::InvalidReader => 13,
+        }
+    }
+
+    /// The index of the element that offends, with the numbers 5 and 6.
+    pub fn index(self) -> Option<usize> {
+        match self {
+            Refusal::MisplacedMark(index) | Refusal::InvalidElement(index) => Some(index),
+            _ => None,
+        }
+    }
+
+    /// What the library returned; `index` is used with 5 and 6 alone.
+    pub(crate) fn check(number: u8, index: usize) -> Result<(), Refusal> {
+        Err(match number {
+            0 => return Ok(()),
+            1 => Refusal::UnknownFormat,
+            2 => Refusal::InvalidTime,
+            3 => Refusal::WrongLength,
+            4 => Refusal::UnknownSymbol,
+            5 => Refusal::MisplacedMark(index),
+            6 => Refusal::InvalidElement(index),
+            7 => Refusal::InvalidDigit,
+            8 => Refusal::SecondsDiffer,
+            9 => Refusal::ControlTooLong,
+            10 => Refusal::InvalidInterval,
+            11 => Refusal::InvalidYearLength,
+            12 => Refusal::StartPastEnd,
+            13 => Refusal::InvalidReader,
+            _ => unreachable!("the library returned {number}, which is no number of a refusal"),
+        })
+    }
+}
+
+impl fmt::Display for Refusal {
+    fn fmt(&self, f: &mut fmt::Formatter<'_>) -> fmt::Result {
+        let why = match self {
+            Refusal::UnknownFormat => "letter or expression not among the formats",
+            Refusal::InvalidTime => "day or hundredths out of range, or not on the format",
+            Refusal::WrongLength => {
+                "frame not of the format's length, or lists of different lengths"
+            }
+            Refusal::UnknownSymbol => "symbol above 3",
+            Refusal::MisplacedMark(_) => "mark missing, or where none belongs",
+            Refusal::InvalidElement(_) => "index marker not zero, or a spoiled bit",
+            Refusal::InvalidDigit => "digit, clock or day out of range",
+            Refusal::SecondsDiffer => "straight binary seconds differ from the digits",
+            Refusal::ControlTooLong => "control word needs more bits than are carried",
+            Refusal::InvalidInterval => "nominal element interval out of range",
+            Refusal::InvalidYearLength => "year length not 365 or 366, or the day is beyond it",
+            Refusal::StartPastEnd => "start past the recording's end",
+            Refusal::InvalidReader => "reader's letter, expression or place out of range",
+        };
+        write!(f, "refused {}: {why}", self.number())?;
+        match self.index() {
+            Some(index) => write!(f, ", at element {index}"),
+            None => Ok(()),
+        }
+    }
+}
+
+impl Error for Refusal {}

@@ -1,0 +1,316 @@
+//! Every call through the safe types: document 01's examples, each refusal and the order of refusals, lent memory left
+//! as it was, and readers stored and made again.
+
+use duskveyra::{
+    classify, classify_list, difference, read, scan, step, write, Format, Found, Reader, Refusal,
+    Report, Time, LONGEST_FRAME, MARK, ONE, SPOILED, ZERO,
+};
+
+const FORMATS: [&str; 16] = [
+    "A0", "A1", "A2", "A3", "B0", "B1", "B2", "B3", "D1", "D2", "E1", "E2", "G1", "G2", "H1", "H2",
+];
+
+const LISTING: &str = "P P00000000P 000100000P 001001000P 100001001P 100000000P 000000000P \
+     P00000000P 100100000P 001001000P 100001001P 100000000P 000000000P";
+
+fn format(name: &str) -> Format {
+    Format {
+        letter: name.as_bytes()[0],
+        expression: name.as_bytes()[1] - b'0',
+    }
+}
+
+fn time(day: u16, hundredths: u32) -> Time {
+    Time { day, hundredths }
+}
+
+fn symbols(text: &str) -> Vec<u8> {
+    text.bytes()
+        .filter(|&character| character != b' ')
+        .map(|character| match character {
+            b'0' => ZERO,
+            b'1' => ONE,
+            b'P' => MARK,
+            _ => SPOILED,
+        })
+        .collect()
+}
+
+/// n and S of document 01's table.
+fn table(format: Format) -> (usize, u32) {
+    match format.letter {
+        b'A' => (100, 10),
+        b'B' => (100, 100),
+        b'D' => (60, 360_000),
+        b'E' => (100, 1_000),
+        b'G' => (100, 1),
+        _ => (60, 6_000),
+    }
+}
+
+fn frame(name: &str, at: Time, control: u64) -> Vec<u8> {
+    let mut frame = vec![0xa5; table(format(name)).0];
+    write(format(name), at, control, &mut frame).expect("a time and control word to write");
+    frame
+}
+
+#[test]
+fn write_refuses_in_order_and_leaves_the_frame() {
+    let known = format("B1");
+    let wrong = Format {
+        letter: b'b',
+        ..known
+    };
+    let mut lent = [0xa5; LONGEST_FRAME];
+    for bad in 0..16 {
+        let expected = [
+            Refusal::UnknownFormat,
+            Refusal::InvalidTime,
+            Refusal::ControlTooLong,
+            Refusal::WrongLength,
+        ]
+        .into_iter()
+        .enumerate()
+        .find(|(bit, _)| bad >> bit & 1 == 1)
+        .map(|(_, refusal)| refusal);
+        let answer = write(
+            if bad & 1 != 0 { wrong } else { known },
+            time(1, if bad & 2 != 0 { 50 } else { 0 }),
+            if bad & 4 != 0 { 1 << 27 } else { 0 },
+            &mut lent[..if bad & 8 != 0 { 99 } else { 100 }],
+        );
+        assert_eq!(answer.err(), expected);
+        assert!(expected.is_none() || lent == [0xa5; LONGEST_FRAME]);
+        lent = [0xa5; LONGEST_FRAME];
+    }
+}
+
+#[test]
+fn examples_of_writing_and_reading() {
+    assert_eq!(
+        frame("H1", time(191, 5_088_000), 0),
+        symbols(LISTING)[1..61]
+    );
+    let written = frame("B0", time(1, 5_091_200), 0);
+    let ones: Vec<usize> = (80..98).filter(|&index| written[index] == ONE).collect();
+    assert_eq!(ones, [85, 86, 87, 90, 91, 95, 96]);
+    assert_eq!(frame("H1", time(1, 0), 511)[50..59], [ONE; 9]);
+
+    for name in FORMATS {
+        let (n, interval) = table(format(name));
+        let last = time(366, 8_640_000 - interval);
+        let good = frame(name, last, 0);
+        let report = Report {
+            time: last,
+            control: 0,
+        };
+        assert_eq!(read(format(name), &good), Ok(report));
+        assert_eq!(
+            read(format(name), &good[..n - 1]),
+            Err(Refusal::WrongLength)
+        );
+        assert_eq!(read(format(name), &[]), Err(Refusal::WrongLength));
+        for index in 0..n {
+            let mut bad = good.clone();
+            bad[index] = 4;
+            assert_eq!(read(format(name), &bad), Err(Refusal::UnknownSymbol));
+            bad[index] = SPOILED;
+            let expected = match good[index] {
+                MARK => Refusal::MisplacedMark(index),
+                _ => Refusal::InvalidElement(index),
+            };
+            assert_eq!(read(format(name), &bad), Err(expected));
+        }
+    }
+
+    let mut bad = frame("B2", time(366, 0), 0);
+    bad[30] = ONE;
+    assert_eq!(read(format("B2"), &bad), Err(Refusal::InvalidDigit));
+    let mut bad = frame("B0", time(1, 100), 0);
+    bad[80] = ZERO;
+    assert_eq!(read(format("B0"), &bad), Err(Refusal::SecondsDiffer));
+    bad[5] = ONE;
+    assert_eq!(read(format("B0"), &bad), Err(Refusal::InvalidElement(5)));
+    bad[0] = ONE;
+    assert_eq!(read(format("B0"), &bad), Err(Refusal::MisplacedMark(0)));
+}
+
+#[test]
+fn step_and_difference() {
+    let b = format("B0");
+    let last = time(365, 8_639_900);
+    assert_eq!(step(b, last, 365), Ok(time(1, 0)));
+    assert_eq!(step(b, last, 366), Ok(time(366, 0)));
+    assert_eq!(step(b, last, 364), Err(Refusal::InvalidYearLength));
+    assert_eq!(step(b, time(366, 0), 365), Err(Refusal::InvalidYearLength));
+    assert_eq!(step(b, time(1, 50), 364), Err(Refusal::InvalidTime));
+    assert_eq!(
+        step(format("D0"), time(0, 50), 364),
+        Err(Refusal::UnknownFormat)
+    );
+
+    assert_eq!(difference(time(2, 0), time(1, 8_639_999)), Ok(1));
+    assert_eq!(difference(time(1, 8_639_999), time(2, 0)), Ok(-1));
+    assert_eq!(difference(time(9, 7), time(9, 7)), Ok(0));
+    assert_eq!(
+        difference(time(1, 0), time(366, 8_639_999)),
+        Ok(-3_162_239_999)
+    );
+    for bad in [time(0, 0), time(367, 0), time(1, 8_640_000)] {
+        assert_eq!(difference(bad, time(1, 0)), Err(Refusal::InvalidTime));
+        assert_eq!(difference(time(1, 0), bad), Err(Refusal::InvalidTime));
+    }
+}
+
+#[test]
+fn classifier() {
+    for (width, symbol) in [(149, 3), (150, 0), (250, 0), (251, 3), (500, 1), (800, 2)] {
+        assert_eq!(classify(1_000, width, 1_000), Ok(symbol));
+        assert_eq!(classify(1_000, width, 949), Ok(SPOILED));
+        assert_eq!(classify(99, width, 1_000), Err(Refusal::InvalidInterval));
+    }
+    let mut lent = [0xa5; 5];
+    let ok = classify_list(1_000, &[200, 500, 800], &[1_000; 3], &mut lent[1..4]);
+    assert_eq!((ok, lent), (Ok(()), [0xa5, 0, 1, 2, 0xa5]));
+    let refused = classify_list(1_000, &[200, 500], &[1_000; 3], &mut lent);
+    assert_eq!(refused, Err(Refusal::WrongLength));
+    let refused = classify_list(99, &[200, 500], &[1_000; 3], &mut lent);
+    assert_eq!(refused, Err(Refusal::InvalidInterval));
+    assert_eq!(lent, [0xa5, 0, 1, 2, 0xa5]);
+    assert_eq!(classify_list(1_000, &[], &[], &mut []), Ok(()));
+}
+
+#[test]
+fn scan_finds_the_first_frame_behind_a_mark() {
+    let h1 = format("H1");
+    let recording = symbols(LISTING);
+    let found = |at, hundredths| {
+        Ok(Some(Found {
+            at,
+            report: Report {
+                time: time(191, hundredths),
+                control: 0,
+            },
+        }))
+    };
+    assert_eq!(scan(h1, &recording, 0), found(1, 5_088_000));
+    assert_eq!(scan(h1, &recording, 1), found(1, 5_088_000));
+    assert_eq!(scan(h1, &recording, 2), found(61, 5_094_000));
+    assert_eq!(scan(h1, &recording, 62), Ok(None));
+    assert_eq!(scan(h1, &recording, 121), Ok(None));
+    assert_eq!(scan(h1, &recording, 122), Err(Refusal::StartPastEnd));
+    assert_eq!(
+        scan(format("H0"), &recording, 122),
+        Err(Refusal::UnknownFormat)
+    );
+    assert_eq!(scan(h1, &[], 0), Ok(None));
+    assert_eq!(scan(h1, &[255; 200], 0), Ok(None));
+}
+
+#[test]
+fn the_listing_is_reported_once_at_element_121() {
+    let widths = [200, 500, 800, 300];
+    let mut reader = Reader::fresh(format("H1")).unwrap();
+    let mut by_pulse = reader.clone();
+    for (index, symbol) in symbols(LISTING).into_iter().enumerate() {
+        let before = reader.clone();
+        assert_eq!(reader.feed(4), Err(Refusal::UnknownSymbol));
+        assert_eq!(
+            reader.feed_pulse(99, 200, 1_000),
+            Err(Refusal::InvalidInterval)
+        );
+        assert_eq!(reader, before);
+        let expected = (index + 1 == 121).then_some(Report {
+            time: time(191, 5_094_000),
+            control: 0,
+        });
+        assert_eq!(reader.feed(symbol), Ok(expected));
+        let pulse = by_pulse.feed_pulse(1_000, widths[usize::from(symbol)], 1_000);
+        assert_eq!(pulse, Ok(expected));
+        assert_eq!(reader, by_pulse);
+        // Stored and made again, it goes on as before.
+        reader = Reader::from_words(reader.words());
+    }
+}
+
+#[test]
+fn a_stream_joined_at_any_element_is_reported_within_3n() {
+    for name in FORMATS {
+        let (n, interval) = table(format(name));
+        let mut at = time(365, 8_640_000 - 2 * interval);
+        let mut stream = Vec::new();
+        let mut times = Vec::new();
+        for _ in 0..5 {
+            stream.extend(frame(name, at, 0));
+            times.push(at);
+            at = step(format(name), at, 366).unwrap();
+        }
+        for joined in 0..n {
+            let mut reader = Reader::fresh(format(name)).unwrap();
+            for (index, &symbol) in stream.iter().enumerate().skip(joined) {
+                let due = (index + 1) % n == 0 && index + 1 >= 3 * n;
+                let expected = due.then(|| Report {
+                    time: times[index / n],
+                    control: 0,
+                });
+                assert_eq!(reader.feed(symbol), Ok(expected), "{name} {joined} {index}");
+            }
+        }
+    }
+}
+
+#[test]
+fn readers_of_any_words() {
+    let good = Reader::fresh(format("H1")).unwrap().words();
+    let mut bad = vec![[u64::MAX; 10], [0; 10]];
+    for (word, value) in [
+        (0, 256 + 72),
+        (0, 65 + (1 << 32)),
+        (1, 257),
+        (1, 0),
+        (2, 60),
+    ] {
+        let mut words = good;
+        words[word] = value;
+        bad.push(words);
+    }
+    for words in bad {
+        let mut reader = Reader::from_words(words);
+        for symbol in [0, 2, 4, 255] {
+            assert_eq!(reader.feed(symbol), Err(Refusal::InvalidReader));
+        }
+        let pulse = reader.feed_pulse(1_000, 800, 1_000);
+        assert_eq!(pulse, Err(Refusal::InvalidReader));
+        let pulse = reader.feed_pulse(99, 800, 1_000);
+        assert_eq!(pulse, Err(Refusal::InvalidInterval));
+        assert_eq!(reader.words(), words);
+    }
+    let mut random = 0x9e37_79b9_7f4a_7c15_u64;
+    for turn in 0..10_000 {
+        let mut words = good;
+        words[2] = turn % 60;
+        for word in &mut words[3..] {
+            random ^= random << 13;
+            random ^= random >> 7;
+            random ^= random << 17;
+            *word = random;
+        }
+        let mut reader = Reader::from_words(words);
+        assert_eq!(reader.feed(4), Err(Refusal::UnknownSymbol));
+        assert_eq!(reader.words(), words);
+        assert!(reader.feed((turn % 4) as u8).is_ok());
+    }
+    assert_eq!(Reader::fresh(format("D0")), Err(Refusal::UnknownFormat));
+}
+
+#[test]
+fn refusals_as_errors() {
+    let error: Box<dyn std::error::Error> = Box::new(Refusal::MisplacedMark(19));
+    assert_eq!(
+        error.to_string(),
+        "refused 5: mark missing, or where none belongs, at element 19"
+    );
+    assert_eq!(Refusal::InvalidElement(3).index(), Some(3));
+    assert_eq!(Refusal::InvalidReader.number(), 13);
+    assert_eq!(Refusal::InvalidReader.index(), None);
+}

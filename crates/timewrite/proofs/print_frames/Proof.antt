@@ -1,0 +1,67 @@
+-- `print_frames` meets its contract: the time is that of the first frame left.
+use borrow.Author.Needs.{needs}
+use native.Mathlib.Omega.{arith}
+use mathlib.Core.Path.{_≡_}
+use Prim.Native.Nat.{_-_, _≤_}
+use Rattle.generator.specs.Sending.{timeOf}
+use Rattle.generator.specs.Whole.{times-start, times-turn}
+use Rattle.timewrite.proofs.print_frames.Statement.{statement}
+use Rattle.timewrite.proofs.print_frames.Tie as tie
+use Rattle.timewrite.proofs.print_frames.Reads as reads
+use Rattle.timewrite.proofs.print_frames.Lts as lts
+use Rattle.generator.proofs.generate.Reads as generate-reads
+use Rattle.io.proofs.large_buffer.Reads as large-buffer-reads
+use Rattle.printing.proofs.write_first.Reads as write-first-reads
+
+abbrev Inv-loop : tie.InvT-loop
+Inv-loop format control year out₀ time₀ left₀ more₀ out time left more = (left ≤ left₀) × (time ≡ timeOf format time₀ year (left₀ - left))
+
+abbrev μ-loop : tie.MeasureT-loop
+μ-loop format control year out₀ time₀ left₀ more₀ out time left more = left
+
+-- src/main.rt:151:19
+large-buffer-requires : tie.Need-large-buffer-requires Inv-loop μ-loop
+large-buffer-requires c κs = search needs
+
+-- src/main.rt:155:5
+loop-holds : tie.Need-loop-holds Inv-loop μ-loop
+loop-holds c = (omega arith, times-start _ _ _ _)
+
+-- src/main.rt:156:13
+generate-requires : tie.Need-generate-requires Inv-loop μ-loop
+generate-requires c κs = search needs
+
+-- src/main.rt:159:9
+write-first-requires : tie.Need-write-first-requires Inv-loop μ-loop
+write-first-requires c κs = search needs
+
+-- src/main.rt:155:5
+loop-less : tie.Need-loop-less Inv-loop μ-loop
+loop-less c = omega (arith, c .before .before .before .generate .ensures .5 (omega arith))
+
+-- src/main.rt:155:5
+loop-again : tie.Need-loop-again Inv-loop μ-loop
+loop-again c = (omega (arith, c .before .before .before .generate .ensures .2, c .before .before .before .before .before .before .before .loop .inv .0), times-turn _ _ (c .before .before .before .before .before .before .before .loop .time) _ _ _ (c .before .before .before .before .before .before .before .loop .left) _ (c .before .before .before .before .before .before .before .loop .inv .0) (c .before .before .before .generate .ensures .2) (c .before .before .before .before .before .before .before .loop .inv .1) (c .before .before .before .generate .ensures .3))
+
+-- src/main.rt:145:1
+returns : tie.Need-returns Inv-loop μ-loop
+returns c = c .before .before .loop .inv
+
+-- src/main.rt:145:1
+returns-2 : tie.Need-returns-2 Inv-loop μ-loop
+returns-2 c = c .before .loop .inv
+
+pub print-frames-spec : {M : Type 1} → statement M
+print-frames-spec =
+    tie.close
+    (tie.spec
+    Inv-loop
+    μ-loop
+    large-buffer-requires
+    loop-holds
+    generate-requires
+    write-first-requires
+    loop-less
+    loop-again
+    returns
+    returns-2)

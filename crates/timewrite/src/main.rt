@@ -1,0 +1,197 @@
+// Prints a recording that timeread reads: the first line, and the frames of a generator, a line each.
+// Its arguments are letter and expression, day, hundredths, year length, number of frames and, if any, the control word.
+ghost use mathlib.Core.Path.{_≡_};
+ghost use Prim.Native.Nat.{_-_, _≤_};
+ghost use Rattle.generator.specs.Sending.{timeOf};
+use arguments::Number;
+use arguments::decimal_in;
+use arguments::hexadecimal_in;
+use frametext::first_line;
+use generator::Generated;
+use generator::begin;
+use generator::generate;
+use printing::print_refused;
+use printing::write_first;
+use timecode::Format;
+use timecode::Time;
+use timecode::Written;
+
+struct Request {
+    format: Format,
+    time: Time,
+    control: u64,
+    year: u16,
+    frames: u64,
+}
+
+enum Asked {
+    Recording(Request),
+    Malformed,
+}
+
+enum Named {
+    Known(Format),
+    Malformed,
+}
+
+fn is_letter(byte: u8) -> bool {
+    if byte < b'A' {
+        return false;
+    }
+    if byte <= b'Z' {
+        return true;
+    }
+    if byte < b'a' {
+        return false;
+    }
+    byte <= b'z'
+}
+
+fn format_in(text: &[u8]) -> Named {
+    if text.len() == 2 {
+        if is_letter(text[0]) {
+            if let Number::Value(expression) = decimal_in(&text[1..2]) {
+                return Named::Known(Format {
+                    letter: text[0],
+                    expression: (expression % 10) as u8,
+                });
+            }
+        }
+    }
+    Named::Malformed
+}
+
+fn format_argument() -> Named {
+    let mut text = io::buffer();
+    let n = os::arg(1, &mut text);
+    if os::errno() != 0 {
+        return Named::Malformed;
+    }
+    format_in(&text[..n])
+}
+
+fn number_argument(i: usize) -> Number {
+    let mut text = io::buffer();
+    let n = os::arg(i, &mut text);
+    if os::errno() != 0 {
+        return Number::Malformed;
+    }
+    decimal_in(&text[..n])
+}
+
+fn control_argument(count: usize) -> Number {
+    if count < 7 {
+        return Number::Value(0);
+    }
+    let mut text = io::buffer();
+    let n = os::arg(6, &mut text);
+    if os::errno() != 0 {
+        return Number::Malformed;
+    }
+    hexadecimal_in(&text[..n])
+}
+
+// A number past the end of its type becomes the type's last, which is no day, no year length and no time either.
+fn limited_16(number: u64) -> u16 {
+    if number <= 65_535 {
+        return (number % 65_536) as u16;
+    }
+    65_535
+}
+
+fn limited_32(number: u64) -> u32 {
+    if number <= 4_294_967_295 {
+        return (number % 4_294_967_296) as u32;
+    }
+    4_294_967_295
+}
+
+fn asked_for() -> Asked {
+    let count = os::arg_count();
+    if 7 < count {
+        return Asked::Malformed;
+    }
+    let Named::Known(format) = format_argument() else {
+        return Asked::Malformed;
+    };
+    let Number::Value(day) = number_argument(2) else {
+        return Asked::Malformed;
+    };
+    let Number::Value(hundredths) = number_argument(3) else {
+        return Asked::Malformed;
+    };
+    let Number::Value(year) = number_argument(4) else {
+        return Asked::Malformed;
+    };
+    let Number::Value(frames) = number_argument(5) else {
+        return Asked::Malformed;
+    };
+    let Number::Value(control) = control_argument(count) else {
+        return Asked::Malformed;
+    };
+    Asked::Recording(Request {
+        format: format,
+        time: Time {
+            day: limited_16(day),
+            hundredths: limited_32(hundredths),
+        },
+        control: control,
+        year: limited_16(year),
+        frames: frames,
+    })
+}
+
+// Each part goes on where the one before ended; the end is reached unless nothing can be written any more.
+fn print_frames(request: Request) -> Generated
+    ensures { λ r. ⌜ (r .left ≤ request .frames) × (r .time ≡ timeOf (request .format) (request .time) (request .year) (request .frames - r .left)) ⌝ }
+{
+    let format = request.format;
+    let control = request.control;
+    let year = request.year;
+    let mut out = io::large_buffer();
+    let mut time = request.time;
+    let mut left = request.frames;
+    let mut more = true;
+    while 0 < left && more {
+        let generated = generate(&mut out, format, time, control, year, left);
+        time = generated.time;
+        left = generated.left;
+        more = write_first(&mut out, generated.filled);
+    }
+    Generated {
+        time: time,
+        left: left,
+        filled: 0,
+    }
+}
+
+fn print_recording(request: Request) {
+    let line = first_line(request.format);
+    if io::write_all(libc::STDOUT_FILENO, &line) {
+        print_frames(request);
+        return;
+    }
+    os::fail(b"standard output");
+}
+
+// Every check is made before anything is printed.
+fn print_checked(request: Request) {
+    let answer = begin(request.format, request.time, request.control, request.year);
+    match answer {
+        Written::Done => print_recording(request),
+        Written::Refused(refusal) => print_refused(refusal),
+    }
+}
+
+fn main() {
+    let asked = asked_for();
+    match asked {
+        Asked::Recording(request) => print_checked(request),
+        Asked::Malformed => {
+            io::write_all(
+                libc::STDERR_FILENO,
+                b"usage: timewrite FORMAT DAY HUNDREDTHS YEAR-LENGTH FRAMES [CONTROL-WORD]\n",
+            );
+        }
+    }
+}

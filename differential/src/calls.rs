@@ -1,0 +1,408 @@
+//! Random single calls with good and bad input; lent memory is compared too, refused or not.
+
+use crate::random::Random;
+use crate::streams::{control, format_of, frame, random_bits, table, time, FORMATS};
+use crate::{agree, plain_refused, refused, Counts};
+use reference::{Format, Time};
+
+/// How many of each call go with a stream.
+const TURNS: usize = 60;
+/// Bytes on both sides of lent memory that no call may touch.
+const GUARD: usize = 8;
+
+pub fn run_calls(random: &mut Random, counts: &mut Counts) -> Result<(), String> {
+    for _ in 0..TURNS {
+        write(random)?;
+        read(random)?;
+        step(random)?;
+        difference(random)?;
+        classify(random)?;
+        counts.calls += 5;
+    }
+    for _ in 0..TURNS / 6 {
+        classify_list(random)?;
+        scan(random)?;
+        any_reader(random)?;
+        refused_pulse(random)?;
+        counts.calls += 4;
+    }
+    Ok(())
+}
+
+fn library_format(format: Format) -> duskveyra::Format {
+    duskveyra::Format {
+        letter: format.letter,
+        expression: format.expression,
+    }
+}
+
+fn library_time(time: Time) -> duskveyra::Time {
+    duskveyra::Time {
+        day: time.day,
+        hundredths: time.hundredths,
+    }
+}
+
+fn values(report: duskveyra::Report) -> (u16, u32, u64) {
+    (report.time.day, report.time.hundredths, report.control)
+}
+
+/// Mostly a format, else two bytes near one or any two.
+fn any_format(random: &mut Random) -> Format {
+    let mut format = format_of(random.pick(&FORMATS));
+    match random.below(12) {
+        0 => format.expression = random.below(5) as u8,
+        1 => format.letter = b'@' + random.below(12) as u8,
+        2 => format.letter = format.letter.to_ascii_lowercase(),
+        3 => format = format_of((random.next() as u8, random.next() as u8)),
+        _ => {}
+    }
+    format
+}
+
+/// Mostly a time on the format, else one near the borders, beside the grid or anywhere.
+fn any_time(random: &mut Random, format: Format) -> Time {
+    let mut at = time(random, format);
+    match random.below(10) {
+        0 => at.day = random.pick(&[0, 1, 365, 366, 367, 511, 512, 65535]),
+        1 => {
+            at.hundredths =
+                random.pick(&[0, 1, 8_639_999, 8_640_000, 8_640_001, 16_777_216, u32::MAX])
+        }
+        2 => {
+            at.hundredths = at
+                .hundredths
+                .wrapping_add(random.below(3) as u32)
+                .wrapping_sub(1)
+        }
+        3 => at.hundredths = random.below(9_000_000) as u32,
+        4 => {
+            at = Time {
+                day: random.next() as u16,
+                hundredths: random.next() as u32,
+            }
+        }
+        _ => {}
+    }
+    at
+}
+
+fn any_control(random: &mut Random, format: Format) -> u64 {
+    match random.below(8) {
+        0 => 1u64 << random.below(64),
+        1 => (1u64 << random.below(64)) - 1,
+        2 => 1u64 << table(format).2,
+        3 => random.next(),
+        _ => control(random, format),
+    }
+}
+
+fn any_length(random: &mut Random, format: Format) -> usize {
+    let n = table(format).0;
+    match random.below(8) {
+        0 => random.index(130),
+        1 => n - 1 + random.index(3),
+        2 => 160 - n,
+        _ => n,
+    }
+}
+
+fn write(random: &mut Random) -> Result<(), String> {
+    let format = any_format(random);
+    let at = any_time(random, format);
+    let word = any_control(random, format);
+    let length = any_length(random, format);
+    let fill = random.next() as u8;
+    let mut library = vec![fill; length + 2 * GUARD];
+    let mut plain = library.clone();
+    let answer = duskveyra::write(
+        library_format(format),
+        library_time(at),
+        word,
+        &mut library[GUARD..GUARD + length],
+    );
+    let expected = reference::write(format, at, word, &mut plain[GUARD..GUARD + length]);
+    agree(
+        || format!("write {format:?} {at:?} control {word:#x} length {length} fill {fill}"),
+        (answer.map_err(refused), library),
+        (expected.map_err(plain_refused), plain),
+    )
+}
+
+/// A frame to read: right, damaged, with random bits or with random symbols.
+fn any_frame(random: &mut Random, format: Format) -> Vec<u8> {
+    let known = reference::Reader::fresh(format).is_ok();
+    let mut symbols = match random.below(8) {
+        0 | 1 => random_bits(random, format),
+        2 => {
+            let top = random.pick(&[2, 3, 4, 5, 256]);
+            (0..table(format).0)
+                .map(|_| random.below(top) as u8)
+                .collect()
+        }
+        _ if known => {
+            let at = time(random, format);
+            let word = control(random, format);
+            frame(format, at, word)
+        }
+        _ => vec![0; table(format).0],
+    };
+    if random.once_in(3) {
+        odd_digits(random, &mut symbols);
+    }
+    if random.once_in(3) {
+        for _ in 0..1 + random.below(3) {
+            let index = random.index(symbols.len());
+            let top = random.pick(&[4, 4, 4, 4, 4, 4, 4, 256]);
+            symbols[index] = random.below(top) as u8;
+        }
+    }
+    if random.once_in(10) {
+        symbols.resize(any_length(random, format), 0);
+    }
+    symbols
+}
+
+/// Puts digits just below and above their limits: seconds and minutes about 60, hours about 24, days about 0 and 366.
+fn odd_digits(random: &mut Random, symbols: &mut [u8]) {
+    let units = random.below(16) as u8;
+    let (fields, value): (&[(usize, usize)], [u8; 3]) = match random.below(6) {
+        0 => (&[(1, 4), (6, 3)], [units, 5 + random.below(3) as u8, 0]),
+        1 => (&[(10, 4), (15, 3)], [units, 5 + random.below(3) as u8, 0]),
+        2 => (
+            &[(20, 4), (25, 2)],
+            [random.below(11) as u8, 1 + random.below(3) as u8, 0],
+        ),
+        3 => (&[(30, 4), (35, 4), (40, 2)], [5 + units % 6, 6, 3]),
+        4 => (
+            &[(30, 4), (35, 4), (40, 2)],
+            [units % 2, random.below(2) as u8, 0],
+        ),
+        _ => (&[(45, 4), (50, 4)], [8 + units % 8, 8 + units / 2, 0]),
+    };
+    for (&(start, width), &digit) in fields.iter().zip(&value) {
+        for bit in 0..width {
+            symbols[start + bit] = digit >> bit & 1;
+        }
+    }
+}
+
+fn read(random: &mut Random) -> Result<(), String> {
+    let format = any_format(random);
+    let symbols = any_frame(random, format);
+    let answer = duskveyra::read(library_format(format), &symbols);
+    let expected = reference::read(format, &symbols);
+    agree(
+        || format!("read {format:?} {symbols:?}"),
+        answer.map(values).map_err(refused),
+        expected
+            .map(|(at, word)| (at.day, at.hundredths, word))
+            .map_err(plain_refused),
+    )
+}
+
+fn step(random: &mut Random) -> Result<(), String> {
+    let format = any_format(random);
+    let at = any_time(random, format);
+    let length = match random.below(6) {
+        0 => random.pick(&[0, 364, 367, 1, 65535]),
+        1 => random.next() as u16,
+        _ => 365 + random.below(2) as u16,
+    };
+    let answer = duskveyra::step(library_format(format), library_time(at), length);
+    let expected = reference::step(format, at, length);
+    agree(
+        || format!("step {format:?} {at:?} year length {length}"),
+        answer
+            .map(|next| (next.day, next.hundredths))
+            .map_err(refused),
+        expected
+            .map(|next| (next.day, next.hundredths))
+            .map_err(plain_refused),
+    )
+}
+
+fn difference(random: &mut Random) -> Result<(), String> {
+    let format = format_of((b'G', 1));
+    let first = any_time(random, format);
+    let second = if random.once_in(10) {
+        first
+    } else {
+        any_time(random, format)
+    };
+    let answer = duskveyra::difference(library_time(first), library_time(second));
+    agree(
+        || format!("difference {first:?} {second:?}"),
+        answer.map_err(refused),
+        reference::difference(first, second).map_err(plain_refused),
+    )
+}
+
+fn any_interval(random: &mut Random) -> u32 {
+    match random.below(10) {
+        0 => random.pick(&[
+            0,
+            1,
+            99,
+            100,
+            101,
+            9_999_999,
+            10_000_000,
+            10_000_001,
+            u32::MAX,
+        ]),
+        1 => random.next() as u32,
+        2 => 100 + random.below(200) as u32,
+        _ => 100 + random.below(9_999_901) as u32,
+    }
+}
+
+/// A width or period: near a border of the bands, or any.
+fn any_ticks(random: &mut Random, interval: u32, percents: &[u64]) -> u32 {
+    if random.once_in(12) {
+        return random.next() as u32;
+    }
+    let border = u64::from(interval) * random.pick(percents) / 100;
+    match random.below(3) {
+        0 => (border + random.below(5)).saturating_sub(2) as u32,
+        _ => (border + random.below(u64::from(interval) / 10 + 1)) as u32,
+    }
+}
+
+fn any_pulse(random: &mut Random, interval: u32) -> (u32, u32) {
+    let width = any_ticks(random, interval, &[0, 15, 25, 45, 55, 75, 85, 100]);
+    let period = any_ticks(random, interval, &[95, 95, 95, 105, 0]);
+    (width, period)
+}
+
+fn classify(random: &mut Random) -> Result<(), String> {
+    let interval = any_interval(random);
+    let (width, period) = any_pulse(random, interval);
+    agree(
+        || format!("classify T {interval} width {width} period {period}"),
+        duskveyra::classify(interval, width, period).map_err(refused),
+        reference::classify(interval, width, period).map_err(plain_refused),
+    )
+}
+
+fn classify_list(random: &mut Random) -> Result<(), String> {
+    let interval = any_interval(random);
+    let length = random.index(60);
+    let mut lengths = [length; 3];
+    if random.once_in(4) {
+        let which = random.index(3);
+        lengths[which] = random.index(60);
+    }
+    let pulses: Vec<(u32, u32)> = (0..60).map(|_| any_pulse(random, interval)).collect();
+    let widths: Vec<u32> = pulses[..lengths[0]].iter().map(|pulse| pulse.0).collect();
+    let periods: Vec<u32> = pulses[..lengths[1]].iter().map(|pulse| pulse.1).collect();
+    let fill = random.next() as u8;
+    let mut library = vec![fill; lengths[2] + 2 * GUARD];
+    let mut plain = library.clone();
+    let lent = GUARD..GUARD + lengths[2];
+    let answer = duskveyra::classify_list(interval, &widths, &periods, &mut library[lent.clone()]);
+    let expected = reference::classify_list(interval, &widths, &periods, &mut plain[lent]);
+    agree(
+        || {
+            format!("classify_list T {interval} widths {widths:?} periods {periods:?} lengths {lengths:?} fill {fill}")
+        },
+        (answer.map_err(refused), library),
+        (expected.map_err(plain_refused), plain),
+    )
+}
+
+fn scan(random: &mut Random) -> Result<(), String> {
+    let format = any_format(random);
+    let mut recording = vec![2; random.index(3)];
+    for _ in 0..random.below(5) {
+        match random.below(5) {
+            0 => {
+                let top = random.pick(&[4, 4, 256]);
+                for _ in 0..random.below(100) {
+                    recording.push(random.below(top) as u8);
+                }
+            }
+            1 => recording.extend(vec![2; random.index(30)]),
+            _ => recording.extend(any_frame(random, format)),
+        }
+    }
+    let start = match random.below(6) {
+        0 => recording.len() + random.index(3),
+        1 => random.next() as usize,
+        2 => random.index(recording.len() + 1),
+        _ => random.index(3),
+    };
+    let answer = duskveyra::scan(library_format(format), &recording, start);
+    let expected = reference::scan(format, &recording, start);
+    agree(
+        || format!("scan {format:?} start {start} {recording:?}"),
+        answer
+            .map(|found| found.map(|found| (found.at, values(found.report))))
+            .map_err(refused),
+        expected
+            .map(|found| found.map(|(at, when, word)| (at, (when.day, when.hundredths, word))))
+            .map_err(plain_refused),
+    )
+}
+
+/// A reader of any words: 13 exactly where its letter, expression or place is out of range, then 4 for a symbol above 3,
+/// and after a refusal the same words. `reference` cannot make such a reader; the rule is document 01's.
+fn any_reader(random: &mut Random) -> Result<(), String> {
+    let mut words: [u64; 10] = std::array::from_fn(|_| random.next());
+    let (letter, expression) = random.pick(&FORMATS);
+    if !random.once_in(8) {
+        words[0] = u64::from(letter);
+        words[1] = u64::from(expression);
+        words[2] = random.below(110);
+    }
+    if random.once_in(8) {
+        words[random.index(2)] += 256;
+    }
+    let top = random.pick(&[4, 256]);
+    let symbol = random.below(top) as u8;
+    let known = FORMATS.iter().find(|&&(letter, expression)| {
+        words[0] == u64::from(letter) && words[1] == u64::from(expression)
+    });
+    let valid = known.is_some_and(|&known| words[2] < table(format_of(known)).0 as u64);
+    let expected = match (valid, symbol) {
+        (false, _) => Some((13, None)),
+        (true, 4..) => Some((4, None)),
+        _ => None,
+    };
+    let mut reader = duskveyra::Reader::from_words(words);
+    let answer = reader.feed(symbol).err().map(refused);
+    agree(
+        || format!("feed of a reader of any words {words:x?} symbol {symbol}"),
+        answer,
+        expected,
+    )?;
+    let left = expected.is_none() || reader.words() == words;
+    agree(
+        || format!("words left by a refused feed of {words:x?} symbol {symbol}"),
+        left,
+        true,
+    )
+}
+
+/// A pulse with any interval to a fresh reader: refused as the classifier refuses it, and the reader left as it was.
+fn refused_pulse(random: &mut Random) -> Result<(), String> {
+    let format = format_of(random.pick(&FORMATS));
+    let interval = any_interval(random);
+    let (width, period) = any_pulse(random, interval);
+    let mut plain = reference::Reader::fresh(format).map_err(|_| "no fresh reader".to_string())?;
+    let mut library = duskveyra::Reader::fresh(library_format(format))
+        .map_err(|refusal| format!("{format:?}: {refusal}"))?;
+    let mut fed = library.clone();
+    let expected = crate::plain_fed(reference::classify_and_feed(
+        &mut plain, interval, width, period,
+    ));
+    if let Ok(symbol) = reference::classify(interval, width, period) {
+        let _ = fed.feed(symbol);
+    }
+    let answer = crate::fed(library.feed_pulse(interval, width, period));
+    agree(
+        || format!("feed_pulse {format:?} T {interval} width {width} period {period}"),
+        (answer, library.words()),
+        (expected, fed.words()),
+    )
+}

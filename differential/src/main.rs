@@ -1,0 +1,264 @@
+//! Runs the library against the plain version in `reference`: random streams in all 16 formats, symbol by symbol, and
+//! random calls with good and bad input. The first difference is printed in full and ends the run.
+
+mod calls;
+mod random;
+mod streams;
+
+use random::Random;
+use reference::Answer;
+use std::fmt::Debug;
+use std::panic::{catch_unwind, AssertUnwindSafe};
+use std::process::ExitCode;
+use std::time::{Duration, Instant, SystemTime, UNIX_EPOCH};
+use streams::{format_of, stream, table, FORMATS};
+
+const SHORT: u64 = 10_000_000;
+const LONG: u64 = 10 * SHORT;
+const USAGE: &str = "usage: run [short | long | SECONDS] [--seed SEED] [--stream NUMBER]";
+
+/// A refusal as both sides have it: the number, and the index with 5 and 6.
+type Refused = (u8, Option<usize>);
+
+/// What feeding a symbol gave; the report as day, hundredths and control word.
+type Fed = Result<Option<(u16, u32, u64)>, Refused>;
+
+/// How much was compared.
+#[derive(Default)]
+struct Counts {
+    symbols: u64,
+    calls: u64,
+    reports: u64,
+    refused: u64,
+}
+
+fn refused(refusal: duskveyra::Refusal) -> Refused {
+    (refusal.number(), refusal.index())
+}
+
+fn plain_refused(refusal: reference::Refusal) -> Refused {
+    (refusal.number(), refusal.index())
+}
+
+fn fed(answer: Result<Option<duskveyra::Report>, duskveyra::Refusal>) -> Fed {
+    match answer {
+        Ok(report) => Ok(report.map(|r| (r.time.day, r.time.hundredths, r.control))),
+        Err(refusal) => Err(refused(refusal)),
+    }
+}
+
+fn plain_fed(answer: Answer) -> Fed {
+    match answer {
+        Answer::Quiet => Ok(None),
+        Answer::Report(time, control) => Ok(Some((time.day, time.hundredths, control))),
+        Answer::Refused(refusal) => Err(plain_refused(refusal)),
+    }
+}
+
+/// Nothing where both sides agree, else the whole difference as text.
+fn agree<T: PartialEq + Debug>(
+    what: impl FnOnce() -> String,
+    library: T,
+    plain: T,
+) -> Result<(), String> {
+    if library == plain {
+        return Ok(());
+    }
+    Err(format!(
+        "{}\n  library {library:?}\n  plain   {plain:?}",
+        what()
+    ))
+}
+
+/// Document 01's plain machine: it holds the whole list and looks at its last 2n + 1 symbols.
+fn by_definition(format: reference::Format, list: &mut Vec<u8>, symbol: u8) -> Fed {
+    if symbol > 3 {
+        return Err((4, None));
+    }
+    list.push(symbol);
+    let n = table(format).0;
+    let Some(start) = list.len().checked_sub(2 * n + 1) else {
+        return Ok(None);
+    };
+    let window = &list[start..];
+    if window[0] != 2 {
+        return Ok(None);
+    }
+    let first = reference::read(format, &window[1..=n]);
+    let second = reference::read(format, &window[n + 1..]);
+    match (first, second) {
+        (Ok((before, _)), Ok((after, control))) if reference::next_after(format, before, after) => {
+            Ok(Some((after.day, after.hundredths, control)))
+        }
+        _ => Ok(None),
+    }
+}
+
+/// A pulse that the classifier takes for the symbol.
+fn pulse_for(random: &mut Random, symbol: u8) -> (u32, u32, u32) {
+    let t = 100 + random.below(9_999_901) as u32;
+    let percent = |ticks: u64| (u64::from(t) * ticks).div_ceil(100) as u32;
+    let period = percent(95) + random.below(u64::from(t) / 20) as u32;
+    let low = match symbol {
+        0 => 15,
+        1 => 45,
+        2 => 75,
+        _ => 60,
+    };
+    let width = percent(low) + random.below(u64::from(t) / 20) as u32;
+    (t, width, period)
+}
+
+/// One stream through the library's reader, by symbols and by pulses, and through the plain ones.
+fn run_stream(random: &mut Random, counts: &mut Counts) -> Result<(), String> {
+    let format = format_of(random.pick(&FORMATS));
+    let symbols = stream(random, format);
+    let name = format!("{}{}", format.letter as char, format.expression);
+    let library_format = duskveyra::Format {
+        letter: format.letter,
+        expression: format.expression,
+    };
+    let Ok(mut library) = duskveyra::Reader::fresh(library_format) else {
+        return Err(format!("format {name}: no fresh reader"));
+    };
+    let mut by_pulse = library.clone();
+    let mut plain = reference::Reader::fresh(format).expect("a format");
+    let mut list = Vec::new();
+    let pulses = random.once_in(4);
+    for (position, &symbol) in symbols.iter().enumerate() {
+        let context = |list: &[u8]| {
+            let last = &list[list.len().saturating_sub(2 * table(format).0 + 1)..];
+            format!(
+                "format {name}, position {position}, symbol {symbol}, the last 2n + 1 before it and itself:\n  {last:?}"
+            )
+        };
+        let before = library.words();
+        let answer = fed(library.feed(symbol));
+        let expected = by_definition(format, &mut list, symbol);
+        let beside = plain_fed(plain.feed(symbol));
+        if expected != beside {
+            return Err(format!(
+                "reference's reader differs from the definition: {}\n  definition {expected:?}\n  reader     {beside:?}\n  library    {answer:?}",
+                context(&list)
+            ));
+        }
+        agree(|| context(&list), answer, expected)?;
+        let place = library.words()[2];
+        agree(
+            || format!("place: {}", context(&list)),
+            place,
+            plain.place() as u64,
+        )?;
+        match expected {
+            Ok(Some(_)) => counts.reports += 1,
+            Ok(None) => {}
+            Err(_) => {
+                counts.refused += 1;
+                agree(
+                    || format!("reader after a refusal: {}", context(&list)),
+                    library.words(),
+                    before,
+                )?;
+            }
+        }
+        counts.symbols += 1;
+        if pulses && symbol <= 3 {
+            let (t, width, period) = pulse_for(random, symbol);
+            let classified = duskveyra::classify(t, width, period).map_err(refused);
+            let pulse = || format!("pulse T {t}, width {width}, period {period}");
+            agree(pulse, classified, Ok(symbol))?;
+            let answer = fed(by_pulse.feed_pulse(t, width, period));
+            agree(
+                || format!("{}, {}", pulse(), context(&list)),
+                answer,
+                expected,
+            )?;
+            agree(
+                || format!("reader, {}, {}", pulse(), context(&list)),
+                by_pulse.words(),
+                library.words(),
+            )?;
+            counts.calls += 2;
+        }
+        if random.once_in(1000) {
+            library = duskveyra::Reader::from_words(library.words());
+        }
+    }
+    Ok(())
+}
+
+struct Arguments {
+    symbols: u64,
+    time: Option<Duration>,
+    seed: u64,
+    stream: Option<u64>,
+}
+
+fn arguments() -> Option<Arguments> {
+    let now = SystemTime::now().duration_since(UNIX_EPOCH);
+    let mut out = Arguments {
+        symbols: SHORT,
+        time: None,
+        seed: now.map_or(1, |now| now.as_nanos() as u64 % 1_000_000_000_000),
+        stream: None,
+    };
+    let mut given = std::env::args().skip(1);
+    while let Some(argument) = given.next() {
+        match argument.as_str() {
+            "short" => out.symbols = SHORT,
+            "long" => out.symbols = LONG,
+            "--seed" => out.seed = given.next()?.parse().ok()?,
+            "--stream" => out.stream = Some(given.next()?.parse().ok()?),
+            seconds => {
+                out.symbols = u64::MAX;
+                out.time = Some(Duration::from_secs(seconds.parse().ok()?));
+            }
+        }
+    }
+    Some(out)
+}
+
+fn main() -> ExitCode {
+    let Some(arguments) = arguments() else {
+        eprintln!("{USAGE}");
+        return ExitCode::from(2);
+    };
+    let seed = arguments.seed;
+    println!("seed {seed}");
+    let started = Instant::now();
+    let mut counts = Counts::default();
+    let mut number = arguments.stream.unwrap_or(0);
+    loop {
+        let mut random = Random::new(seed, number);
+        // A panic on either side is a difference too.
+        let difference = catch_unwind(AssertUnwindSafe(|| {
+            run_stream(&mut random, &mut counts)?;
+            calls::run_calls(&mut random, &mut counts)
+        }))
+        .unwrap_or_else(|_| Err("panicked, see above".to_string()));
+        if let Err(difference) = difference {
+            println!("difference at seed {seed}, stream {number}: {difference}");
+            println!(
+                "run again with --seed {seed} --stream {number}; before it {} symbols, {} calls",
+                counts.symbols, counts.calls
+            );
+            return ExitCode::FAILURE;
+        }
+        number += 1;
+        let enough = counts.symbols >= arguments.symbols
+            || arguments.stream.is_some()
+            || arguments.time.is_some_and(|time| started.elapsed() >= time);
+        if enough {
+            break;
+        }
+    }
+    println!(
+        "{number} streams, {} reports, {} symbols above 3",
+        counts.reports, counts.refused
+    );
+    println!(
+        "{} symbols, {} calls, 0 differences (seed {seed})",
+        counts.symbols, counts.calls
+    );
+    ExitCode::SUCCESS
+}

@@ -1,0 +1,276 @@
+//! Random streams of symbols: frames in succession, damaged, lost, inserted and spliced ones, and hostile ones.
+//! Frames are written by `reference`, never by the library.
+
+use crate::random::Random;
+use reference::{step, write, Format, Time, MARK, SPOILED};
+
+pub const FORMATS: [(u8, u8); 16] = [
+    (b'A', 0),
+    (b'A', 1),
+    (b'A', 2),
+    (b'A', 3),
+    (b'B', 0),
+    (b'B', 1),
+    (b'B', 2),
+    (b'B', 3),
+    (b'D', 1),
+    (b'D', 2),
+    (b'E', 1),
+    (b'E', 2),
+    (b'G', 1),
+    (b'G', 2),
+    (b'H', 1),
+    (b'H', 2),
+];
+
+/// n, S and the number of control bits by document 01's table.
+pub fn table(format: Format) -> (usize, u32, u32) {
+    let (n, interval, bits) = match format.letter {
+        b'A' => (100, 10, 27),
+        b'B' => (100, 100, 27),
+        b'D' => (60, 360_000, 9),
+        b'E' => (100, 1_000, 45),
+        b'G' => (100, 1, 36),
+        _ => (60, 6_000, 9),
+    };
+    (n, interval, if format.expression < 2 { bits } else { 0 })
+}
+
+pub fn format_of((letter, expression): (u8, u8)) -> Format {
+    Format { letter, expression }
+}
+
+pub fn time(random: &mut Random, format: Format) -> Time {
+    let (_, interval, _) = table(format);
+    let frames = u64::from(8_640_000 / interval);
+    let from_midnight = random.below(frames.min(5));
+    let frame = match random.below(4) {
+        0 => from_midnight,
+        1 => frames - 1 - from_midnight,
+        _ => random.below(frames),
+    };
+    let day = match random.below(4) {
+        0 => random.pick(&[1, 2, 9, 10, 99, 100, 199, 200, 299, 300]),
+        1 => random.pick(&[364, 365, 366]),
+        _ => 1 + random.below(366) as u16,
+    };
+    Time {
+        day,
+        hundredths: frame as u32 * interval,
+    }
+}
+
+pub fn control(random: &mut Random, format: Format) -> u64 {
+    let (_, _, bits) = table(format);
+    let all = (1u64 << bits) - 1;
+    match random.below(4) {
+        0 => 0,
+        1 => all,
+        _ => random.next() & all,
+    }
+}
+
+pub fn frame(format: Format, time: Time, control: u64) -> Vec<u8> {
+    let mut frame = vec![0xa5; table(format).0];
+    if let Err(refusal) = write(format, time, control, &mut frame) {
+        panic!("reference refuses to write {format:?} {time:?} {control:#x}: {refusal:?}");
+    }
+    frame
+}
+
+/// Frames in succession; the year's length is another at each step.
+fn frames(random: &mut Random, format: Format, count: usize) -> Vec<u8> {
+    let mut at = time(random, format);
+    let mut out = Vec::new();
+    for _ in 0..count {
+        let word = control(random, format);
+        out.extend(frame(format, at, word));
+        at = next(random, format, at);
+    }
+    out
+}
+
+fn next(random: &mut Random, format: Format, at: Time) -> Time {
+    let length = 365 + random.below(2) as u16;
+    step(format, at, length)
+        .or_else(|_| step(format, at, 366))
+        .expect("a time on the format")
+}
+
+fn run(symbol: u8, count: usize) -> Vec<u8> {
+    vec![symbol; count]
+}
+
+/// Replaces, loses or inserts about one element in `times`.
+fn damage(random: &mut Random, symbols: &[u8], times: u64, how: u64) -> Vec<u8> {
+    let mut out = Vec::with_capacity(symbols.len() + 8);
+    for &symbol in symbols {
+        if !random.once_in(times) {
+            out.push(symbol);
+            continue;
+        }
+        match if how == 3 { random.below(3) } else { how } {
+            0 => out.push(random.below(4) as u8),
+            1 => {}
+            _ => {
+                out.push(random.below(4) as u8);
+                out.push(symbol);
+            }
+        }
+    }
+    out
+}
+
+/// Pieces cut anywhere out of several generators, one behind another.
+fn splice(random: &mut Random, format: Format) -> Vec<u8> {
+    let mut out = Vec::new();
+    for _ in 0..2 + random.below(6) {
+        let source = frames(random, format, 4);
+        let from = random.index(source.len());
+        let to = from + random.index(source.len() - from + 1);
+        out.extend_from_slice(&source[from..to]);
+    }
+    out
+}
+
+/// Whole frames behind a mark, in and out of succession: the step, the same time again, two steps, a day off, a good
+/// frame across a bad one.
+fn successions(random: &mut Random, format: Format) -> Vec<u8> {
+    let mut out = run(MARK, 1 + random.index(3));
+    let mut at = time(random, format);
+    for _ in 0..8 {
+        let word = control(random, format);
+        let mut symbols = frame(format, at, word);
+        if random.once_in(6) {
+            let index = random.index(symbols.len());
+            symbols[index] = random.below(4) as u8;
+        }
+        out.extend(symbols);
+        at = match random.below(8) {
+            0 => at,
+            1 => {
+                let once = next(random, format, at);
+                next(random, format, once)
+            }
+            2 => Time {
+                day: 1 + at.day % 366,
+                ..at
+            },
+            3 => time(random, format),
+            _ => next(random, format, at),
+        };
+    }
+    out
+}
+
+/// Frames of another format of the same length, which this reader must judge by its own layout.
+fn other_format(random: &mut Random, format: Format) -> Vec<u8> {
+    let n = table(format).0;
+    loop {
+        let other = format_of(random.pick(&FORMATS));
+        if table(other).0 == n {
+            return frames(random, other, 5);
+        }
+    }
+}
+
+/// Marks where they belong and random bits elsewhere: digits over 9, clocks and days out of range, seconds that differ.
+pub fn random_bits(random: &mut Random, format: Format) -> Vec<u8> {
+    let n = table(format).0;
+    let full = u64::from(random.once_in(2));
+    (0..n)
+        .map(|index| {
+            if index == 0 || index % 10 == 9 {
+                MARK
+            } else {
+                (random.below(5) < full + 1) as u8
+            }
+        })
+        .collect()
+}
+
+/// One piece of a stream.
+fn piece(random: &mut Random, format: Format) -> Vec<u8> {
+    let count = 3 + random.index(12);
+    match random.below(18) {
+        0..=2 => frames(random, format, count),
+        3 => {
+            let symbols = frames(random, format, count);
+            damage(random, &symbols, 1000, 0)
+        }
+        4 => {
+            let symbols = frames(random, format, count);
+            damage(random, &symbols, 60, 0)
+        }
+        5 => {
+            let symbols = frames(random, format, count);
+            damage(random, &symbols, 300, 1)
+        }
+        6 => {
+            let symbols = frames(random, format, count);
+            damage(random, &symbols, 300, 2)
+        }
+        7 => {
+            let symbols = frames(random, format, count);
+            damage(random, &symbols, 200, 3)
+        }
+        8 => splice(random, format),
+        9 | 10 => successions(random, format),
+        11 => other_format(random, format),
+        12 => run(MARK, random.index(500)),
+        13 => run(SPOILED, random.index(500)),
+        14 => {
+            let two = [random.below(4) as u8, random.below(4) as u8];
+            (0..random.index(500)).map(|i| two[i % 2]).collect()
+        }
+        15 => {
+            // Pairs of marks, as at every border of two frames.
+            let gap = 1 + random.index(12);
+            (0..random.index(600))
+                .map(|i| if i % (gap + 2) < 2 { MARK } else { 0 })
+                .collect()
+        }
+        16 => {
+            let marks = random.below(4);
+            (0..random.index(600))
+                .map(|_| {
+                    if random.below(4) < marks {
+                        MARK
+                    } else {
+                        random.below(4) as u8
+                    }
+                })
+                .collect()
+        }
+        _ => {
+            let mut out = run(MARK, 1);
+            for _ in 0..3 {
+                out.extend(random_bits(random, format));
+            }
+            out
+        }
+    }
+}
+
+/// A stream of several pieces, joined at any element, in some of them with symbols above 3 in between.
+pub fn stream(random: &mut Random, format: Format) -> Vec<u8> {
+    let mut out = Vec::new();
+    for _ in 0..4 + random.below(8) {
+        let symbols = piece(random, format);
+        out.extend(symbols);
+    }
+    let from = random.index(150).min(out.len());
+    out.drain(..from);
+    if random.once_in(3) {
+        let times = 1 + random.below(200);
+        let mut with = Vec::with_capacity(out.len() * 2);
+        for &symbol in &out {
+            if random.once_in(times) {
+                with.push(4 + random.below(252) as u8);
+            }
+            with.push(symbol);
+        }
+        out = with;
+    }
+    out
+}

@@ -1,0 +1,42 @@
+//! Prints what `timewrite` must print for well-formed arguments that are within their types.
+use reference::{step, write, Format, Time};
+
+fn line(format: Format, time: Time, control: u64) -> String {
+    let mut frame = vec![
+        0;
+        if b"DH".contains(&format.letter) {
+            60
+        } else {
+            100
+        }
+    ];
+    write(format, time, control, &mut frame).unwrap();
+    let groups = frame.chunks(10).map(|group| {
+        let characters = group.iter().map(|&symbol| b"01P-"[usize::from(symbol)]);
+        String::from_utf8(characters.collect()).unwrap()
+    });
+    groups.collect::<Vec<_>>().join(" ")
+}
+
+fn main() {
+    let arguments: Vec<String> = std::env::args().skip(1).collect();
+    let name = arguments[0].as_bytes();
+    let format = Format {
+        letter: name[0],
+        expression: name[1] - b'0',
+    };
+    let mut time = Time {
+        day: arguments[1].parse().unwrap(),
+        hundredths: arguments[2].parse().unwrap(),
+    };
+    let year = arguments[3].parse().unwrap();
+    let frames: u64 = arguments[4].parse().unwrap();
+    let control = arguments
+        .get(5)
+        .map_or(0, |word| u64::from_str_radix(word, 16).unwrap());
+    println!("{}", arguments[0]);
+    for _ in 0..frames {
+        println!("{}", line(format, time, control));
+        time = step(format, time, year).unwrap();
+    }
+}

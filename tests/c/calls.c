@@ -1,0 +1,926 @@
+/* Every function of duskveyra.h from C: its answers, each refusal it can give, their order, and the memory it must leave.
+ * What is expected stands in document 01: its examples, its table of places, its rules. Also compiles as C++. */
+#include "duskveyra.h"
+
+#include <stdio.h>
+#include <stdlib.h>
+#include <string.h>
+
+static unsigned long checks = 0;
+static unsigned long failed = 0;
+
+static void check(int holds, int line, const char *what)
+{
+    checks++;
+    if (!holds) {
+        failed++;
+        if (failed <= 20)
+            printf("calls.c:%d: %s\n", line, what);
+    }
+}
+
+#define CHECK(condition) check((condition) != 0, __LINE__, #condition)
+
+/* Out-parameters with guard words around each. All bytes start as FILL, the expected ones are set with SET in a second
+ * struct, and the two are compared whole, so that anything else that was touched shows. */
+#define FILL 0xa5
+
+struct outs {
+    uint64_t guard0;
+    uint8_t flag;
+    uint64_t guard1;
+    uint16_t day;
+    uint64_t guard2;
+    uint32_t hundredths;
+    uint64_t guard3;
+    uint64_t control;
+    uint64_t guard4;
+    size_t index;
+    uint64_t guard5;
+    int64_t difference;
+    uint64_t guard6;
+    uint8_t symbol;
+    uint64_t guard7;
+    duskveyra_reader reader;
+    uint64_t guard8;
+};
+
+static struct outs got, want;
+
+static void reset(void)
+{
+    memset(&got, FILL, sizeof got);
+    memset(&want, FILL, sizeof want);
+}
+
+/* memcpy and not an assignment, which may change the bytes between the members. */
+#define SET(type, member, value)                               \
+    do {                                                       \
+        type set_value = (type)(value);                        \
+        memcpy(&want.member, &set_value, sizeof want.member);  \
+    } while (0)
+
+static int same(void)
+{
+    return memcmp(&got, &want, sizeof got) == 0;
+}
+
+static void set_values(uint16_t day, uint32_t hundredths, uint64_t control)
+{
+    SET(uint16_t, day, day);
+    SET(uint32_t, hundredths, hundredths);
+    SET(uint64_t, control, control);
+}
+
+/* Memory of an exact length on the heap, so that valgrind sees an access past either end. */
+static uint8_t *bytes(size_t length, int fill)
+{
+    uint8_t *memory = (uint8_t *)malloc(length == 0 ? 1 : length);
+    if (memory == NULL)
+        abort();
+    memset(memory, fill, length == 0 ? 1 : length);
+    return memory;
+}
+
+static uint32_t *ticks(size_t length, uint32_t value)
+{
+    uint32_t *memory = (uint32_t *)malloc((length == 0 ? 1 : length) * sizeof(uint32_t));
+    size_t i;
+    if (memory == NULL)
+        abort();
+    memory[0] = value;
+    for (i = 0; i < length; i++)
+        memory[i] = value;
+    return memory;
+}
+
+static int all_bytes(const uint8_t *memory, size_t length, int value)
+{
+    size_t i;
+    for (i = 0; i < length; i++)
+        if (memory[i] != (uint8_t)value)
+            return 0;
+    return 1;
+}
+
+static uint64_t random_state = UINT64_C(0x9e3779b97f4a7c15);
+
+static uint64_t random64(void)
+{
+    random_state ^= random_state << 13;
+    random_state ^= random_state >> 7;
+    random_state ^= random_state << 17;
+    return random_state * UINT64_C(0x2545f4914f6cdd1d);
+}
+
+static uint64_t below(uint64_t limit)
+{
+    return (random64() >> 11) % limit;
+}
+
+/* Document 01's table, and where each element stands. */
+static const char letters[] = "AABBAABBDDEEGGHH";
+static const uint8_t expressions[] = {0, 1, 0, 1, 2, 3, 2, 3, 1, 2, 1, 2, 1, 2, 1, 2};
+#define FORMATS 16
+
+static int known(uint8_t letter, uint8_t expression)
+{
+    switch (letter) {
+    case 'A':
+    case 'B':
+        return expression <= 3;
+    case 'D':
+    case 'E':
+    case 'G':
+    case 'H':
+        return expression == 1 || expression == 2;
+    default:
+        return 0;
+    }
+}
+
+static size_t size_of(uint8_t letter)
+{
+    return letter == 'D' || letter == 'H' ? 60 : 100;
+}
+
+static uint32_t interval_of(uint8_t letter)
+{
+    switch (letter) {
+    case 'A':
+        return 10;
+    case 'B':
+        return 100;
+    case 'D':
+        return 360000;
+    case 'E':
+        return 1000;
+    case 'G':
+        return 1;
+    default:
+        return 6000;
+    }
+}
+
+static unsigned control_bits(uint8_t letter, uint8_t expression)
+{
+    if (expression > 1)
+        return 0;
+    switch (letter) {
+    case 'A':
+    case 'B':
+        return 27;
+    case 'E':
+        return 45;
+    case 'G':
+        return 36;
+    default:
+        return 9;
+    }
+}
+
+static int within(size_t i, size_t first, size_t last)
+{
+    return first <= i && i <= last;
+}
+
+/* 'P' a mark, 'b' a digit or bit, '.' an index marker. */
+static char kind(uint8_t letter, uint8_t expression, size_t i)
+{
+    size_t first_control = letter == 'G' ? 60 : 50;
+    size_t last_control = letter == 'D' || letter == 'H' ? 58 : letter == 'A' || letter == 'B' ? 78 : 98;
+    if (i == 0 || i % 10 == 9)
+        return 'P';
+    if (strchr("ABG", letter) != NULL && within(i, 1, 4))
+        return 'b';
+    if (strchr("ABGE", letter) != NULL && within(i, 6, 8))
+        return 'b';
+    if (letter != 'D' && (within(i, 10, 13) || within(i, 15, 17)))
+        return 'b';
+    if (within(i, 20, 23) || within(i, 25, 26) || within(i, 30, 33) || within(i, 35, 38) || within(i, 40, 41))
+        return 'b';
+    if ((letter == 'A' || letter == 'G') && within(i, 45, 48))
+        return 'b';
+    if (letter == 'G' && within(i, 50, 53))
+        return 'b';
+    if (expression <= 1 && within(i, first_control, last_control))
+        return 'b';
+    if ((letter == 'A' || letter == 'B') && (expression == 0 || expression == 3) &&
+        (within(i, 80, 88) || within(i, 90, 97)))
+        return 'b';
+    return '.';
+}
+
+static uint32_t random_time(uint8_t letter)
+{
+    uint32_t interval = interval_of(letter);
+    return (uint32_t)below(8640000 / interval) * interval;
+}
+
+static uint64_t random_control(uint8_t letter, uint8_t expression)
+{
+    unsigned bits = control_bits(letter, expression);
+    return bits == 0 ? 0 : random64() & ((UINT64_C(1) << bits) - 1);
+}
+
+/* Symbols as timeread's characters. */
+static size_t symbols_of(const char *text, uint8_t *symbols)
+{
+    size_t length = 0;
+    for (; *text != 0; text++)
+        if (*text != ' ')
+            symbols[length++] = *text == '0' ? 0 : *text == '1' ? 1 : *text == 'P' ? 2 : 3;
+    return length;
+}
+
+static uint8_t call_write(uint8_t letter, uint8_t expression, uint16_t day, uint32_t hundredths, uint64_t control,
+                          uint8_t *frame, size_t length)
+{
+    return duskveyra_write(letter, expression, day, hundredths, control, frame, length);
+}
+
+static uint8_t call_read(uint8_t letter, uint8_t expression, const uint8_t *frame, size_t length)
+{
+    reset();
+    return duskveyra_read(letter, expression, frame, length, &got.day, &got.hundredths, &got.control, &got.index);
+}
+
+static uint8_t call_step(uint8_t letter, uint8_t expression, uint16_t day, uint32_t hundredths, uint16_t year_length)
+{
+    reset();
+    return duskveyra_step(letter, expression, day, hundredths, year_length, &got.day, &got.hundredths);
+}
+
+static uint8_t call_scan(uint8_t letter, uint8_t expression, const uint8_t *recording, size_t length, size_t start)
+{
+    reset();
+    return duskveyra_scan(letter, expression, recording, length, start, &got.flag, &got.index, &got.day,
+                          &got.hundredths, &got.control);
+}
+
+static uint8_t call_difference(uint16_t first_day, uint32_t first, uint16_t second_day, uint32_t second)
+{
+    reset();
+    return duskveyra_difference(first_day, first, second_day, second, &got.difference);
+}
+
+static uint8_t call_classify(uint32_t interval, uint32_t width, uint32_t period)
+{
+    reset();
+    return duskveyra_classify(interval, width, period, &got.symbol);
+}
+
+/* Sets the reader on both sides, so that a change of it shows. */
+static uint8_t call_feed(const duskveyra_reader *reader, uint8_t symbol)
+{
+    reset();
+    got.reader = *reader;
+    want.reader = *reader;
+    return duskveyra_feed(&got.reader, symbol, &got.flag, &got.day, &got.hundredths, &got.control);
+}
+
+static uint8_t call_feed_pulse(const duskveyra_reader *reader, uint32_t interval, uint32_t width, uint32_t period)
+{
+    reset();
+    got.reader = *reader;
+    want.reader = *reader;
+    return duskveyra_feed_pulse(&got.reader, interval, width, period, &got.flag, &got.day, &got.hundredths,
+                                &got.control);
+}
+
+static void unknown_formats(void)
+{
+    unsigned letter, expression;
+    uint8_t *frame = bytes(100, FILL);
+    for (letter = 0; letter < 256; letter++)
+        for (expression = 0; expression < 256; expression++) {
+            uint8_t l = (uint8_t)letter, e = (uint8_t)expression;
+            uint8_t number = known(l, e) ? 0 : 1;
+            reset();
+            CHECK(duskveyra_fresh(l, e, &got.reader) == number);
+            if (number == 0) {
+                CHECK(got.reader.words[0] == letter && got.reader.words[1] == expression && got.reader.words[2] == 0);
+                memcpy(&want.reader, &got.reader, sizeof want.reader);
+            }
+            CHECK(same());
+            if (number == 0)
+                continue;
+            CHECK(call_write(l, e, 1, 0, 0, frame, 100) == 1 && all_bytes(frame, 100, FILL));
+            CHECK(call_read(l, e, frame, 100) == 1 && same());
+            CHECK(call_step(l, e, 1, 0, 365) == 1 && same());
+            CHECK(call_scan(l, e, frame, 100, 0) == 1 && same());
+        }
+    free(frame);
+    /* A fresh reader sets all words, whatever they held. */
+    {
+        duskveyra_reader first, second;
+        memset(&first, 0, sizeof first);
+        memset(&second, 0xff, sizeof second);
+        CHECK(duskveyra_fresh('B', 0, &first) == 0 && duskveyra_fresh('B', 0, &second) == 0);
+        CHECK(memcmp(&first, &second, sizeof first) == 0);
+    }
+}
+
+/* Document 01's examples of single calls. */
+static void examples(void)
+{
+    static const size_t binary_seconds[] = {85, 86, 87, 90, 91, 95, 96};
+    uint8_t frame[100], expected[100];
+    size_t i, j, ones;
+
+    CHECK(symbols_of("P00000000P 000100000P 001001000P 100001001P 100000000P 000000000P", expected) == 60);
+    memset(frame, FILL, sizeof frame);
+    CHECK(call_write('H', 1, 191, 5088000, 0, frame, 60) == 0);
+    CHECK(memcmp(frame, expected, 60) == 0 && all_bytes(frame + 60, 40, FILL));
+
+    CHECK(call_write('B', 0, 1, 5091200, 0, frame, 100) == 0);
+    for (i = 80, j = 0, ones = 0; i < 98; i++)
+        if (frame[i] == 1) {
+            CHECK(j < 7 && binary_seconds[j] == i);
+            j++;
+            ones++;
+        }
+    CHECK(ones == 7);
+
+    CHECK(call_write('H', 1, 1, 0, 511, frame, 60) == 0 && all_bytes(frame + 50, 9, 1));
+    memset(frame, FILL, sizeof frame);
+    CHECK(call_write('H', 1, 1, 0, 512, frame, 60) == 9 && all_bytes(frame, 100, FILL));
+    CHECK(call_write('D', 0, 1, 0, 0, frame, 60) == 1 && all_bytes(frame, 100, FILL));
+    CHECK(call_write('B', 0, 367, 0, 0, frame, 100) == 2 && all_bytes(frame, 100, FILL));
+    CHECK(call_write('B', 0, 1, 50, 0, frame, 100) == 2 && all_bytes(frame, 100, FILL));
+    CHECK(call_write('B', 0, 1, 0, 0, frame, 99) == 3 && all_bytes(frame, 100, FILL));
+    CHECK(call_write('B', 0, 366, 0, 0, frame, 100) == 0);
+    CHECK(call_read('B', 0, frame, 100) == 0);
+    set_values(366, 0, 0);
+    CHECK(same());
+
+    CHECK(call_step('B', 0, 365, 8639900, 365) == 0);
+    SET(uint16_t, day, 1);
+    SET(uint32_t, hundredths, 0);
+    CHECK(same());
+    CHECK(call_step('B', 0, 365, 8639900, 366) == 0);
+    SET(uint16_t, day, 366);
+    SET(uint32_t, hundredths, 0);
+    CHECK(same());
+    CHECK(call_step('B', 0, 1, 0, 364) == 11 && same());
+    CHECK(call_step('B', 0, 366, 0, 365) == 11 && same());
+    CHECK(call_step('B', 0, 367, 0, 366) == 2 && same());
+
+    CHECK(call_difference(2, 0, 1, 8639999) == 0);
+    SET(int64_t, difference, 1);
+    CHECK(same());
+    CHECK(call_difference(1, 8639999, 2, 0) == 0);
+    SET(int64_t, difference, -1);
+    CHECK(same());
+    CHECK(call_difference(191, 5088000, 191, 5088000) == 0);
+    SET(int64_t, difference, 0);
+    CHECK(same());
+    CHECK(call_difference(366, 8639999, 1, 0) == 0);
+    SET(int64_t, difference, INT64_C(3162239999));
+    CHECK(same());
+    CHECK(call_difference(1, 0, 366, 8639999) == 0);
+    SET(int64_t, difference, -INT64_C(3162239999));
+    CHECK(same());
+    CHECK(call_difference(0, 0, 1, 0) == 2 && same());
+    CHECK(call_difference(1, 0, 0, 0) == 2 && same());
+    CHECK(call_difference(367, 0, 1, 0) == 2 && same());
+    CHECK(call_difference(1, 0, 65535, 0) == 2 && same());
+    CHECK(call_difference(1, 8640000, 1, 0) == 2 && same());
+    CHECK(call_difference(1, 0, 1, UINT32_MAX) == 2 && same());
+
+    /* The table's examples of the numbers 4 to 8. */
+    CHECK(call_write('B', 0, 1, 100, 0, frame, 100) == 0);
+    frame[50] = 7;
+    CHECK(call_read('B', 0, frame, 100) == 4 && same());
+    frame[50] = 0;
+    frame[0] = 1;
+    CHECK(call_read('B', 0, frame, 100) == 5);
+    SET(size_t, index, 0);
+    CHECK(same());
+    frame[0] = 2;
+    frame[5] = 1;
+    CHECK(call_read('B', 0, frame, 100) == 6);
+    SET(size_t, index, 5);
+    CHECK(same());
+    frame[5] = 0;
+    frame[80] = 0;
+    CHECK(call_read('B', 0, frame, 100) == 8 && same());
+    frame[80] = 1;
+    CHECK(call_read('B', 0, frame, 100) == 0);
+    CHECK(call_write('B', 2, 366, 0, 0, frame, 100) == 0);
+    frame[30] = 1;
+    CHECK(call_read('B', 2, frame, 100) == 7 && same());
+}
+
+/* The first number of the order that applies. */
+static void orders(void)
+{
+    unsigned bad;
+    uint8_t *frame = bytes(100, FILL);
+    for (bad = 0; bad < 16; bad++) {
+        uint8_t number = bad & 1 ? 1 : bad & 2 ? 2 : bad & 4 ? 9 : bad & 8 ? 3 : 0;
+        uint8_t answer;
+        memset(frame, FILL, 100);
+        answer = call_write('B', bad & 1 ? 4 : 1, bad & 2 ? 0 : 1, 0, bad & 4 ? UINT64_C(1) << 27 : 0, frame,
+                            bad & 8 ? 99 : 100);
+        CHECK(answer == number);
+        CHECK(number == 0 || all_bytes(frame, 100, FILL));
+    }
+    for (bad = 0; bad < 8; bad++) {
+        uint8_t number = bad & 1 ? 1 : bad & 2 ? 2 : bad & 4 ? 11 : 0;
+        CHECK(call_step('B', bad & 1 ? 4 : 1, 1, bad & 2 ? 50 : 0, bad & 4 ? 367 : 366) == number);
+        CHECK(number == 0 || same());
+    }
+    for (bad = 0; bad < 64; bad++) {
+        uint8_t number = bad & 1 ? 1 : bad & 2 ? 3 : bad & 4 ? 4 : bad & 8 ? 6 : bad & 16 ? 7 : bad & 32 ? 8 : 0;
+        CHECK(call_write('B', 0, 1, 0, 0, frame, 100) == 0);
+        if (bad & 4)
+            frame[98] = 4;
+        if (bad & 8)
+            frame[5] = 1;
+        if (bad & 16)
+            frame[6] = frame[7] = frame[8] = 1;
+        if (bad & 32)
+            frame[97] = 1;
+        CHECK(call_read('B', bad & 1 ? 4 : 0, frame, bad & 2 ? 99 : 100) == number);
+        if (number == 6)
+            SET(size_t, index, 5);
+        CHECK(number == 0 || same());
+    }
+    /* The lowest index decides between 5 and 6. */
+    CHECK(call_write('B', 1, 1, 0, 0, frame, 100) == 0);
+    frame[14] = 1;
+    frame[19] = 3;
+    CHECK(call_read('B', 1, frame, 100) == 6);
+    SET(size_t, index, 14);
+    CHECK(same());
+    frame[9] = 0;
+    CHECK(call_read('B', 1, frame, 100) == 5);
+    SET(size_t, index, 9);
+    CHECK(same());
+    frame[1] = 3;
+    CHECK(call_read('B', 1, frame, 100) == 6);
+    SET(size_t, index, 1);
+    CHECK(same());
+    for (bad = 0; bad < 4; bad++) {
+        uint8_t number = bad & 1 ? 1 : bad & 2 ? 12 : 0;
+        CHECK(call_scan('B', bad & 1 ? 4 : 0, frame, 4, bad & 2 ? 5 : 4) == number);
+        if (number == 0)
+            SET(uint8_t, flag, 0);
+        CHECK(same());
+    }
+    free(frame);
+    for (bad = 0; bad < 4; bad++) {
+        uint8_t number = bad & 1 ? 10 : bad & 2 ? 3 : 0;
+        uint32_t *widths = ticks(5, 200), *periods = ticks(bad & 2 ? 4 : 5, 1000);
+        uint8_t *symbols = bytes(5, FILL);
+        CHECK(duskveyra_classify_list(bad & 1 ? 99 : 1000, widths, 5, periods, bad & 2 ? 4 : 5, symbols, 5) == number);
+        CHECK(all_bytes(symbols, 5, number == 0 ? 0 : FILL));
+        free(widths);
+        free(periods);
+        free(symbols);
+    }
+    for (bad = 0; bad < 4; bad++) {
+        duskveyra_reader reader;
+        uint8_t number = bad & 1 ? 13 : bad & 2 ? 4 : 0;
+        CHECK(duskveyra_fresh('H', 1, &reader) == 0);
+        if (bad & 1)
+            reader.words[2] = 60;
+        CHECK(call_feed(&reader, bad & 2 ? 4 : 2) == number);
+        CHECK(number == 0 || same());
+        number = bad & 2 ? 10 : bad & 1 ? 13 : 0;
+        CHECK(call_feed_pulse(&reader, bad & 2 ? 10000001 : 1000, 800, 1000) == number);
+        CHECK(number == 0 || same());
+    }
+}
+
+static void frames(void)
+{
+    int f;
+    for (f = 0; f < FORMATS; f++) {
+        uint8_t letter = (uint8_t)letters[f], expression = expressions[f];
+        size_t n = size_of(letter), i, length;
+        unsigned bits = control_bits(letter, expression), turn, symbol;
+        uint8_t *frame = bytes(n, FILL), *again = bytes(n, FILL);
+
+        for (turn = 0; turn < 100; turn++) {
+            uint16_t day = turn == 0 ? 366 : (uint16_t)(1 + below(366));
+            uint32_t c = turn == 0 ? 8640000 - interval_of(letter) : random_time(letter);
+            uint64_t control =
+                turn == 0 && bits > 0 ? (UINT64_C(1) << bits) - 1 : random_control(letter, expression);
+            memset(frame, FILL, n);
+            CHECK(call_write(letter, expression, day, c, control, frame, n) == 0);
+            for (i = 0; i < n; i++) {
+                char at = kind(letter, expression, i);
+                CHECK(at == 'P' ? frame[i] == 2 : at == 'b' ? frame[i] <= 1 : frame[i] == 0);
+            }
+            CHECK(call_read(letter, expression, frame, n) == 0);
+            set_values(day, c, control);
+            CHECK(same());
+        }
+        /* Each control bit alone, and the first that is not carried. */
+        for (turn = 0; turn < 64; turn++) {
+            memset(again, FILL, n);
+            if (turn < bits) {
+                CHECK(call_write(letter, expression, 1, 0, UINT64_C(1) << turn, again, n) == 0);
+                CHECK(call_read(letter, expression, again, n) == 0 && got.control == UINT64_C(1) << turn);
+            } else {
+                CHECK(call_write(letter, expression, 1, 0, UINT64_C(1) << turn, again, n) == 9);
+                CHECK(all_bytes(again, n, FILL));
+            }
+        }
+        /* Times out of range or beside the grid. */
+        memset(again, FILL, n);
+        CHECK(call_write(letter, expression, 0, 0, 0, again, n) == 2);
+        CHECK(call_write(letter, expression, 65535, 0, 0, again, n) == 2);
+        CHECK(call_write(letter, expression, 1, 8640000, 0, again, n) == 2);
+        CHECK(call_write(letter, expression, 1, UINT32_MAX, 0, again, n) == 2);
+        CHECK(interval_of(letter) == 1 || call_write(letter, expression, 1, 1, 0, again, n) == 2);
+        CHECK(all_bytes(again, n, FILL));
+        /* Other lengths. */
+        for (length = 0; length <= 101; length++)
+            if (length != n) {
+                uint8_t *other = bytes(length, FILL);
+                CHECK(call_write(letter, expression, 1, 0, 0, other, length) == 3 && all_bytes(other, length, FILL));
+                CHECK(call_read(letter, expression, other, length) == 3 && same());
+                free(other);
+            }
+        /* One element replaced by every byte. */
+        for (i = 0; i < n; i++) {
+            uint8_t kept = frame[i];
+            char at = kind(letter, expression, i);
+            for (symbol = 0; symbol < 256; symbol++) {
+                uint8_t answer;
+                frame[i] = (uint8_t)symbol;
+                answer = call_read(letter, expression, frame, n);
+                if (symbol > 3) {
+                    CHECK(answer == 4 && same());
+                } else if ((symbol == 2) != (at == 'P')) {
+                    CHECK(answer == 5);
+                    SET(size_t, index, i);
+                    CHECK(same());
+                } else if (at != 'P' && (symbol == 3 || (at == '.' && symbol == 1))) {
+                    CHECK(answer == 6);
+                    SET(size_t, index, i);
+                    CHECK(same());
+                } else if (answer == 0) {
+                    set_values(got.day, got.hundredths, got.control);
+                    CHECK(same());
+                    CHECK(call_write(letter, expression, got.day, got.hundredths, got.control, again, n) == 0);
+                    CHECK(memcmp(frame, again, n) == 0);
+                } else {
+                    CHECK((answer == 7 || answer == 8) && symbol != kept && same());
+                }
+            }
+            frame[i] = kept;
+        }
+        free(frame);
+        free(again);
+    }
+}
+
+static void steps(void)
+{
+    int f;
+    unsigned year_length;
+    for (f = 0; f < FORMATS; f++) {
+        uint8_t letter = (uint8_t)letters[f], expression = expressions[f];
+        uint32_t interval = interval_of(letter), last = 8640000 - interval;
+        for (year_length = 0; year_length < 1000; year_length++) {
+            int taken = year_length == 365 || year_length == 366;
+            CHECK(call_step(letter, expression, 365, 0, (uint16_t)year_length) == (taken ? 0 : 11));
+            if (taken) {
+                SET(uint16_t, day, 365);
+                SET(uint32_t, hundredths, interval);
+            }
+            CHECK(same());
+        }
+        CHECK(call_step(letter, expression, 366, last, 366) == 0);
+        SET(uint16_t, day, 1);
+        SET(uint32_t, hundredths, 0);
+        CHECK(same());
+        CHECK(call_step(letter, expression, 59, last, 365) == 0);
+        SET(uint16_t, day, 60);
+        SET(uint32_t, hundredths, 0);
+        CHECK(same());
+        CHECK(call_step(letter, expression, 366, last, 365) == 11 && same());
+        CHECK(call_step(letter, expression, 0, 0, 365) == 2 && same());
+        CHECK(call_step(letter, expression, 1, 8640000, 365) == 2 && same());
+        CHECK(interval == 1 || (call_step(letter, expression, 1, interval - 1, 365) == 2 && same()));
+    }
+}
+
+/* The symbol by document 01's sentence. */
+static uint8_t symbol_of(uint64_t t, uint64_t w, uint64_t p)
+{
+    if (100 * p < 95 * t || 100 * p > 105 * t)
+        return 3;
+    if (15 * t <= 100 * w && 100 * w <= 25 * t)
+        return 0;
+    if (45 * t <= 100 * w && 100 * w <= 55 * t)
+        return 1;
+    if (75 * t <= 100 * w && 100 * w <= 85 * t)
+        return 2;
+    return 3;
+}
+
+static void classifier(void)
+{
+    static const uint32_t intervals[] = {100, 101, 137, 1000, 9999999, 10000000};
+    static const uint32_t refused[] = {0, 1, 99, 10000001, UINT32_MAX};
+    static const unsigned percents[] = {0, 15, 25, 45, 55, 75, 85, 95, 100, 105, 400};
+    size_t i, j, k;
+    int by, also;
+    for (i = 0; i < sizeof refused / sizeof refused[0]; i++)
+        CHECK(call_classify(refused[i], 200, 1000) == 10 && same());
+    for (i = 0; i < sizeof intervals / sizeof intervals[0]; i++)
+        for (j = 0; j < sizeof percents / sizeof percents[0]; j++)
+            for (k = 0; k < sizeof percents / sizeof percents[0]; k++)
+                for (by = -2; by <= 2; by++)
+                    for (also = -2; also <= 2; also++) {
+                        uint32_t t = intervals[i];
+                        uint32_t w = (uint32_t)((uint64_t)t * percents[j] / 100 + (uint64_t)(int64_t)by);
+                        uint32_t p = (uint32_t)((uint64_t)t * percents[k] / 100 + (uint64_t)(int64_t)also);
+                        CHECK(call_classify(t, w, p) == 0);
+                        SET(uint8_t, symbol, symbol_of(t, w, p));
+                        CHECK(same());
+                    }
+    /* Document 01's row: 150 and 250 give 0, 149 and 251 give 3. */
+    CHECK(call_classify(1000, 150, 1000) == 0 && got.symbol == 0);
+    CHECK(call_classify(1000, 250, 1000) == 0 && got.symbol == 0);
+    CHECK(call_classify(1000, 149, 1000) == 0 && got.symbol == 3);
+    CHECK(call_classify(1000, 251, 1000) == 0 && got.symbol == 3);
+    CHECK(call_classify(10000000, UINT32_MAX, UINT32_MAX) == 0 && got.symbol == 3);
+
+    /* Lists: every pair of lengths, sentinels around the symbols. */
+    for (i = 0; i < 5; i++)
+        for (j = 0; j < 5; j++)
+            for (k = 0; k < 5; k++) {
+                uint32_t *widths = ticks(i, 0), *periods = ticks(j, 0);
+                uint8_t *lent = bytes(16 + k + 16, FILL), *exact = bytes(k, FILL);
+                size_t m;
+                uint8_t number = i == j && j == k ? 0 : 3;
+                for (m = 0; m < i; m++)
+                    widths[m] = (uint32_t)below(1000);
+                for (m = 0; m < j; m++)
+                    periods[m] = 900 + (uint32_t)below(200);
+                CHECK(duskveyra_classify_list(99, widths, i, periods, j, lent + 16, k) == 10);
+                CHECK(all_bytes(lent, 32 + k, FILL));
+                CHECK(duskveyra_classify_list(1000, widths, i, periods, j, lent + 16, k) == number);
+                CHECK(duskveyra_classify_list(1000, widths, i, periods, j, exact, k) == number);
+                CHECK(all_bytes(lent, 16, FILL) && all_bytes(lent + 16 + k, 16, FILL));
+                for (m = 0; m < k; m++) {
+                    uint8_t expected = number == 0 ? symbol_of(1000, widths[m], periods[m]) : FILL;
+                    CHECK(lent[16 + m] == expected && exact[m] == expected);
+                }
+                free(widths);
+                free(periods);
+                free(lent);
+                free(exact);
+            }
+}
+
+/* Feeds one symbol to the reader, by itself or as a pulse, checks that only what may change did, and tells whether it
+ * brought a report. */
+static int feed(duskveyra_reader *reader, uint8_t symbol, int pulse)
+{
+    static const uint32_t widths[] = {200, 500, 800, 350};
+    uint8_t answer = pulse ? call_feed_pulse(reader, 1000, widths[symbol], 1000) : call_feed(reader, symbol);
+    CHECK(answer == 0);
+    CHECK(got.flag <= 1);
+    SET(uint8_t, flag, got.flag);
+    if (got.flag == 1)
+        set_values(got.day, got.hundredths, got.control);
+    memcpy(&want.reader, &got.reader, sizeof want.reader);
+    CHECK(same());
+    *reader = got.reader;
+    return got.flag == 1;
+}
+
+static void listing(void)
+{
+    static const char text[] =
+        "P P00000000P 000100000P 001001000P 100001001P 100000000P 000000000P "
+        "P00000000P 100100000P 001001000P 100001001P 100000000P 000000000P";
+    uint8_t symbols[128];
+    size_t length = symbols_of(text, symbols), i;
+    int pulse;
+    unsigned byte;
+    CHECK(length == 121);
+    for (pulse = 0; pulse < 2; pulse++) {
+        duskveyra_reader reader;
+        CHECK(duskveyra_fresh('H', 1, &reader) == 0);
+        for (i = 0; i < length; i++) {
+            int reported;
+            /* A refused symbol or interval in between changes nothing. */
+            for (byte = 4; byte < 256; byte += 63)
+                CHECK(call_feed(&reader, (uint8_t)byte) == 4 && same());
+            CHECK(call_feed_pulse(&reader, 99, 800, 1000) == 10 && same());
+            reported = feed(&reader, symbols[i], pulse);
+            CHECK(reported == (i + 1 == 121));
+        }
+        CHECK(got.day == 191 && got.hundredths == 5094000 && got.control == 0);
+        CHECK(got.hundredths == ((14 * 60 + 9) * 60) * 100);
+        CHECK(reader.words[2] == 121 % 60);
+        /* One more element brings nothing. */
+        CHECK(!feed(&reader, 2, pulse));
+    }
+}
+
+/* An undamaged stream over the end of a year, joined at every element: the first report with element 3n - i, then one
+ * with each frame. */
+static void streams(void)
+{
+    int f;
+    for (f = 0; f < FORMATS; f++) {
+        uint8_t letter = (uint8_t)letters[f], expression = expressions[f];
+        size_t n = size_of(letter), i, joined, heard;
+        uint16_t day[6];
+        uint32_t c[6];
+        uint64_t control[6];
+        uint8_t *stream = bytes(6 * n, FILL);
+        day[0] = 365;
+        c[0] = 8640000 - 3 * interval_of(letter);
+        for (i = 0; i < 6; i++) {
+            control[i] = random_control(letter, expression);
+            CHECK(call_write(letter, expression, day[i], c[i], control[i], stream + i * n, n) == 0);
+            if (i < 5) {
+                CHECK(call_step(letter, expression, day[i], c[i], f % 2 ? 365 : 366) == 0);
+                day[i + 1] = got.day;
+                c[i + 1] = got.hundredths;
+            }
+        }
+        for (joined = 0; joined < n; joined++) {
+            duskveyra_reader reader;
+            CHECK(duskveyra_fresh(letter, expression, &reader) == 0);
+            for (i = joined, heard = 1; i < 6 * n; i++, heard++) {
+                int reported = feed(&reader, stream[i], 0);
+                int due = (i + 1) % n == 0 && heard >= 3 * n - joined;
+                CHECK(reported == due);
+                if (reported) {
+                    size_t k = i / n;
+                    CHECK(got.day == day[k] && got.hundredths == c[k] && got.control == control[k]);
+                }
+            }
+        }
+        free(stream);
+    }
+}
+
+static void scans(void)
+{
+    int f;
+    for (f = 0; f < FORMATS; f++) {
+        uint8_t letter = (uint8_t)letters[f], expression = expressions[f];
+        size_t n = size_of(letter), start, before;
+        for (before = 0; before < 12; before++) {
+            size_t length = before + 2 * n;
+            uint8_t *recording = bytes(length, 3);
+            uint64_t control = random_control(letter, expression);
+            uint32_t c = random_time(letter);
+            CHECK(call_write(letter, expression, 200, c, control, recording + before, n) == 0);
+            CHECK(call_write(letter, expression, 200, c, control, recording + before + n, n) == 0);
+            if (before > 0)
+                recording[before - 1] = before % 2 ? 2 : 255;
+            for (start = 0; start <= length; start++) {
+                size_t at = before % 2 && start <= before ? before : before + n;
+                CHECK(call_scan(letter, expression, recording, length, start) == 0);
+                SET(uint8_t, flag, start <= at);
+                if (start <= at) {
+                    SET(size_t, index, at);
+                    set_values(200, c, control);
+                }
+                CHECK(same());
+            }
+            CHECK(call_scan(letter, expression, recording, length, length + 1) == 12 && same());
+            CHECK(call_scan(letter, expression, recording, length, SIZE_MAX) == 12 && same());
+            /* The last element missing. */
+            CHECK(call_scan(letter, expression, recording, length - 1, before + 1) == 0);
+            SET(uint8_t, flag, 0);
+            CHECK(same());
+            free(recording);
+        }
+        {
+            uint8_t *recording = bytes(300, 2);
+            CHECK(call_scan(letter, expression, recording, 300, 0) == 0);
+            SET(uint8_t, flag, 0);
+            CHECK(same());
+            memset(recording, 255, 300);
+            CHECK(call_scan(letter, expression, recording, 300, 0) == 0);
+            SET(uint8_t, flag, 0);
+            CHECK(same());
+            free(recording);
+        }
+    }
+}
+
+static void empty(void)
+{
+    uint8_t *none = bytes(0, FILL);
+    uint32_t *widths = ticks(0, 7), *periods = ticks(0, 7);
+    CHECK(call_write('B', 0, 1, 0, 0, none, 0) == 3 && none[0] == FILL);
+    CHECK(call_read('B', 0, none, 0) == 3 && same());
+    CHECK(duskveyra_classify_list(1000, widths, 0, periods, 0, none, 0) == 0 && none[0] == FILL);
+    CHECK(duskveyra_classify_list(99, widths, 0, periods, 0, none, 0) == 10 && none[0] == FILL);
+    CHECK(call_scan('B', 0, none, 0, 0) == 0);
+    SET(uint8_t, flag, 0);
+    CHECK(same());
+    CHECK(call_scan('B', 0, none, 0, 1) == 12 && same());
+    free(none);
+    free(widths);
+    free(periods);
+}
+
+static int valid(const duskveyra_reader *reader)
+{
+    const uint64_t *words = reader->words;
+    return words[0] < 256 && words[1] < 256 && known((uint8_t)words[0], (uint8_t)words[1]) &&
+           words[2] < size_of((uint8_t)words[0]);
+}
+
+/* Feeds a reader that no feeding made: 13, else 4 for a symbol above 3, else Quiet or Report, and nothing else touched. */
+static void feed_any(const duskveyra_reader *reader)
+{
+    static const uint8_t symbols[] = {0, 1, 2, 3, 4, 255};
+    size_t i;
+    for (i = 0; i < sizeof symbols; i++) {
+        uint8_t answer = call_feed(reader, symbols[i]);
+        uint8_t number = !valid(reader) ? 13 : symbols[i] > 3 ? 4 : 0;
+        CHECK(answer == number);
+        if (number == 0) {
+            CHECK(got.flag <= 1);
+            SET(uint8_t, flag, got.flag);
+            if (got.flag == 1)
+                set_values(got.day, got.hundredths, got.control);
+            CHECK(valid(&got.reader));
+            memcpy(&want.reader, &got.reader, sizeof want.reader);
+        }
+        CHECK(same());
+        CHECK(call_feed_pulse(reader, 99, 800, 1000) == 10 && same());
+        CHECK(call_feed_pulse(reader, 1000, 800, 1000) == (valid(reader) ? 0 : 13));
+        CHECK(valid(reader) || same());
+    }
+}
+
+static void any_reader(void)
+{
+    duskveyra_reader reader;
+    int turn, f;
+    size_t i;
+    memset(&reader, 0xff, sizeof reader);
+    feed_any(&reader);
+    memset(&reader, 0, sizeof reader);
+    feed_any(&reader);
+    for (f = 0; f < FORMATS; f++) {
+        size_t n = size_of((uint8_t)letters[f]);
+        CHECK(duskveyra_fresh((uint8_t)letters[f], expressions[f], &reader) == 0);
+        feed_any(&reader);
+        reader.words[2] = n;
+        feed_any(&reader);
+        reader.words[2] = UINT64_MAX;
+        feed_any(&reader);
+        reader.words[2] = UINT64_C(1) << 32;
+        feed_any(&reader);
+        reader.words[2] = n - 1;
+        feed_any(&reader);
+        /* The low byte is a letter, the word is none. */
+        reader.words[0] += 256;
+        feed_any(&reader);
+        reader.words[0] += (UINT64_C(1) << 32) - 256;
+        feed_any(&reader);
+        reader.words[0] = (uint64_t)letters[f];
+        reader.words[1] += 256;
+        feed_any(&reader);
+        reader.words[1] = UINT64_C(1) << 63;
+        feed_any(&reader);
+    }
+    for (turn = 0; turn < 3000; turn++) {
+        for (i = 0; i < DUSKVEYRA_READER_WORDS; i++)
+            reader.words[i] = random64();
+        if (turn % 4 != 0) {
+            reader.words[0] = (uint64_t)letters[turn % FORMATS];
+            reader.words[1] = expressions[turn % FORMATS];
+            reader.words[2] = below(110);
+        }
+        if (turn % 5 == 0)
+            reader.words[3 + turn % 7] = UINT64_C(0xaaaaaaaaaaaaaaaa); /* marks */
+        feed_any(&reader);
+    }
+}
+
+int main(void)
+{
+    unknown_formats();
+    examples();
+    orders();
+    frames();
+    steps();
+    classifier();
+    listing();
+    streams();
+    scans();
+    empty();
+    any_reader();
+    printf("%lu checks, %lu failed\n", checks, failed);
+    return failed == 0 ? 0 : 1;
+}
