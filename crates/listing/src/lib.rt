@@ -14,9 +14,11 @@ use lines::refused_line;
 use lines::report_line;
 use refusals::number_of;
 use stream::Made;
+use stream::Passed;
 use stream::Reader;
 use stream::answer_to;
 use stream::next_reader;
+use stream::pass;
 use timecode::Answer;
 use timecode::Format;
 use timecode::Refusal;
@@ -185,6 +187,11 @@ fn hear(progress: Progress, bytes: &[u8]) -> Heard
         i += 1;
         let symbol = symbol_of(byte);
         if is_skipped_as(symbol, byte) {
+            continue;
+        }
+        if let Passed::Next(next) = pass(reader, symbol) {
+            reader = next;
+            elements = one_more(elements);
             continue;
         }
         let answer = answer_to(reader, symbol);

@@ -18,10 +18,12 @@ use refusals::number_of;
 use register::Register;
 use scan::scan;
 use stream::Made;
+use stream::Passed;
 use stream::Reader;
 use stream::answer_to;
 use stream::is_valid;
 use stream::next_reader;
+use stream::pass;
 use timecode::Answer;
 use timecode::Classified;
 use timecode::Format;
@@ -308,12 +310,12 @@ fn feed_other(reader: &mut [u64; 10], symbol: u8, reported: &mut u8) -> u8
     ensures { λ _. ⌜ fedSaid (feedWords (now (reader .entry)) symbol) .values ≡ [] ⌝ }
 {
     let held = reader_in(*reader);
+    if let Passed::Next(next) = pass(held, symbol) {
+        *reader = words_for(next);
+        *reported = 0;
+        return 0;
+    }
     if is_valid(held) {
-        if symbol <= 3 {
-            *reader = words_for(next_reader(held, symbol));
-            *reported = 0;
-            return 0;
-        }
         return 4;
     }
     13

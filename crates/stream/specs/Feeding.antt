@@ -4,7 +4,7 @@ use mathlib.Core.Bool.{Bool, true, cond, _&&_}
 use mathlib.Core.List.{List, []}
 use Prim.Native.Nat.{ℕ, _+_, _%_, _<_}
 use borrow.Author.Tests.{ltb-true}
-use lib.Dec.{ltb}
+use lib.Dec.{eqb, ltb}
 use Rattle.timecode.specs.Answers.{check, Said, said, refused}
 use Rattle.timecode.specs.Formats.{isSymbol, known, size}
 use Rattle.timecode.specs.Laws.Tests.{and-right}
@@ -15,6 +15,7 @@ use Rattle.register.specs.Symbols.{wordsOf, pushOf, heardFrame}
 use Rattle.register.specs.declared.Register.{Register}
 use Rattle.stream.specs.declared.Fed.{Fed}
 use Rattle.stream.specs.declared.Made.{Made}
+use Rattle.stream.specs.declared.Passed.{Passed}
 use Rattle.stream.specs.declared.Reader.{Reader}
 
 -- spoiled symbols alone
@@ -53,6 +54,10 @@ nextOf r s =
     cond (isValid r && isSymbol s)
     (record { format = r .format; place = (r .place + 1) % size (r .format); heard = pushOf (r .heard) s })
     r
+
+-- an accepted symbol that is no mark: the reader after it
+unfoldable pub passOf : Reader → ℕ → Passed
+passOf r s = cond (eqb s 2) Passed.Other (cond (isSymbol s && isValid r) (Passed.Next (nextOf r s)) Passed.Other)
 
 -- the last 2n + 1 symbols, oldest first
 unfoldable pub windowIn : Format → List ℕ → List ℕ

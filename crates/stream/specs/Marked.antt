@@ -1,20 +1,20 @@
 -- The last 2n + 1 symbols of a register's words as a window: its two frames, and the marks without which no report comes.
 use mathlib.Core.Path.{_≡_, sym, ap, _∙_}
-use mathlib.Core.Bool.{Bool, true, false, not, _&&_}
+use mathlib.Core.Bool.{Bool, true, false, not, _&&_, true≢false, false≢true}
 use mathlib.Core.List.{List}
 use Prim.Native.Nat.{ℕ, _+_, _*_, _-_, _<_, _≤_}
 use native.Mathlib.Nat.{zero-add}
 use native.Mathlib.Omega.{arith}
-use borrow.Author.Tests.{eqb-true, eq-eqb, ne-eqb, le-leb}
+use borrow.Author.Tests.{eqb-true, eq-eqb, eqb-false, ne-eqb, leb-true, leb-false, le-leb}
 use lib.Dec.{eqb}
 use lib.ListN.{getD, length}
 use lib.Seq.{ext-getD}
-use Rattle.timecode.specs.Formats.{size}
+use Rattle.timecode.specs.Formats.{isSymbol, size}
 use Rattle.timecode.specs.Frames.{readOf}
 use Rattle.timecode.specs.Laws.Marks.{accepted-before-last}
 use Rattle.timecode.specs.Laws.Runs.{length-tabulate, getD-tabulate}
 use Rattle.timecode.specs.Laws.Table.{size-range}
-use Rattle.timecode.specs.Laws.Tests.{clash, and-right}
+use Rattle.timecode.specs.Laws.Tests.{by-test, clash, and-left, and-right}
 use Rattle.timecode.specs.Laws.Windows.{Confirmed, length-frame-in, at-frame, first-of, last-of, before-of, second-reads, window-confirmed, window-quiet}
 use Rattle.timecode.specs.Stream.{windowLength, frameIn, confirm, windowAnswer}
 use Rattle.timecode.specs.declared.Answer.the-variants.{Quiet}
@@ -22,7 +22,8 @@ use Rattle.timecode.specs.declared.Format.{Format}
 use Rattle.timecode.specs.declared.Time.{Time}
 use Rattle.register.specs.Symbols.{wordsOf, pushOf, heardAt, heardFrame, heard-newest}
 use Rattle.register.specs.declared.Register.{Register}
-use Rattle.stream.specs.Feeding.{isValid, windowIn, answerOf}
+use Rattle.stream.specs.Feeding.{isValid, nextOf, passOf, windowIn, answerOf}
+use Rattle.stream.specs.declared.Passed.{Passed}
 use Rattle.stream.specs.declared.Reader.{Reader}
 
 -- ---- the window's symbols and frames
@@ -122,3 +123,32 @@ other-quiet f r s b n =
 pub other-answer : (r : Reader) (s : ℕ) → isValid r ≡ true → s ≤ 3 → (s ≡ 2 → ⊥) → answerOf r s ≡ Quiet
 unfolding answerOf
 other-answer r s v b n = rw (v, le-leb s 3 b) (sym (other-quiet (r .format) (r .heard) s b n))
+
+abbrev isNext : Passed → Bool
+isNext (Passed.Next q) = true
+isNext Passed.Other = false
+
+abbrev readerIn : Reader → Passed → Reader
+readerIn other (Passed.Next q) = q
+readerIn other Passed.Other = other
+
+-- a symbol that is passed is a Feed that is answered with Quiet
+pub passed-next : (r : Reader) (s : ℕ) (q : Reader) → Passed.Next q ≡ passOf r s → (q ≡ nextOf r s) × (Quiet ≡ answerOf r s)
+unfolding passOf
+passed-next r s q e =
+    by-test (eqb s 2)
+    (λ y. let other : passOf r s ≡ Passed.Other = rw y in absurd (true≢false (ap isNext (e ∙ other))))
+    (λ n.
+    by-test (isSymbol s && isValid r)
+    (λ v.
+    let next : passOf r s ≡ Passed.Next (nextOf r s) = rw (n, v) in
+    (ap (readerIn r) (e ∙ next), sym (other-answer r s (and-right (isSymbol s) (isValid r) v) (leb-true s 3 (and-left (isSymbol s) (isValid r) v)) (eqb-false s 2 n))))
+    (λ m. let other : passOf r s ≡ Passed.Other = rw (n, m) in absurd (true≢false (ap isNext (e ∙ other)))))
+
+-- where a symbol that is no mark is not passed by a valid reader, it is above 3
+pub not-passed : (r : Reader) (s : ℕ) → Passed.Other ≡ passOf r s → (s ≡ 2 → ⊥) → isValid r ≡ true → 3 < s
+unfolding passOf
+not-passed r s e n v =
+    by-test (isSymbol s)
+    (λ y. let next : passOf r s ≡ Passed.Next (nextOf r s) = rw (ne-eqb s 2 n, y, v) in absurd (false≢true (ap isNext (e ∙ next))))
+    (λ m. leb-false s 3 m)

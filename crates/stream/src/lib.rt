@@ -8,7 +8,7 @@ ghost use Rattle.timecode.specs.Formats.{known, size};
 ghost use Rattle.timecode.specs.Frames.{readOf};
 ghost use Rattle.timecode.specs.Stream.{confirm, windowAnswer};
 ghost use Rattle.register.specs.Symbols.{heardFrame};
-ghost use Rattle.stream.specs.Feeding.{isValid, madeOf, nextOf, windowIn, answerOf, feedOf};
+ghost use Rattle.stream.specs.Feeding.{isValid, madeOf, nextOf, passOf, windowIn, answerOf, feedOf};
 ghost use Rattle.stream.specs.Marked.{marksStand};
 use clock::next_after;
 use frame::read;
@@ -41,6 +41,12 @@ pub enum Made {
 pub struct Fed {
     pub reader: Reader,
     pub answer: Answer,
+}
+
+// The reader after a symbol that is accepted and no mark; or another symbol, or an invalid reader.
+pub enum Passed {
+    Next(Reader),
+    Other,
 }
 
 impl Reader {
@@ -150,24 +156,46 @@ fn window_answer(format: Format, words: &[u64]) -> Answer
     Answer::Quiet
 }
 
-// The reader after a Feed; a refused Feed hands back the same.
-pub fn next_reader(reader: Reader, symbol: u8) -> Reader
+fn with_symbol(reader: Reader, symbol: u8) -> Reader
+    requires { ⌜ (isValid reader ≡ true) × (symbol ≤ 3) ⌝ }
     ensures { λ r. ⌜ r ≡ nextOf reader symbol ⌝ }
 {
     let format = reader.format;
     let heard = reader.heard;
+    let place = place_after(reader.place, frame_size(format));
+    let longer = push(heard, symbol);
+    Reader {
+        format: format,
+        place: place,
+        heard: longer,
+    }
+}
+
+// The reader after a Feed; a refused Feed hands back the same.
+pub fn next_reader(reader: Reader, symbol: u8) -> Reader
+    ensures { λ r. ⌜ r ≡ nextOf reader symbol ⌝ }
+{
     if is_valid(reader) {
         if symbol <= 3 {
-            let place = place_after(reader.place, frame_size(format));
-            let longer = push(heard, symbol);
-            return Reader {
-                format: format,
-                place: place,
-                heard: longer,
-            };
+            return with_symbol(reader, symbol);
         }
     }
     reader
+}
+
+// Most symbols are no marks. An accepted one is a Feed that brings nothing, since no frame ends in it: a loop asks here first.
+pub fn pass(reader: Reader, symbol: u8) -> Passed
+    ensures { λ r. ⌜ r ≡ passOf reader symbol ⌝ }
+{
+    if symbol == 2 {
+        return Passed::Other;
+    }
+    if symbol <= 3 {
+        if is_valid(reader) {
+            return Passed::Next(with_symbol(reader, symbol));
+        }
+    }
+    Passed::Other
 }
 
 // The answer to a Feed. Only a mark ends a frame.

@@ -1,44 +1,37 @@
 -- `next_reader` meets its contract: a refused Feed hands back the same reader.
 use borrow.Author.Needs.{needs}
 use mathlib.Core.Path.{sym, _∙_}
-use borrow.Author.Tests.{le-leb, lt-leb}
-use Rattle.stream.specs.Feeding.{valid-place}
+use borrow.Author.Tests.{lt-leb}
 use Rattle.stream.specs.Feeding.{nextOf}
 use Rattle.stream.proofs.next_reader.Statement.{statement}
 use Rattle.stream.proofs.next_reader.Tie as tie
+use Rattle.stream.proofs.next_reader.Reads as reads
+use Rattle.stream.proofs.next_reader.Lts as lts
+use Rattle.stream.proofs.is_valid.Reads as is-valid-reads
+use Rattle.stream.proofs.with_symbol.Reads as with-symbol-reads
 
+-- src/lib.rt:178:8
 is-valid-requires : tie.Need-is-valid-requires
 is-valid-requires c κs = search needs
 
-frame-size-requires : tie.Need-frame-size-requires
-frame-size-requires c κs = search needs
+-- src/lib.rt:180:13
+with-symbol-requires : tie.Need-with-symbol-requires
+with-symbol-requires c κs = (sym (c .before .before .is-valid .ensures) ∙ c .before .if1 .taken, c .if2 .taken)
 
-place-after-requires : tie.Need-place-after-requires
-place-after-requires c κs = (rw (c .frame-size .ensures .0) (valid-place (c .before .before .before .before .before .before .args .reader) (sym (c .before .before .before .is-valid .ensures) ∙ c .before .before .if1 .taken)), c .frame-size .ensures .2)
-
-push-requires : tie.Need-push-requires
-push-requires c κs = search needs
-
+-- src/lib.rt:180:13
 returns : tie.Need-returns
-unfolding nextOf
-returns c = rw (← c .before .before .before .before .before .is-valid .ensures, c .before .before .before .before .if1 .taken, le-leb _ _ (c .before .before .before .if2 .taken), ← c .before .before .frame-size .ensures .0, ← c .before .place-after .ensures, ← c .push .ensures)
+returns c = c .with-symbol .ensures
 
+-- src/lib.rt:175:1
 returns-2 : tie.Need-returns-2
 unfolding nextOf
 returns-2 c = rw (← c .before .before .is-valid .ensures, c .before .if1 .taken, lt-leb _ _ (c .if2 .left))
 
+-- src/lib.rt:175:1
 returns-3 : tie.Need-returns-3
 unfolding nextOf
 returns-3 c = rw (← c .before .is-valid .ensures, c .if1 .left)
 
 pub next-reader-spec : {M : Type 1} → statement M
 next-reader-spec =
-    tie.close
-    (tie.spec
-    is-valid-requires
-    frame-size-requires
-    place-after-requires
-    push-requires
-    returns
-    returns-2
-    returns-3)
+    tie.close (tie.spec is-valid-requires with-symbol-requires returns returns-2 returns-3)
