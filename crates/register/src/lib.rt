@@ -1,9 +1,9 @@
 // The last 224 symbols heard, two bits each, packed into seven words: more than the 2n + 1 = 201 of the longest window.
 // The newest is the lowest of word0, and each word's highest goes on into the next.
 ghost use mathlib.Core.Path.{_≡_};
-ghost use Prim.Native.Nat.{_+_, _≤_, _<_};
+ghost use Prim.Native.Nat.{_+_, _-_, _≤_, _<_};
 ghost use lib.ListN.{length, take};
-ghost use Rattle.register.specs.Symbols.{wordsOf, pushOf, heardAt, heardFrame};
+ghost use Rattle.register.specs.Symbols.{wordsOf, pushOf, shiftedAt, heardAt, heardFrame};
 
 pub struct Register {
     pub word0: u64,
@@ -56,16 +56,34 @@ pub fn symbol_at(words: &[u64], back: usize) -> u8
     ((words[back / 32] >> (back % 32 * 2)) % 4) as u8
 }
 
+// The word in which the symbol so far back is the lowest, after the word of the symbol before it.
+fn word_at(words: &[u64], back: usize, before: u64) -> u64
+    requires { ⌜ (length (now words) ≡ 7) × (1 ≤ back) × (before ≡ shiftedAt (now words) (back - 1)) ⌝ }
+    ensures { λ r. ⌜ (back < 224 → r ≡ shiftedAt (now (words .entry)) back) ⌝ }
+{
+    if back % 32 == 0 {
+        if back < 224 {
+            return words[back / 32];
+        }
+        return 0;
+    }
+    before / 4
+}
+
 // The n symbols up to the one that is so far back, oldest first.
 pub fn frame_at(words: &[u64], back: usize, n: usize) -> [u8; 100]
-    requires { ⌜ (length (now words) ≡ 7) × (n ≤ 100) × (back + n ≤ 224) ⌝ }
+    requires { ⌜ (length (now words) ≡ 7) × (n ≤ 100) × (back + n ≤ 224) × (back < 224) ⌝ }
     ensures { λ r. ⌜ take n r ≡ heardFrame (now (words .entry)) back n ⌝ }
 {
     let mut frame = [0u8; 100];
-    let mut i = 0;
-    while i < n {
-        frame[i] = symbol_at(words, back + (n - 1 - i));
-        i += 1;
+    let mut word = words[back / 32] >> (back % 32 * 2);
+    let mut at = back;
+    let mut i = n;
+    while 0 < i {
+        i -= 1;
+        frame[i] = (word % 4) as u8;
+        at += 1;
+        word = word_at(words, at, word);
     }
     frame
 }

@@ -1,50 +1,77 @@
--- `frame_at` meets its contract: the oldest i of the n symbols.
+-- `frame_at` meets its contract: from the newest symbol to the oldest.
+use borrow.Author.Needs.{needs}
 use native.Mathlib.Omega.{arith}
 use mathlib.Core.Path.{_≡_, refl}
 use Prim.Native.Nat.{_+_, _-_, _≤_}
-use lib.ListN.{length, take, length-set}
-use Rattle.timecode.specs.Laws.Runs.{fill-step}
-use Rattle.timecode.specs.Layout.{tabulate}
-use Rattle.register.specs.Symbols.{heardAt, heardFrame}
+use Rattle.register.specs.Symbols.{shiftedAt, Unpacked, unpacked-start, unpacked-turn, unpacked-end}
 use Rattle.register.proofs.frame_at.Statement.{statement}
 use Rattle.register.proofs.frame_at.Tie as tie
+use Rattle.register.proofs.frame_at.Reads as reads
+use Rattle.register.proofs.frame_at.Lts as lts
+use Rattle.register.proofs.word_at.Reads as word-at-reads
 
 abbrev Inv-loop : tie.InvT-loop
-Inv-loop words back n frame₀ i₀ frame i = (i ≤ n) × (length frame ≡ 100) × (take i frame ≡ tabulate i 0 (λ k. heardAt words (back + (n - 1 - k))))
+Inv-loop words back n frame₀ word₀ at₀ i₀ frame word at i = (i ≤ n) × Unpacked words back n i frame word at
 
 abbrev μ-loop : tie.MeasureT-loop
-μ-loop words back n frame₀ i₀ frame i = n - i
+μ-loop words back n frame₀ word₀ at₀ i₀ frame word at i = i
 
+-- src/lib.rt:78:20
+mul-word : tie.Need-mul-word Inv-loop μ-loop
+mul-word c = search needs
+
+-- src/lib.rt:78:20
+shared-slice-read-word : tie.Need-shared-slice-read-word Inv-loop μ-loop
+shared-slice-read-word c = omega (arith, c .before .before .pre)
+
+-- src/lib.rt:78:41
+mul-word-2 : tie.Need-mul-word-2 Inv-loop μ-loop
+mul-word-2 c = search needs
+
+-- src/lib.rt:78:20
+shr-word : tie.Need-shr-word Inv-loop μ-loop
+shr-word c = search needs
+
+-- src/lib.rt:81:5
 loop-holds : tie.Need-loop-holds Inv-loop μ-loop
-loop-holds c = (omega arith, refl, refl)
+unfolding shiftedAt
+loop-holds c = (omega arith, unpacked-start _ _ _ _ refl)
 
-sub-symbol-at : tie.Need-sub-symbol-at Inv-loop μ-loop
-sub-symbol-at c = omega arith
+-- src/lib.rt:82:9
+sub-i : tie.Need-sub-i Inv-loop μ-loop
+sub-i c = omega arith
 
-sub-symbol-at-2 : tie.Need-sub-symbol-at-2 Inv-loop μ-loop
-sub-symbol-at-2 c = omega arith
+-- src/lib.rt:83:20
+cast-frame : tie.Need-cast-frame Inv-loop μ-loop
+cast-frame c = search needs
 
-add-symbol-at : tie.Need-add-symbol-at Inv-loop μ-loop
-add-symbol-at c = omega (arith, c .before .before .before .pre .2)
-
-symbol-at-requires : tie.Need-symbol-at-requires Inv-loop μ-loop
-symbol-at-requires c κs = (c .before .before .before .pre .0, omega (arith, c .before .before .before .pre .2))
-
+-- src/lib.rt:83:9
 array-write-frame : tie.Need-array-write-frame Inv-loop μ-loop
-array-write-frame c = omega (arith, c .before .before .before .before .pre .1, c .before .before .loop .inv .1)
+array-write-frame c = omega (arith, c .before .before .before .before .pre .1, c .before .loop .inv .1 .long)
 
-add-i : tie.Need-add-i Inv-loop μ-loop
-add-i c = omega arith
+-- src/lib.rt:84:9
+add-at : tie.Need-add-at Inv-loop μ-loop
+add-at c = omega (arith, c .before .before .before .before .pre, c .before .loop .inv .1 .reached)
 
+-- src/lib.rt:85:9
+word-at-requires : tie.Need-word-at-requires Inv-loop μ-loop
+word-at-requires c κs =
+    let same : c .before .loop .at + 1 - 1 ≡ c .before .loop .at = omega arith in
+    (c .before .before .before .before .pre .0, omega arith, rw same (c .before .loop .inv .1 .shifted (omega (arith, c .before .before .before .before .pre, c .before .loop .inv .1 .reached))))
+
+-- src/lib.rt:81:5
 loop-less : tie.Need-loop-less Inv-loop μ-loop
 loop-less c = omega arith
 
+-- src/lib.rt:81:5
 loop-again : tie.Need-loop-again Inv-loop μ-loop
-loop-again c = (omega arith, simp length-set (c .before .before .loop .inv .1), rw (c .symbol-at .ensures) (fill-step (c .before .before .loop .frame) (λ k. heardAt (c .before .before .before .before .args .words .now) (c .before .before .before .before .args .back + (c .before .before .before .before .args .n - 1 - k))) (c .before .before .loop .i) (omega (arith, c .before .before .before .before .pre .1, c .before .before .loop .inv .1)) (c .before .before .loop .inv .2)))
+loop-again c = (omega arith, unpacked-turn _ _ _ _ (c .before .before .loop .i) (c .before .before .loop .at) _ _ (c .before .before .before .before .before .pre .1) (c .before .before .before .before .before .pre .2) (c .before .loop-test .taken) (c .before .before .loop .inv .0) (c .before .before .loop .inv .1) (c .word-at .ensures))
 
+-- src/lib.rt:73:1
 returns : tie.Need-returns Inv-loop μ-loop
-unfolding heardFrame
-returns c = let n : c .before .loop .i ≡ c .before .before .before .args .n = omega arith in rw n at (c .before .loop .inv .2)
+returns c =
+    let none : c .before .loop .i ≡ 0 = omega arith in
+    unpacked-end _ _ _ _ _ _ (c .before .before .before .before .pre .1) (rw none at (c .before .loop .inv .1))
 
 pub frame-at-spec : {M : Type 1} → statement M
 frame-at-spec =
@@ -52,13 +79,16 @@ frame-at-spec =
     (tie.spec
     Inv-loop
     μ-loop
+    mul-word
+    shared-slice-read-word
+    mul-word-2
+    shr-word
     loop-holds
-    sub-symbol-at
-    sub-symbol-at-2
-    add-symbol-at
-    symbol-at-requires
+    sub-i
+    cast-frame
     array-write-frame
-    add-i
+    add-at
+    word-at-requires
     loop-less
     loop-again
     returns)
