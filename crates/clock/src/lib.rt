@@ -1,7 +1,7 @@
 // Times: whether one lies on a format, Step, next after, and Difference.
 ghost use mathlib.Core.Path.{_≡_};
 ghost use mathlib.Core.Bool.{true};
-ghost use Prim.Native.Nat.{_+_, _*_, _≤_, _<_};
+ghost use Prim.Native.Nat.{_+_, _*_, _<_};
 ghost use lib.IntN.{pos, _-ℤ_};
 ghost use Rattle.timecode.specs.Calls.{differenceOf};
 ghost use Rattle.timecode.specs.Formats.{known, inRange, onFormat};

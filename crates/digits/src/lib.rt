@@ -2,7 +2,7 @@
 // Written digits may have more bits than their runs; read ones come from a frame in which nothing offends.
 ghost use mathlib.Core.Path.{_≡_};
 ghost use mathlib.Core.Bool.{true};
-ghost use Prim.Native.Nat.{ℕ, _+_, _*_, _^_, _≤_, _<_};
+ghost use Prim.Native.Nat.{_+_, _*_, _^_, _≤_, _<_};
 ghost use lib.ListN.{getD, length};
 ghost use Rattle.timecode.specs.Frames.{controlFits};
 ghost use Rattle.timecode.specs.Layout.{runs, fields, numbers, spread};

@@ -4,7 +4,7 @@ ghost use mathlib.Core.Path.{_≡_};
 ghost use mathlib.Core.Bool.{true};
 ghost use Prim.Native.Nat.{_+_, _%_, _≤_, _<_};
 ghost use lib.ListN.{length};
-ghost use Rattle.timecode.specs.Formats.{known, size};
+ghost use Rattle.timecode.specs.Formats.{known};
 ghost use Rattle.timecode.specs.Frames.{readOf};
 ghost use Rattle.timecode.specs.Stream.{confirm, windowAnswer};
 ghost use Rattle.register.specs.Symbols.{heardFrame};

@@ -1,6 +1,5 @@
 -- `put` meets its contract.
 use borrow.Author.Needs.{needs}
-use native.Mathlib.Omega.{arith}
 use mathlib.Core.Path.{refl}
 use lib.ListN.{length-set}
 use lib.Seq.{take-suc-set}

@@ -1,6 +1,5 @@
 -- `advance` meets its contract.
 use borrow.Author.Needs.{needs}
-use Rattle.listing.specs.Progress.{oneMore}
 use Rattle.listing.proofs.advance.Statement.{statement}
 use Rattle.listing.proofs.advance.Tie as tie
 use Rattle.listing.proofs.advance.Reads as reads

@@ -1,5 +1,4 @@
 -- `is_skipped` meets its contract.
-use borrow.Author.Needs.{needs}
 use borrow.Author.Tests.{eq-eqb, ne-eqb}
 use Rattle.listing.specs.Printed.{isSkipped}
 use Rattle.listing.proofs.is_skipped.Statement.{statement}

@@ -1,6 +1,6 @@
 -- `is_skipped_as` meets its contract.
 use borrow.Author.Needs.{needs}
-use mathlib.Core.Path.{refl, sym, _∙_}
+use mathlib.Core.Path.{sym, _∙_}
 use Rattle.timecode.specs.Laws.Tests.{by-test}
 use Rattle.listing.specs.Parts.{skipped-symbol}
 use Rattle.listing.specs.Printed.{isSkipped}

@@ -1,7 +1,6 @@
 -- `one_more` meets its contract.
 use borrow.Author.Needs.{needs}
 use borrow.Author.Tests.{lt-ltb, le-ltb}
-use native.Mathlib.Omega.{arith}
 use native.Mathlib.Numerals.{add-one}
 use Rattle.listing.specs.Progress.{oneMore}
 use Rattle.listing.proofs.one_more.Statement.{statement}

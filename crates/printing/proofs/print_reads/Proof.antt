@@ -1,6 +1,5 @@
 -- `print_reads` ends: its reads are counted down.
 use borrow.Author.Needs.{needs}
-use native.Mathlib.Omega.{arith}
 use Rattle.printing.proofs.print_reads.Statement.{statement}
 use Rattle.printing.proofs.print_reads.Tie as tie
 use Rattle.printing.proofs.print_reads.Reads as reads

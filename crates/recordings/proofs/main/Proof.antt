@@ -1,6 +1,5 @@
 -- `main` ends: each argument once.
 use borrow.Author.Needs.{needs}
-use native.Mathlib.Omega.{arith}
 use Prim.Native.Nat.{_-_}
 use Rattle.recordings.proofs.main.Statement.{statement}
 use Rattle.recordings.proofs.main.Tie as tie

@@ -1,7 +1,6 @@
 -- `word_at` meets its contract.
 use borrow.Author.Needs.{needs}
 use native.Mathlib.Omega.{arith}
-use mathlib.Core.Path.{_∙_}
 use Rattle.register.specs.Symbols.{shifted-first, shifted-next}
 use Rattle.register.proofs.word_at.Statement.{statement}
 use Rattle.register.proofs.word_at.Tie as tie
