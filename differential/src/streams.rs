@@ -189,30 +189,18 @@ pub fn random_bits(random: &mut Random, format: Format) -> Vec<u8> {
         .collect()
 }
 
+/// One element in how many is damaged, and how: replaced, lost, inserted, or any of these.
+const DAMAGE: [(u64, u64); 5] = [(1000, 0), (60, 0), (300, 1), (300, 2), (200, 3)];
+
 /// One piece of a stream.
 fn piece(random: &mut Random, format: Format) -> Vec<u8> {
     let count = 3 + random.index(12);
     match random.below(18) {
         0..=2 => frames(random, format, count),
-        3 => {
+        kind @ 3..=7 => {
             let symbols = frames(random, format, count);
-            damage(random, &symbols, 1000, 0)
-        }
-        4 => {
-            let symbols = frames(random, format, count);
-            damage(random, &symbols, 60, 0)
-        }
-        5 => {
-            let symbols = frames(random, format, count);
-            damage(random, &symbols, 300, 1)
-        }
-        6 => {
-            let symbols = frames(random, format, count);
-            damage(random, &symbols, 300, 2)
-        }
-        7 => {
-            let symbols = frames(random, format, count);
-            damage(random, &symbols, 200, 3)
+            let (times, how) = DAMAGE[kind as usize - 3];
+            damage(random, &symbols, times, how)
         }
         8 => splice(random, format),
         9 | 10 => successions(random, format),

@@ -1,5 +1,5 @@
 // The lines that timeread prints, as ASCII at the start of a lent line.
-// No line is longer than 64 bytes: the longest, of the counts, has at most 59.
+// No line is longer than 64 bytes: the longest, of the counts, has at most 59. What stands behind a line in the lent memory is free.
 ghost use mathlib.Core.Path.{_≡_};
 ghost use mathlib.Core.List.{[], _∷_, _++_};
 ghost use Prim.Native.Nat.{_+_, _≤_, _<_};

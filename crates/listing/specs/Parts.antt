@@ -84,17 +84,16 @@ quiet-answered r elements reports next Quiet y = refl
 quiet-answered r elements reports next (Report t w) y = absurd (false≢true y)
 quiet-answered r elements reports next (Answer.Refused x) y = absurd (false≢true y)
 
-pub step-skipped : (p : Progress) (b : ℕ) → isSkipped b ≡ true → p .ended ≡ false → (stepOf p b ≡ p) × (lineOf p b ≡ [])
+-- one byte: nothing after the end and where it is skipped, else its answer
+step-by : (p : Progress) (b : ℕ) (t : Bool) → (p .ended || isSkipped b) ≡ t → (stepOf p b ≡ cond t p (answered p (nextOf (p .reader) (symbolOf b)) (answerOf (p .reader) (symbolOf b)))) × (lineOf p b ≡ cond t [] (lineFor (stepOf p b .elements) (answerOf (p .reader) (symbolOf b))))
 unfolding stepOf lineOf
-step-skipped p b y g =
-    let over : (p .ended || isSkipped b) ≡ true = rw (g, y) in
-    (ap (λ (t : Bool). cond t p (answered p (nextOf (p .reader) (symbolOf b)) (answerOf (p .reader) (symbolOf b)))) over, ap (λ (t : Bool). cond t [] (lineFor (stepOf p b .elements) (answerOf (p .reader) (symbolOf b)))) over)
+step-by p b t e = (ap (λ (t : Bool). cond t p (answered p (nextOf (p .reader) (symbolOf b)) (answerOf (p .reader) (symbolOf b)))) e, ap (λ (t : Bool). cond t [] (lineFor (stepOf p b .elements) (answerOf (p .reader) (symbolOf b)))) e)
+
+pub step-skipped : (p : Progress) (b : ℕ) → isSkipped b ≡ true → p .ended ≡ false → (stepOf p b ≡ p) × (lineOf p b ≡ [])
+step-skipped p b y g = step-by p b true (rw (g, y))
 
 pub step-fed : (p : Progress) (b : ℕ) → isSkipped b ≡ false → p .ended ≡ false → (stepOf p b ≡ answered p (nextOf (p .reader) (symbolOf b)) (answerOf (p .reader) (symbolOf b))) × (lineOf p b ≡ lineFor (stepOf p b .elements) (answerOf (p .reader) (symbolOf b)))
-unfolding stepOf lineOf
-step-fed p b n g =
-    let on : (p .ended || isSkipped b) ≡ false = rw (g, n) in
-    (ap (λ (t : Bool). cond t p (answered p (nextOf (p .reader) (symbolOf b)) (answerOf (p .reader) (symbolOf b)))) on, ap (λ (t : Bool). cond t [] (lineFor (stepOf p b .elements) (answerOf (p .reader) (symbolOf b)))) on)
+step-fed p b n g = step-by p b false (rw (g, n))
 
 -- p is the progress after the first i bytes, of which nothing was told
 pub record Silent (from p : Progress) (bytes : List ℕ) (i : ℕ) : Type 0 where
@@ -141,10 +140,7 @@ quiet-turn from reader next elements more reports a bytes i h silent n fed said 
 -- ---- after the end
 
 step-ended : (p : Progress) (b : ℕ) → p .ended ≡ true → (stepOf p b ≡ p) × (lineOf p b ≡ [])
-unfolding stepOf lineOf
-step-ended p b e =
-    let over : (p .ended || isSkipped b) ≡ true = rw e in
-    (ap (λ (t : Bool). cond t p (answered p (nextOf (p .reader) (symbolOf b)) (answerOf (p .reader) (symbolOf b)))) over, ap (λ (t : Bool). cond t [] (lineFor (stepOf p b .elements) (answerOf (p .reader) (symbolOf b)))) over)
+step-ended p b e = step-by p b true (rw e)
 
 pub ended-stays : (p : Progress) (bytes : List ℕ) → p .ended ≡ true → p ≡ afterOf p bytes
 unfolding afterOf

@@ -1,8 +1,10 @@
 -- What timeread keeps from one read to the next, what each byte makes of it, and what is printed meanwhile.
+use mathlib.Core.Path.{_≡_}
 use mathlib.Core.Bool.{Bool, true, false, cond, _||_}
 use mathlib.Core.List.{List, [], _∷_, _++_}
-use Prim.Native.Nat.{ℕ, suc}
+use Prim.Native.Nat.{ℕ, suc, _≤_}
 use lib.Dec.{ltb}
+use lib.ListN.{length, take}
 use Rattle.timecode.specs.Answers.{number, check}
 use Rattle.timecode.specs.declared.Answer.{Answer}
 use Rattle.timecode.specs.declared.Answer.the-variants.{Quiet, Report}
@@ -11,6 +13,7 @@ use Rattle.stream.specs.Feeding.{freshReader, nextOf, answerOf}
 use Rattle.stream.specs.declared.Made.{Made}
 use Rattle.stream.specs.declared.Reader.{Reader}
 use Rattle.listing.specs.Printed.{formatIn, isFirstLine, isSkipped, symbolOf}
+use Rattle.listing.specs.declared.Listed.{Listed}
 use Rattle.listing.specs.declared.Progress.{Progress}
 
 -- the reader that the first line asks for, or number 1
@@ -61,3 +64,19 @@ textOf p (b ∷ bs) = lineOf p b ++ textOf (stepOf p b) bs
 -- the last line, unless a refusal was it
 unfoldable pub endingOf : Progress → List ℕ
 endingOf p = cond (p .ended) [] (countsLine (p .elements) (p .reports))
+
+-- What a call that lists some bytes leaves: the lines of the bytes taken at the start of 65,536 bytes, and the progress after them.
+-- It takes all, unless there is no room for one line more, and at least one. What stands behind the lines is free.
+abbrev pub Lists : Progress → List ℕ → Listed → List ℕ → Type 0
+Lists p bytes r out =
+    (length out ≡ 65536)
+    × (r .progress ≡ afterOf p (take (r .taken) bytes))
+    × (take (r .filled) out ≡ textOf p (take (r .taken) bytes))
+    × (r .taken ≤ length bytes)
+    × (r .filled ≤ 65536)
+    × (r .filled ≤ 65472 → r .taken ≡ length bytes)
+    × (1 ≤ length bytes → 1 ≤ r .taken)
+
+-- and one that puts the last line
+abbrev pub Ends : Progress → ℕ → List ℕ → Type 0
+Ends p filled out = (length out ≡ 65536) × (filled ≤ 65536) × (take filled out ≡ endingOf p)

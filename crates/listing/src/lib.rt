@@ -7,7 +7,7 @@ ghost use lib.ListN.{length, take};
 ghost use Rattle.timecode.specs.Answers.{number};
 ghost use Rattle.lines.specs.Text.{reportLine, countsLine, refusedLine};
 ghost use Rattle.listing.specs.Printed.{isSkipped, symbolOf};
-ghost use Rattle.listing.specs.Progress.{begunOf, goingOn, oneMore, answered, isQuiet, lineFor, afterOf, textOf, endingOf};
+ghost use Rattle.listing.specs.Progress.{begunOf, goingOn, oneMore, answered, isQuiet, lineFor, afterOf, textOf, Lists, Ends};
 use lines::counts_line;
 use lines::put_text;
 use lines::refused_line;
@@ -246,7 +246,7 @@ fn put_line(out: &mut [u8], at: usize, element: u64, answer: Answer) -> usize
 
 fn fill(progress: Progress, bytes: &[u8], out: &mut [u8]) -> Listed
     requires { ⌜ length (now out) ≡ 65536 ⌝ }
-    ensures { λ r. ⌜ (length (now (out .exit)) ≡ 65536) × (r .progress ≡ afterOf progress (take (r .taken) (now (bytes .entry)))) × (take (r .filled) (now (out .exit)) ≡ textOf progress (take (r .taken) (now (bytes .entry)))) × (r .taken ≤ length (now (bytes .entry))) × (r .filled ≤ 65536) × (r .filled ≤ 65472 → r .taken ≡ length (now (bytes .entry))) × (1 ≤ length (now (bytes .entry)) → 1 ≤ r .taken) ⌝ }
+    ensures { λ r. ⌜ Lists progress (now (bytes .entry)) r (now (out .exit)) ⌝ }
 {
     let mut current = progress;
     let mut taken = 0;
@@ -267,7 +267,7 @@ fn fill(progress: Progress, bytes: &[u8], out: &mut [u8]) -> Listed
 
 // Puts the lines of the bytes taken: all of them, unless the lent memory has no room for one line more.
 pub fn list(progress: Progress, bytes: &[u8], out: &mut [u8; 65536]) -> Listed
-    ensures { λ r. ⌜ (length (now (out .exit)) ≡ 65536) × (r .progress ≡ afterOf progress (take (r .taken) (now (bytes .entry)))) × (take (r .filled) (now (out .exit)) ≡ textOf progress (take (r .taken) (now (bytes .entry)))) × (r .taken ≤ length (now (bytes .entry))) × (r .filled ≤ 65536) × (r .filled ≤ 65472 → r .taken ≡ length (now (bytes .entry))) × (1 ≤ length (now (bytes .entry)) → 1 ≤ r .taken) ⌝ }
+    ensures { λ r. ⌜ Lists progress (now (bytes .entry)) r (now (out .exit)) ⌝ }
 {
     fill(progress, bytes, out)
 }
@@ -283,7 +283,7 @@ fn put_counts(out: &mut [u8], elements: u64, reports: u64) -> usize
 
 fn end(progress: Progress, out: &mut [u8]) -> usize
     requires { ⌜ length (now out) ≡ 65536 ⌝ }
-    ensures { λ r. ⌜ (length (now (out .exit)) ≡ 65536) × (r ≤ 65536) × (take r (now (out .exit)) ≡ endingOf progress) ⌝ }
+    ensures { λ r. ⌜ Ends progress r (now (out .exit)) ⌝ }
 {
     if progress.ended {
         return 0;
@@ -293,7 +293,7 @@ fn end(progress: Progress, out: &mut [u8]) -> usize
 
 // Puts the last line: how many elements and reports there were, unless a refusal was the last.
 pub fn finish(progress: Progress, out: &mut [u8; 65536]) -> usize
-    ensures { λ r. ⌜ (length (now (out .exit)) ≡ 65536) × (r ≤ 65536) × (take r (now (out .exit)) ≡ endingOf progress) ⌝ }
+    ensures { λ r. ⌜ Ends progress r (now (out .exit)) ⌝ }
 {
     end(progress, out)
 }

@@ -19,13 +19,13 @@ use Rattle.register.specs.declared.Register.{Register}
 abbrev pub wordsOf : Register → List ℕ
 wordsOf r = r .word0 ∷ r .word1 ∷ r .word2 ∷ r .word3 ∷ r .word4 ∷ r .word5 ∷ r .word6 ∷ []
 
--- the symbol that is so far back
-unfoldable pub heardAt : List ℕ → ℕ → ℕ
-heardAt words back = getD words (back / 32) 0 / 2 ^ (back % 32 * 2) % 4
-
--- its word, shifted so that it is the lowest
-unfoldable pub shiftedAt : List ℕ → ℕ → ℕ
+-- the word of the symbol that is so far back, shifted so that it is the lowest
+abbrev pub shiftedAt : List ℕ → ℕ → ℕ
 shiftedAt words back = getD words (back / 32) 0 / 2 ^ (back % 32 * 2)
+
+-- that symbol
+unfoldable pub heardAt : List ℕ → ℕ → ℕ
+heardAt words back = shiftedAt words back % 4
 
 -- the n symbols up to the one that is so far back, oldest first
 unfoldable pub heardFrame : List ℕ → ℕ → ℕ → List ℕ
@@ -108,7 +108,6 @@ heard-earlier r s j b = ap (λ (ws : List ℕ). heardAt ws (suc j)) (words-pushe
 -- ---- a frame unpacked from its newest symbol to its oldest
 
 pub shifted-first : (words : List ℕ) (back : ℕ) → back % 32 ≡ 0 → getD words (back / 32) 0 ≡ shiftedAt words back
-unfolding shiftedAt
 shifted-first words back h = rw h (sym (div-one (getD words (back / 32) 0)))
 
 positive : (k : ℕ) → (k ≡ 0 → ⊥) → 1 ≤ k
@@ -116,7 +115,6 @@ positive zero h = absurd (h refl)
 positive (suc k) h = omega arith
 
 pub shifted-next : (words : List ℕ) (back : ℕ) → 1 ≤ back → (back % 32 ≡ 0 → ⊥) → shiftedAt words (back - 1) / 4 ≡ shiftedAt words back
-unfolding shiftedAt
 shifted-next words back some h =
     let word : (back - 1) / 32 ≡ back / 32 = omega (arith, in-word) in
     let place : back % 32 * 2 ≡ (back - 1) % 32 * 2 + 2 = omega (arith, in-word) in
@@ -135,14 +133,8 @@ pub record Unpacked (words : List ℕ) (back n i : ℕ) (frame : List ℕ) (word
 pub unpacked-start : (words frame : List ℕ) (back n : ℕ) → length frame ≡ 100 → Unpacked words back n n frame (shiftedAt words back) back
 unpacked-start words frame back n long = record { long = long; reached = refl; shifted = λ b. refl; stand = λ k a b. let n : ⊥ = omega arith in absurd n }
 
-ne-lt : (k j : ℕ) → j ≤ k → (k ≡ j → ⊥) → j < k
-ne-lt k j a d = omega arith
-
-other : {i : ℕ} (k : ℕ) → i - 1 ≤ k → (k ≡ i - 1 → ⊥) → i ≤ k
-other {i} k a d = omega (arith, ne-lt k (i - 1) a d)
-
 pub unpacked-turn : (words frame : List ℕ) (back n i at word next : ℕ) → n ≤ 100 → back + n ≤ 224 → 0 < i → i ≤ n → Unpacked words back n i frame word at → (at + 1 < 224 → next ≡ shiftedAt words (at + 1)) → Unpacked words back n (i - 1) (set frame (i - 1) (word % 4)) next (at + 1)
-unfolding heardAt shiftedAt
+unfolding heardAt
 unpacked-turn words frame back n i at word next fits room some most u shifted =
     record {
       long = length-set frame (i - 1) (word % 4) ∙ u .long;
@@ -156,7 +148,7 @@ unpacked-turn words frame back n i at word next fits room some most u shifted =
 
     by-place : (k : ℕ) → i - 1 ≤ k → k < n → Dec (k ≡ i - 1) → getD (set frame (i - 1) (word % 4)) k 0 ≡ heardAt words (back + (n - 1 - k))
     by-place k a b (yes e) = rw (e, ← here) (getD-set-same frame (i - 1) (word % 4) 0 (omega (arith, u .long)) ∙ ap (λ (w : ℕ). w % 4) (u .shifted (omega (arith, u .reached))))
-    by-place k a b (no d) = getD-set-other frame (i - 1) k (word % 4) 0 (λ e. d e) ∙ u .stand k (other k a d) b
+    by-place k a b (no d) = getD-set-other frame (i - 1) k (word % 4) 0 (λ e. d e) ∙ u .stand k (omega arith) b
 
 pub unpacked-end : (words frame : List ℕ) (back n word at : ℕ) → n ≤ 100 → Unpacked words back n 0 frame word at → take n frame ≡ heardFrame words back n
 unfolding heardFrame

@@ -3,7 +3,7 @@ use borrow.Author.Needs.{needs}
 use native.Mathlib.Omega.{arith}
 use mathlib.Core.Path.{_≡_, refl}
 use Prim.Native.Nat.{_+_, _-_, _≤_}
-use Rattle.register.specs.Symbols.{shiftedAt, Unpacked, unpacked-start, unpacked-turn, unpacked-end}
+use Rattle.register.specs.Symbols.{Unpacked, unpacked-start, unpacked-turn, unpacked-end}
 use Rattle.register.proofs.frame_at.Statement.{statement}
 use Rattle.register.proofs.frame_at.Tie as tie
 use Rattle.register.proofs.frame_at.Reads as reads
@@ -34,7 +34,6 @@ shr-word c = search needs
 
 -- src/lib.rt:81:5
 loop-holds : tie.Need-loop-holds Inv-loop μ-loop
-unfolding shiftedAt
 loop-holds c = (omega arith, unpacked-start _ _ _ _ refl)
 
 -- src/lib.rt:82:9

@@ -17,7 +17,7 @@ shared-slice-read-result c = omega (arith, c .before .before .before .pre .0)
 
 -- src/lib.rt:66:13
 returns : tie.Need-returns
-returns c = λ b. shifted-first _ _ (c .before .before .if1 .taken)
+returns c = λ b. shifted-first (c .before .before .before .args .words .now) (c .before .before .before .args .back) (c .before .before .if1 .taken)
 
 -- src/lib.rt:68:9
 returns-2 : tie.Need-returns-2
