@@ -11,8 +11,9 @@
  * A symbol is one byte: 0 (zero or index marker), 1 (one), 2 (mark: position identifier or reference bit) or
  * 3 (spoiled). A format is a rate letter, in capital ASCII ('A', 'B', 'D', 'E', 'G', 'H'), and a coded expression as
  * a number (0 to 3 with A and B, 1 and 2 with the others). A time is a day, 1 to 366, and hundredths of a second since
- * midnight, 0 to 8,639,999; it lies on a format where the frame interval divides the hundredths. The lowest bit of a
- * control word is control bit 1.
+ * midnight, 0 to 8,640,099; it lies on a format where the frame interval divides the hundredths. From 8,640,000 on it
+ * lies in a second that was added to its day, 23:59:60; A, B and G carry that second, D, E and H do not. The lowest bit
+ * of a control word is control bit 1.
  *
  * letter  elements of a frame  frame interval in hundredths  control bits (expressions 0 and 1)
  *   A            100                        10                   27
@@ -43,13 +44,23 @@ enum duskveyra_number {
     DUSKVEYRA_UNKNOWN_SYMBOL = 4,       /* symbol above 3 */
     DUSKVEYRA_MISPLACED_MARK = 5,       /* mark missing, or where none belongs; with its index */
     DUSKVEYRA_INVALID_ELEMENT = 6,      /* 1 or 3 as index marker, or 3 in the place of a digit or bit; with its index */
-    DUSKVEYRA_INVALID_DIGIT = 7,        /* digit over 9, hours over 23, minutes or seconds over 59, day 0 or over 366 */
+    DUSKVEYRA_INVALID_DIGIT = 7,        /* digit over 9, hours over 23, minutes or seconds over 59, day 0 or over 366;
+                                           at 23:59 in A, B and G seconds over 60 */
     DUSKVEYRA_SECONDS_DIFFER = 8,       /* straight binary seconds differ from the digits */
     DUSKVEYRA_CONTROL_TOO_LONG = 9,     /* control word needs more bits than are carried */
     DUSKVEYRA_INVALID_INTERVAL = 10,    /* nominal element interval not 100 to 10,000,000 ticks */
     DUSKVEYRA_INVALID_YEAR_LENGTH = 11, /* year length not 365 or 366, or the day is beyond it */
     DUSKVEYRA_START_PAST_END = 12,      /* start past the recording's end */
-    DUSKVEYRA_INVALID_READER = 13       /* the reader's letter, expression or place out of range */
+    DUSKVEYRA_INVALID_READER = 13,      /* the reader's letter, expression or place out of range */
+    DUSKVEYRA_SECOND_NOT_CARRIED = 14,  /* a time in an added second in D, E or H */
+    DUSKVEYRA_INVALID_KIND = 15         /* kind of day above 2, or in A, B and G a time past that day's end */
+};
+
+/* The kinds of a day. In D, E and H the frames go on as usual on a day of every kind. */
+enum duskveyra_kind {
+    DUSKVEYRA_USUAL_DAY = 0,    /* 86,400 seconds */
+    DUSKVEYRA_SECOND_ADDED = 1, /* 86,401: 23:59:60 follows 23:59:59 */
+    DUSKVEYRA_SECOND_TAKEN = 2  /* 86,399: the next day follows 23:59:58 */
 };
 
 /* The longest frame, in bytes. */
@@ -64,7 +75,7 @@ typedef struct duskveyra_reader {
 } duskveyra_reader;
 
 /* Writes a time and a control word as the symbols of one frame; every byte of the frame is set.
- * Refuses with 1; 2; 9; 3 where frame_length is not the format's number of elements; in this order. */
+ * Refuses with 1; 2; 14; 9; 3 where frame_length is not the format's number of elements; in this order. */
 uint8_t duskveyra_write(uint8_t letter, uint8_t expression, uint16_t day, uint32_t hundredths, uint64_t control,
                         uint8_t *frame, size_t frame_length);
 
@@ -75,12 +86,13 @@ uint8_t duskveyra_read(uint8_t letter, uint8_t expression, const uint8_t *frame,
                        uint32_t *hundredths, uint64_t *control, size_t *index);
 
 /* The time of the frame after the one with this time, in a year of year_length days: sets *next_day and
- * *next_hundredths.
- * Refuses with 1; 2; 11; in this order, and then leaves both. */
+ * *next_hundredths. The kind is that of the given time's day.
+ * Refuses with 1; 2; 14; 11; 15; in this order, and then leaves both. */
 uint8_t duskveyra_step(uint8_t letter, uint8_t expression, uint16_t day, uint32_t hundredths, uint16_t year_length,
-                       uint16_t *next_day, uint32_t *next_hundredths);
+                       uint8_t kind, uint16_t *next_day, uint32_t *next_hundredths);
 
-/* The first time less the second, within one year: sets *difference to signed hundredths of a second.
+/* The first time less the second, within one year: sets *difference to signed hundredths of a second. A day counts
+ * 8,640,000 of them, whatever its kind.
  * Refuses with 2 where a day or hundredths are out of range, and then leaves it. */
 uint8_t duskveyra_difference(uint16_t first_day, uint32_t first_hundredths, uint16_t second_day,
                              uint32_t second_hundredths, int64_t *difference);
@@ -91,7 +103,8 @@ uint8_t duskveyra_fresh(uint8_t letter, uint8_t expression, duskveyra_reader *re
 
 /* Feeds one symbol: changes *reader, and sets *reported to 0 where the symbol brought nothing, or to 1 where it brought
  * a report. With a report, and only then, it sets *day, *hundredths and *control: the symbol ended the second of two
- * frames behind a mark, the second's time next after the first's, and these are the second's.
+ * frames behind a mark, the second's time next after the first's for some year length and some kind of day, and these
+ * are the second's.
  * Refuses with 13; 4; in this order, and then feeds nothing and leaves all. A reader made by duskveyra_fresh and changed
  * by feeding alone never meets 13. Of a reader with other words that passes 13, what is reported is not promised. */
 uint8_t duskveyra_feed(duskveyra_reader *reader, uint8_t symbol, uint8_t *reported, uint16_t *day,

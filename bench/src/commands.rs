@@ -143,13 +143,15 @@ pub fn plain_timeread() -> io::Result<()> {
             if let Ok(Some((time, control))) = reader.feed(symbol) {
                 reports += 1;
                 let c = time.hundredths;
+                // The added second is the 61st of the day's last minute.
+                let minute = (c / 6_000).min(1_439);
                 writeln!(
                     out,
                     "{elements} {:03} {:02}:{:02}:{:02}.{:02} {control:012x}",
                     time.day,
-                    c / 360_000,
-                    c / 6_000 % 60,
-                    c / 100 % 60,
+                    minute / 60,
+                    minute % 60,
+                    c / 100 - 60 * minute,
                     c % 100
                 )?;
             }

@@ -119,7 +119,7 @@ fn stream(format: Format, length: usize) -> Vec<u8> {
     for frame in out.chunks_exact_mut(n) {
         let control = random(&mut state) & ((1 << bits) - 1);
         plain::write(format, time, control, frame).expect("a time and control word");
-        time = plain::step(format, time, 365).expect("a time on the format");
+        time = plain::step(format, time, 365, plain::USUAL_DAY).expect("a time on the format");
     }
     out.truncate(length);
     out

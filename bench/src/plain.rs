@@ -1,6 +1,8 @@
 //! The plain Rust side of the benchmark: the crate `reference`, with the reader's answer as the binding gives it.
 
-pub use reference::{classify, classify_list, read, scan, step, write, Format, Refusal, Time};
+pub use reference::{
+    classify, classify_list, next_after, read, scan, step, write, Format, Refusal, Time, USUAL_DAY,
+};
 
 pub struct Reader(reference::Reader);
 

@@ -1,7 +1,7 @@
 //! Write, Read and the stream reader in Rust written for speed, for the formats B0, G1 and H1 of the benchmark.
 //! Digits move four elements at a time, and a frame is judged without a branch for each element.
 
-use crate::plain::{step, Format, Refusal, Time};
+use crate::plain::{next_after, Format, Refusal, Time};
 
 struct Layout {
     n: usize,
@@ -11,6 +11,8 @@ struct Layout {
     /// Starts of the ranges of nine control bits.
     control: &'static [usize],
     has_binary_seconds: bool,
+    /// Whether 23:59:60 is carried.
+    has_leap_second: bool,
     /// The frame of all zeros, and the lowest and highest symbol that each element takes.
     low: [u8; 100],
     high: [u8; 100],
@@ -25,6 +27,7 @@ const fn build(
     digits: [usize; 11],
     control: &'static [usize],
     has_binary_seconds: bool,
+    has_leap_second: bool,
 ) -> Layout {
     let (mut low, mut high) = ([0; 100], [0; 100]);
     let mut i = 0;
@@ -60,6 +63,7 @@ const fn build(
         digits,
         control,
         has_binary_seconds,
+        has_leap_second,
         low,
         high,
     }
@@ -71,6 +75,7 @@ static B0: Layout = build(
     [1, 6, 10, 15, 20, 25, 30, 35, 40, NONE, NONE],
     &[50, 60, 70],
     true,
+    true,
 );
 static G1: Layout = build(
     100,
@@ -78,12 +83,14 @@ static G1: Layout = build(
     [1, 6, 10, 15, 20, 25, 30, 35, 40, 45, 50],
     &[60, 70, 80, 90],
     false,
+    true,
 );
 static H1: Layout = build(
     60,
     6_000,
     [NONE, NONE, 10, 15, 20, 25, 30, 35, 40, NONE, NONE],
     &[50],
+    false,
     false,
 );
 
@@ -111,6 +118,9 @@ pub fn write(format: Format, time: Time, control: u64, frame: &mut [u8]) -> Resu
     if !time.in_range() || time.hundredths % layout.interval != 0 {
         return Err(Refusal::Time);
     }
+    if time.in_added_second() && !layout.has_leap_second {
+        return Err(Refusal::AddedSecond);
+    }
     if control >> (9 * layout.control.len()) != 0 {
         return Err(Refusal::Control);
     }
@@ -120,8 +130,10 @@ pub fn write(format: Format, time: Time, control: u64, frame: &mut [u8]) -> Resu
     frame.copy_from_slice(&layout.low[..layout.n]);
     let (c, day) = (time.hundredths, u32::from(time.day));
     let second_of_day = c / 100;
-    let (minute, hour) = (second_of_day / 60 % 60, second_of_day / 3600);
-    let second = second_of_day % 60;
+    // The added second is the 61st of the day's last minute.
+    let minute_of_day = (second_of_day / 60).min(1_439);
+    let (minute, hour) = (minute_of_day % 60, minute_of_day / 60);
+    let second = second_of_day - 60 * minute_of_day;
     let values = [
         second % 10,
         second / 10,
@@ -199,10 +211,12 @@ fn decode(layout: &Layout, frame: &[u8]) -> Result<(Time, u64), Refusal> {
     let [s, ss, m, mm, h, hh, d, dd, ddd, tenths, hundredths] = values;
     let (second, minute, hour) = (10 * ss + s, 10 * mm + m, 10 * hh + h);
     let day = 100 * ddd + 10 * dd + d;
-    if hour > 23 || minute > 59 || second > 59 || day == 0 || day > 366 {
+    let minute_of_day = hour * 60 + minute;
+    let last = 59 + u32::from(layout.has_leap_second && minute_of_day == 1_439);
+    if hour > 23 || minute > 59 || second > last || day == 0 || day > 366 {
         return Err(Refusal::Digit);
     }
-    let second_of_day = (hour * 60 + minute) * 60 + second;
+    let second_of_day = minute_of_day * 60 + second;
     let bits = |start: usize, width: usize| {
         frame[start..start + width]
             .iter()
@@ -272,9 +286,6 @@ impl Reader {
         }
         let (first, _) = decode(self.layout, &window[1..=n]).ok()?;
         let (second, control) = decode(self.layout, &window[n + 1..]).ok()?;
-        let follows = [365, 366]
-            .into_iter()
-            .any(|length| step(self.format, first, length) == Ok(second));
-        follows.then_some((second, control))
+        next_after(self.format, first, second).then_some((second, control))
     }
 }

@@ -63,11 +63,21 @@ fn any_format(random: &mut Random) -> Format {
 /// Mostly a time on the format, else one near the borders, beside the grid or anywhere.
 fn any_time(random: &mut Random, format: Format) -> Time {
     let mut at = time(random, format);
-    match random.below(10) {
+    match random.below(11) {
         0 => at.day = random.pick(&[0, 1, 365, 366, 367, 511, 512, 65535]),
         1 => {
-            at.hundredths =
-                random.pick(&[0, 1, 8_639_999, 8_640_000, 8_640_001, 16_777_216, u32::MAX])
+            at.hundredths = random.pick(&[
+                0,
+                1,
+                8_639_900,
+                8_639_999,
+                8_640_000,
+                8_640_001,
+                8_640_099,
+                8_640_100,
+                16_777_216,
+                u32::MAX,
+            ])
         }
         2 => {
             at.hundredths = at
@@ -76,7 +86,8 @@ fn any_time(random: &mut Random, format: Format) -> Time {
                 .wrapping_sub(1)
         }
         3 => at.hundredths = random.below(9_000_000) as u32,
-        4 => {
+        4 => at.hundredths = 8_639_890 + random.below(220) as u32,
+        5 => {
             at = Time {
                 day: random.next() as u16,
                 hundredths: random.next() as u32,
@@ -163,9 +174,19 @@ fn any_frame(random: &mut Random, format: Format) -> Vec<u8> {
     symbols
 }
 
-/// Puts digits just below and above their limits: seconds and minutes about 60, hours about 24, days about 0 and 366.
+/// Puts digits just below and above their limits: seconds and minutes about 60, hours about 24, days about 0 and 366;
+/// or about 23:59:60, with the straight binary seconds as they were.
 fn odd_digits(random: &mut Random, symbols: &mut [u8]) {
     let units = random.below(16) as u8;
+    if random.once_in(6) {
+        let second = [random.pick(&[0, 0, 0, 1, 9]), random.pick(&[5, 6, 6, 6, 7])];
+        let minute = [random.pick(&[9, 9, 9, 8]), random.pick(&[5, 5, 5, 4])];
+        let hour = [random.pick(&[3, 3, 3, 2]), random.pick(&[2, 2, 2, 1])];
+        put_digits(symbols, &[(1, 4), (6, 3)], &second);
+        put_digits(symbols, &[(10, 4), (15, 3)], &minute);
+        put_digits(symbols, &[(20, 4), (25, 2)], &hour);
+        return;
+    }
     let (fields, value): (&[(usize, usize)], [u8; 3]) = match random.below(6) {
         0 => (&[(1, 4), (6, 3)], [units, 5 + random.below(3) as u8, 0]),
         1 => (&[(10, 4), (15, 3)], [units, 5 + random.below(3) as u8, 0]),
@@ -180,7 +201,12 @@ fn odd_digits(random: &mut Random, symbols: &mut [u8]) {
         ),
         _ => (&[(45, 4), (50, 4)], [8 + units % 8, 8 + units / 2, 0]),
     };
-    for (&(start, width), &digit) in fields.iter().zip(&value) {
+    put_digits(symbols, fields, &value);
+}
+
+/// Puts each digit at its start and width, lowest weight first.
+fn put_digits(symbols: &mut [u8], fields: &[(usize, usize)], digits: &[u8]) {
+    for (&(start, width), &digit) in fields.iter().zip(digits) {
         for bit in 0..width {
             symbols[start + bit] = digit >> bit & 1;
         }
@@ -209,10 +235,15 @@ fn step(random: &mut Random) -> Result<(), String> {
         1 => random.next() as u16,
         _ => 365 + random.below(2) as u16,
     };
-    let answer = duskveyra::step(library_format(format), library_time(at), length);
-    let expected = reference::step(format, at, length);
+    let kind = match random.below(8) {
+        0 => random.pick(&[3, 4, 128, 255]),
+        1 => random.next() as u8,
+        _ => random.below(3) as u8,
+    };
+    let answer = duskveyra::step(library_format(format), library_time(at), length, kind);
+    let expected = reference::step(format, at, length, kind);
     agree(
-        || format!("step {format:?} {at:?} year length {length}"),
+        || format!("step {format:?} {at:?} year length {length} kind {kind}"),
         answer
             .map(|next| (next.day, next.hundredths))
             .map_err(refused),

@@ -29,6 +29,8 @@ struct Counts {
     symbols: u64,
     calls: u64,
     reports: u64,
+    /// Reports of 23:59:60.
+    added: u64,
     refused: u64,
 }
 
@@ -150,7 +152,10 @@ fn run_stream(random: &mut Random, counts: &mut Counts) -> Result<(), String> {
             plain.place() as u64,
         )?;
         match expected {
-            Ok(Some(_)) => counts.reports += 1,
+            Ok(Some((_, hundredths, _))) => {
+                counts.reports += 1;
+                counts.added += u64::from(hundredths >= 8_640_000);
+            }
             Ok(None) => {}
             Err(_) => {
                 counts.refused += 1;
@@ -253,8 +258,8 @@ fn main() -> ExitCode {
         }
     }
     println!(
-        "{number} streams, {} reports, {} symbols above 3",
-        counts.reports, counts.refused
+        "{number} streams, {} reports, {} of them in an added second, {} symbols above 3",
+        counts.reports, counts.added, counts.refused
     );
     println!(
         "{} symbols, {} calls, 0 differences (seed {seed})",

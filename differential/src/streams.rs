@@ -2,7 +2,7 @@
 //! Frames are written by `reference`, never by the library.
 
 use crate::random::Random;
-use reference::{step, write, Format, Time, MARK, SPOILED};
+use reference::{step, write, Format, Time, MARK, SECOND_ADDED, SECOND_TAKEN, SPOILED, USUAL_DAY};
 
 pub const FORMATS: [(u8, u8); 16] = [
     (b'A', 0),
@@ -40,9 +40,19 @@ pub fn format_of((letter, expression): (u8, u8)) -> Format {
     Format { letter, expression }
 }
 
+/// Where a day of that kind ends; only A, B and G carry a second that is added or taken.
+fn day_end(format: Format, kind: u8) -> u32 {
+    match (format.letter, kind) {
+        (b'A' | b'B' | b'G', SECOND_ADDED) => 8_640_100,
+        (b'A' | b'B' | b'G', SECOND_TAKEN) => 8_639_900,
+        _ => 8_640_000,
+    }
+}
+
 pub fn time(random: &mut Random, format: Format) -> Time {
     let (_, interval, _) = table(format);
-    let frames = u64::from(8_640_000 / interval);
+    let end = day_end(format, random.below(3) as u8);
+    let frames = u64::from(end / interval);
     let from_midnight = random.below(frames.min(5));
     let frame = match random.below(4) {
         0 => from_midnight,
@@ -78,7 +88,7 @@ pub fn frame(format: Format, time: Time, control: u64) -> Vec<u8> {
     frame
 }
 
-/// Frames in succession; the year's length is another at each step.
+/// Frames in succession; the year's length and the kind of the day are others at each step.
 fn frames(random: &mut Random, format: Format, count: usize) -> Vec<u8> {
     let mut at = time(random, format);
     let mut out = Vec::new();
@@ -92,9 +102,34 @@ fn frames(random: &mut Random, format: Format, count: usize) -> Vec<u8> {
 
 fn next(random: &mut Random, format: Format, at: Time) -> Time {
     let length = 365 + random.below(2) as u16;
-    step(format, at, length)
-        .or_else(|_| step(format, at, 366))
+    let kind = random.below(3) as u8;
+    // A day of 86,401 seconds in a year of 366 days has every time.
+    step(format, at, length, kind)
+        .or_else(|_| step(format, at, 366, SECOND_ADDED))
         .expect("a time on the format")
+}
+
+/// Frames over the end of a day of any kind, or into its added second, with one element replaced or none.
+fn over_day_end(random: &mut Random, format: Format, count: usize) -> Vec<u8> {
+    let (_, interval, _) = table(format);
+    let kind = random.below(3) as u8;
+    let ends = [day_end(format, kind), 8_640_000.min(day_end(format, kind))];
+    let day = random.pick(&[1, 59, 181, 364, 365, 366]);
+    let length = 365 + u16::from(day == 366 || random.once_in(2));
+    let mut at = Time {
+        day,
+        hundredths: random.pick(&ends) - (1 + random.below(4) as u32) * interval,
+    };
+    let mut out = run(MARK, 1);
+    for _ in 0..count {
+        let word = control(random, format);
+        out.extend(frame(format, at, word));
+        let today = if at.day == day { kind } else { USUAL_DAY };
+        at = step(format, at, length, today).expect("a time on a day of the kind");
+    }
+    let index = random.index(out.len());
+    out[index] = random.below(4) as u8;
+    out
 }
 
 fn run(symbol: u8, count: usize) -> Vec<u8> {
@@ -195,7 +230,7 @@ const DAMAGE: [(u64, u64); 5] = [(1000, 0), (60, 0), (300, 1), (300, 2), (200, 3
 /// One piece of a stream.
 fn piece(random: &mut Random, format: Format) -> Vec<u8> {
     let count = 3 + random.index(12);
-    match random.below(18) {
+    match random.below(21) {
         0..=2 => frames(random, format, count),
         kind @ 3..=7 => {
             let symbols = frames(random, format, count);
@@ -230,6 +265,7 @@ fn piece(random: &mut Random, format: Format) -> Vec<u8> {
                 })
                 .collect()
         }
+        17..=19 => over_day_end(random, format, count),
         _ => {
             let mut out = run(MARK, 1);
             for _ in 0..3 {

@@ -124,7 +124,7 @@ fn frames(f: Format, year: impl Fn(u64) -> u16) -> Vec<u8> {
         let mut frame = vec![7; size(f)];
         write(f, t, (j * 12345) % (1 << bits), &mut frame).unwrap();
         out.extend(frame);
-        if let Ok(u) = step(f, t, year(j)) {
+        if let Ok(u) = step(f, t, year(j), 0) {
             t = u;
         }
     }

@@ -1,7 +1,7 @@
 //! Prints what `timewrite` must print for well-formed arguments that are within their types.
-use reference::{step, write, Format, Time};
+use reference::{step, write, Format, Refusal, Time, USUAL_DAY};
 
-fn line(format: Format, time: Time, control: u64) -> String {
+fn line(format: Format, time: Time, control: u64) -> Result<String, Refusal> {
     let mut frame = vec![
         0;
         if b"DH".contains(&format.letter) {
@@ -10,12 +10,19 @@ fn line(format: Format, time: Time, control: u64) -> String {
             100
         }
     ];
-    write(format, time, control, &mut frame).unwrap();
+    write(format, time, control, &mut frame)?;
     let groups = frame.chunks(10).map(|group| {
         let characters = group.iter().map(|&symbol| b"01P-"[usize::from(symbol)]);
         String::from_utf8(characters.collect()).unwrap()
     });
-    groups.collect::<Vec<_>>().join(" ")
+    Ok(groups.collect::<Vec<_>>().join(" "))
+}
+
+/// Write's checks of the first frame, then Step's of its time.
+fn begin(format: Format, time: Time, control: u64, year: u16, kind: u8) -> Result<(), Refusal> {
+    line(format, time, control)?;
+    step(format, time, year, kind)?;
+    Ok(())
 }
 
 fn main() {
@@ -34,9 +41,21 @@ fn main() {
     let control = arguments
         .get(5)
         .map_or(0, |word| u64::from_str_radix(word, 16).unwrap());
+    // The kind of the day on which the recording starts; every later day is usual.
+    let mut kind = arguments
+        .get(6)
+        .map_or(USUAL_DAY, |kind| kind.parse().unwrap());
+    if let Err(refusal) = begin(format, time, control, year, kind) {
+        println!("refused {}", refusal.number());
+        return;
+    }
     println!("{}", arguments[0]);
     for _ in 0..frames {
-        println!("{}", line(format, time, control));
-        time = step(format, time, year).unwrap();
+        println!("{}", line(format, time, control).unwrap());
+        let next = step(format, time, year, kind).unwrap();
+        if next.day != time.day {
+            kind = USUAL_DAY;
+        }
+        time = next;
     }
 }

@@ -1,32 +1,51 @@
 //! Stepping and comparing times.
 
-use crate::formats::{Format, Time};
+use crate::formats::{Format, Time, SECOND_ADDED, SECOND_TAKEN, USUAL_DAY};
 use crate::layout::Layout;
 use crate::refusal::Refusal;
 
-/// A time in range that lies on the format, or refusal 2.
+/// A time in range that lies on the format, or refusal 2, and in an added
+/// second only where the format carries it, or refusal 14.
 pub(crate) fn check_on_format(layout: &Layout, time: Time) -> Result<(), Refusal> {
-    if time.in_range() && time.hundredths % layout.interval == 0 {
-        Ok(())
-    } else {
+    if !time.in_range() || time.hundredths % layout.interval != 0 {
         Err(Refusal::Time)
+    } else if time.in_added_second() && !layout.leap_second {
+        Err(Refusal::AddedSecond)
+    } else {
+        Ok(())
     }
 }
 
-/// The time one frame later in a year of 365 or 366 days.
-pub fn step(format: Format, time: Time, year_length: u16) -> Result<Time, Refusal> {
+/// The time one frame later in a year of 365 or 366 days; the kind is that of
+/// the given time's day.
+pub fn step(format: Format, time: Time, year_length: u16, kind: u8) -> Result<Time, Refusal> {
     let layout = Layout::of(format)?;
     check_on_format(layout, time)?;
-    advance(layout, time, year_length)
+    advance(layout, time, year_length, kind)
+}
+
+/// The hundredths of a day of that kind as the format counts them, or refusal
+/// 15.
+fn day_length(layout: &Layout, kind: u8) -> Result<u32, Refusal> {
+    match kind {
+        SECOND_ADDED if layout.leap_second => Ok(Time::HUNDREDTHS_PER_DAY + 100),
+        SECOND_TAKEN if layout.leap_second => Ok(Time::HUNDREDTHS_PER_DAY - 100),
+        USUAL_DAY | SECOND_ADDED | SECOND_TAKEN => Ok(Time::HUNDREDTHS_PER_DAY),
+        _ => Err(Refusal::DayKind),
+    }
 }
 
 /// `step` for a time already known to lie on the format.
-fn advance(layout: &Layout, time: Time, year_length: u16) -> Result<Time, Refusal> {
+fn advance(layout: &Layout, time: Time, year_length: u16, kind: u8) -> Result<Time, Refusal> {
     if !matches!(year_length, 365 | 366) || time.day > year_length {
         return Err(Refusal::YearLength);
     }
+    let day_length = day_length(layout, kind)?;
+    if time.hundredths >= day_length {
+        return Err(Refusal::DayKind);
+    }
     let hundredths = time.hundredths + layout.interval;
-    Ok(if hundredths < Time::HUNDREDTHS_PER_DAY {
+    Ok(if hundredths < day_length {
         Time { hundredths, ..time }
     } else if time.day < year_length {
         Time {
@@ -41,7 +60,8 @@ fn advance(layout: &Layout, time: Time, year_length: u16) -> Result<Time, Refusa
     })
 }
 
-/// Whether `second` is one frame after `first` in a year of either length.
+/// Whether `second` is one frame after `first` in a year of either length and
+/// a day of some kind.
 /// Times that do not lie on the format are never next to another.
 pub fn next_after(format: Format, first: Time, second: Time) -> bool {
     match Layout::of(format) {
@@ -52,12 +72,15 @@ pub fn next_after(format: Format, first: Time, second: Time) -> bool {
 
 /// `next_after` for a first time already known to lie on the format.
 pub(crate) fn follows(layout: &Layout, first: Time, second: Time) -> bool {
-    [365, 366]
-        .into_iter()
-        .any(|length| advance(layout, first, length) == Ok(second))
+    [365, 366].into_iter().any(|length| {
+        [USUAL_DAY, SECOND_ADDED, SECOND_TAKEN]
+            .into_iter()
+            .any(|kind| advance(layout, first, length, kind) == Ok(second))
+    })
 }
 
-/// `first` less `second` within one year, in hundredths of a second.
+/// `first` less `second` within one year, in hundredths of a second. Every day
+/// counts as a usual one.
 pub fn difference(first: Time, second: Time) -> Result<i64, Refusal> {
     if !first.in_range() || !second.in_range() {
         return Err(Refusal::Time);

@@ -9,6 +9,13 @@ pub const MARK: u8 = 2;
 /// Symbol of an element that could not be told.
 pub const SPOILED: u8 = 3;
 
+/// Kind of a day with 86,400 seconds.
+pub const USUAL_DAY: u8 = 0;
+/// Kind of a day with a second added at its end, 23:59:60.
+pub const SECOND_ADDED: u8 = 1;
+/// Kind of a day without its last second, 23:59:59.
+pub const SECOND_TAKEN: u8 = 2;
+
 /// A rate letter (capital ASCII) and a coded expression: 0 = BCD, CF, SBS;
 /// 1 = BCD, CF; 2 = BCD; 3 = BCD, SBS.
 #[derive(Clone, Copy, Debug, PartialEq, Eq, Hash)]
@@ -17,7 +24,8 @@ pub struct Format {
     pub expression: u8,
 }
 
-/// A day of year and the hundredths of a second since midnight.
+/// A day of year and the hundredths of a second since midnight; the added
+/// second of a day follows its 86,400 usual ones.
 #[derive(Clone, Copy, Debug, PartialEq, Eq, Hash)]
 pub struct Time {
     pub day: u16,
@@ -27,9 +35,27 @@ pub struct Time {
 impl Time {
     pub const LAST_DAY: u16 = 366;
     pub const HUNDREDTHS_PER_DAY: u32 = 8_640_000;
+    /// The last hundredth of an added second.
+    pub const LAST_HUNDREDTH: u32 = 8_640_099;
 
-    /// Day 1 to 366 and hundredths below one day.
+    /// Day 1 to 366 and hundredths up to the end of an added second.
     pub fn in_range(self) -> bool {
-        (1..=Self::LAST_DAY).contains(&self.day) && self.hundredths < Self::HUNDREDTHS_PER_DAY
+        (1..=Self::LAST_DAY).contains(&self.day) && self.hundredths <= Self::LAST_HUNDREDTH
+    }
+
+    /// Whether the time lies in an added second.
+    pub fn in_added_second(self) -> bool {
+        self.hundredths >= Self::HUNDREDTHS_PER_DAY
+    }
+
+    /// Hours, minutes and seconds; an added second is the 61st of 23:59.
+    pub(crate) fn clock(self) -> (u32, u32, u32) {
+        let second_of_day = self.hundredths / 100;
+        let minute_of_day = (second_of_day / 60).min(24 * 60 - 1);
+        (
+            minute_of_day / 60,
+            minute_of_day % 60,
+            second_of_day - 60 * minute_of_day,
+        )
     }
 }

@@ -6,8 +6,6 @@ use crate::layout::{Element, Field, Layout};
 use crate::refusal::Refusal;
 
 const HUNDREDTHS_PER_SECOND: u32 = 100;
-const HUNDREDTHS_PER_MINUTE: u32 = 60 * HUNDREDTHS_PER_SECOND;
-const HUNDREDTHS_PER_HOUR: u32 = 60 * HUNDREDTHS_PER_MINUTE;
 
 /// Writes the frame of a time and control word. Every byte of `frame` is set;
 /// a refusal leaves it untouched.
@@ -22,11 +20,12 @@ pub fn write(format: Format, time: Time, control: u64, frame: &mut [u8]) -> Resu
     }
 
     let c = time.hundredths;
+    let (hours, minutes, seconds) = time.clock();
     frame.copy_from_slice(&layout.blank[..layout.elements]);
     put_decimal(frame, &layout.fraction, c % HUNDREDTHS_PER_SECOND);
-    put_decimal(frame, &layout.seconds, c / HUNDREDTHS_PER_SECOND % 60);
-    put_decimal(frame, &layout.minutes, c / HUNDREDTHS_PER_MINUTE % 60);
-    put_decimal(frame, &layout.hours, c / HUNDREDTHS_PER_HOUR);
+    put_decimal(frame, &layout.seconds, seconds);
+    put_decimal(frame, &layout.minutes, minutes);
+    put_decimal(frame, &layout.hours, hours);
     put_decimal(frame, &layout.days, u32::from(time.day));
     put_word(frame, layout.control, control);
     put_word(
@@ -60,7 +59,18 @@ pub(crate) fn decode(layout: &Layout, frame: &[u8]) -> Result<(Time, u64), Refus
     let minutes = get_decimal(frame, &layout.minutes)?;
     let seconds = get_decimal(frame, &layout.seconds)?;
     let fraction = get_decimal(frame, &layout.fraction)?;
-    if hours > 23 || minutes > 59 || seconds > 59 || day == 0 || day > u32::from(Time::LAST_DAY) {
+    // A 61st second stands at the end of a day alone.
+    let last_second = if layout.leap_second && (hours, minutes) == (23, 59) {
+        60
+    } else {
+        59
+    };
+    if hours > 23
+        || minutes > 59
+        || seconds > last_second
+        || day == 0
+        || day > u32::from(Time::LAST_DAY)
+    {
         return Err(Refusal::Digit);
     }
 

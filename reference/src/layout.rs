@@ -41,6 +41,8 @@ pub struct Layout {
     pub elements: usize,
     /// Frame interval in hundredths of a second, S.
     pub interval: u32,
+    /// Whether a second added to a day or taken from it shows in the format.
+    pub leap_second: bool,
     pub seconds: [Field; 2],
     pub minutes: [Field; 2],
     pub hours: [Field; 2],
@@ -130,6 +132,7 @@ const fn build(letter: u8, expression: u8) -> Layout {
         b'H' => (60, 6_000, CONTROL_D_H),
         _ => panic!("no such letter"),
     };
+    let leap_second = matches!(letter, b'A' | b'B' | b'G');
     let seconds = match letter {
         b'A' | b'B' | b'G' => [SECOND_TENS, SECOND_UNITS],
         b'E' => [SECOND_TENS, ABSENT],
@@ -177,6 +180,7 @@ const fn build(letter: u8, expression: u8) -> Layout {
     Layout {
         elements,
         interval,
+        leap_second,
         seconds,
         minutes,
         hours: HOURS,

@@ -1,5 +1,5 @@
 //! Serial time code after IRIG 200-98: formats A, B, D, E, G and H as
-//! pulse-width elements.
+//! pulse-width elements, with days that are a second longer or shorter.
 //!
 //! A symbol is one byte: 0 (zero or index marker), 1 (one), 2 (mark: position
 //! identifier or reference bit), 3 (spoiled).
@@ -17,7 +17,7 @@ mod stream;
 mod timeread;
 
 pub use clock::{difference, next_after, step};
-pub use formats::{Format, Time, MARK, ONE, SPOILED, ZERO};
+pub use formats::{Format, Time, MARK, ONE, SECOND_ADDED, SECOND_TAKEN, SPOILED, USUAL_DAY, ZERO};
 pub use frame::{read, write};
 pub use pulse::{classify, classify_and_feed, classify_list};
 pub use refusal::Refusal;

@@ -30,6 +30,10 @@ pub enum Refusal {
     /// 13: reader out of range. A [`Reader`](crate::Reader) keeps its fields
     /// to itself, so none made with this crate is ever refused so.
     Reader,
+    /// 14: added second in a format that does not carry it.
+    AddedSecond,
+    /// 15: kind of day above 2, or a time past the end of a day of that kind.
+    DayKind,
 }
 
 impl Refusal {
@@ -48,6 +52,8 @@ impl Refusal {
             Refusal::YearLength => 11,
             Refusal::Start => 12,
             Refusal::Reader => 13,
+            Refusal::AddedSecond => 14,
+            Refusal::DayKind => 15,
         }
     }
 

@@ -50,9 +50,8 @@ fn listen(input: &[u8], out: &mut Vec<u8>) -> Result<(u64, u64), Refusal> {
 }
 
 fn print_report(out: &mut Vec<u8>, element: u64, time: Time, control: u64) {
-    let c = time.hundredths;
-    let (hours, minutes) = (c / 360_000, c / 6_000 % 60);
-    let (seconds, fraction) = (c / 100 % 60, c % 100);
+    let (hours, minutes, seconds) = time.clock();
+    let fraction = time.hundredths % 100;
     writeln!(
         out,
         "{element} {:03} {hours:02}:{minutes:02}:{seconds:02}.{fraction:02} {control:012x}",

@@ -1,9 +1,10 @@
-//! What document 01 itself gives: its examples, the order of its refusals, and
-//! the stream reader held against the plain machine.
+//! What documents 01 and 02 themselves give: the examples, the order of the
+//! refusals, the leap second, and the stream reader held against the plain
+//! machine.
 
 use reference::{
     classify, classify_and_feed, classify_list, difference, next_after, read, scan, step, timeread,
-    write, Answer, Format, Reader, Refusal, Time, MARK,
+    write, Answer, Format, Reader, Refusal, Time, MARK, SECOND_ADDED, SECOND_TAKEN, USUAL_DAY,
 };
 
 const FORMATS: [&str; 16] = [
@@ -40,6 +41,11 @@ fn table(format: Format) -> (usize, u32, u32) {
     (n, s, if format.expression < 2 { bits } else { 0 })
 }
 
+/// Whether the format carries the leap second.
+fn leaps(format: Format) -> bool {
+    b"ABG".contains(&format.letter)
+}
+
 fn frame(format: Format, time: Time, control: u64) -> Vec<u8> {
     let mut frame = vec![0xa5; table(format).0];
     write(format, time, control, &mut frame).expect("a time and control word to write");
@@ -66,10 +72,15 @@ impl Random {
     fn time(&mut self, format: Format) -> Time {
         let s = table(format).1;
         let frames = u64::from(8_640_000 / s);
-        // Half of the times lie close before midnight.
+        // Half of the times lie close before the end of a day of some kind.
+        let end = match self.below(3) {
+            0 if leaps(format) => 8_639_900,
+            1 if leaps(format) => 8_640_100,
+            _ => 8_640_000,
+        };
         let hundredths = match self.below(2) {
             0 => self.below(frames) as u32 * s,
-            _ => 8_640_000 - (1 + self.below(frames.min(4)) as u32) * s,
+            _ => end - (1 + self.below(frames.min(4)) as u32) * s,
         };
         let day = match self.below(4) {
             0 => 365,
@@ -96,7 +107,11 @@ impl Random {
             } else {
                 365 + self.below(2) as u16
             };
-            now = step(format, now, length).expect("a step");
+            // A day with a second added holds every time.
+            let kind = self.below(3) as u8;
+            now = step(format, now, length, kind)
+                .or_else(|_| step(format, now, length, SECOND_ADDED))
+                .expect("a step");
         }
         (elements, times)
     }
@@ -211,10 +226,26 @@ fn order_of_refusals() {
         letter: b'D',
         expression: 0,
     };
-    assert_eq!(step(d0, time(0, 0), 364), Err(Refusal::Format));
-    assert_eq!(step(b0, time(367, 0), 364), Err(Refusal::Time));
-    assert_eq!(step(b0, time(1, 0), 364), Err(Refusal::YearLength));
-    assert_eq!(step(b0, time(366, 0), 365), Err(Refusal::YearLength));
+    assert_eq!(step(d0, time(0, 0), 364, 3), Err(Refusal::Format));
+    assert_eq!(step(b0, time(367, 0), 364, 3), Err(Refusal::Time));
+    assert_eq!(step(b0, time(1, 0), 364, 3), Err(Refusal::YearLength));
+    assert_eq!(step(b0, time(366, 0), 365, 3), Err(Refusal::YearLength));
+    assert_eq!(step(b0, time(366, 0), 366, 3), Err(Refusal::DayKind));
+
+    let d1 = format("D1");
+    let mut lent = [9; 59];
+    let added = time(1, 8_640_000);
+    assert_eq!(step(d0, added, 364, 3), Err(Refusal::Format));
+    assert_eq!(step(d1, time(367, 8_640_000), 364, 3), Err(Refusal::Time));
+    assert_eq!(step(d1, added, 364, 3), Err(Refusal::AddedSecond));
+    assert_eq!(step(d1, time(1, 0), 364, 3), Err(Refusal::YearLength));
+    assert_eq!(step(d1, time(1, 0), 365, 3), Err(Refusal::DayKind));
+    assert_eq!(
+        write(d1, time(0, 8_640_000), 512, &mut lent),
+        Err(Refusal::Time)
+    );
+    assert_eq!(write(d1, added, 512, &mut lent), Err(Refusal::AddedSecond));
+    assert_eq!(lent, [9; 59]);
 
     assert_eq!(scan(d0, &[2; 4], 5), Err(Refusal::Format));
     assert_eq!(scan(b0, &[2; 4], 5), Err(Refusal::Start));
@@ -246,8 +277,8 @@ fn order_of_refusals() {
 fn stepping() {
     let b1 = format("B1");
     let end_of_365 = time(365, 8_639_900);
-    assert_eq!(step(b1, end_of_365, 365), Ok(time(1, 0)));
-    assert_eq!(step(b1, end_of_365, 366), Ok(time(366, 0)));
+    assert_eq!(step(b1, end_of_365, 365, 0), Ok(time(1, 0)));
+    assert_eq!(step(b1, end_of_365, 366, 0), Ok(time(366, 0)));
     assert!(next_after(b1, end_of_365, time(1, 0)));
     assert!(next_after(b1, end_of_365, time(366, 0)));
     assert!(!next_after(b1, end_of_365, time(2, 0)));
@@ -255,6 +286,194 @@ fn stepping() {
     assert!(!next_after(b1, time(366, 8_639_900), time(367, 0)));
     assert!(!next_after(b1, time(364, 8_639_900), time(1, 0)));
     assert!(!next_after(b1, time(1, 50), time(1, 150)));
+}
+
+/// A day of each kind: where it ends, what comes next, and what lies past it.
+#[test]
+fn stepping_by_kind() {
+    for name in FORMATS {
+        let (format, s) = (format(name), table(format(name)).1);
+        let ends = if leaps(format) {
+            [8_640_000, 8_640_100, 8_639_900]
+        } else {
+            [8_640_000; 3]
+        };
+        for (kind, end) in (0..3).zip(ends) {
+            let last = |day| step(format, time(day, end - s), 366, kind);
+            assert_eq!(last(181), Ok(time(182, 0)), "{name} {kind}");
+            assert_eq!(last(366), Ok(time(1, 0)), "{name} {kind}");
+            assert_eq!(
+                step(format, time(181, end - 2 * s), 365, kind),
+                Ok(time(181, end - s)),
+                "{name} {kind}"
+            );
+            if end < 8_640_100 && leaps(format) {
+                let past = step(format, time(181, end), 365, kind);
+                assert_eq!(past, Err(Refusal::DayKind), "{name} {kind}");
+            }
+        }
+        for kind in 3..=255 {
+            let refused = step(format, time(181, 0), 365, kind);
+            assert_eq!(refused, Err(Refusal::DayKind), "{name} {kind}");
+        }
+        let past = step(format, time(181, 8_640_100), 365, SECOND_ADDED);
+        assert_eq!(past, Err(Refusal::Time), "{name}");
+        let added = step(format, time(181, 8_640_000), 365, USUAL_DAY);
+        let expected = if leaps(format) {
+            Refusal::DayKind
+        } else {
+            Refusal::AddedSecond
+        };
+        assert_eq!(added, Err(expected), "{name}");
+    }
+}
+
+/// Up to three times follow one.
+#[test]
+fn next_after_by_kind() {
+    let b1 = format("B1");
+    let follow = |first: Time| -> Vec<(u16, u32)> {
+        let days = [1, 180, 181, 182, 365, 366];
+        let seconds = [0, 100, 8_639_700, 8_639_800, 8_639_900, 8_640_000];
+        days.into_iter()
+            .flat_map(|day| seconds.map(|hundredths| (day, hundredths)))
+            .filter(|&(day, hundredths)| next_after(b1, first, time(day, hundredths)))
+            .collect()
+    };
+    assert_eq!(follow(time(181, 8_639_700)), [(181, 8_639_800)]);
+    assert_eq!(follow(time(181, 8_639_800)), [(181, 8_639_900), (182, 0)]);
+    assert_eq!(follow(time(181, 8_639_900)), [(181, 8_640_000), (182, 0)]);
+    assert_eq!(follow(time(181, 8_640_000)), [(182, 0)]);
+    assert_eq!(
+        follow(time(365, 8_639_800)),
+        [(1, 0), (365, 8_639_900), (366, 0)]
+    );
+    assert_eq!(
+        follow(time(365, 8_639_900)),
+        [(1, 0), (365, 8_640_000), (366, 0)]
+    );
+    assert_eq!(follow(time(365, 8_640_000)), [(1, 0), (366, 0)]);
+    assert_eq!(follow(time(366, 8_640_000)), [(1, 0)]);
+    for name in ["D1", "E2", "H1"] {
+        let (format, s) = (format(name), table(format(name)).1);
+        let last = time(181, 8_640_000 - s);
+        assert!(next_after(format, last, time(182, 0)));
+        assert!(!next_after(format, last, time(181, 8_640_000)));
+        assert!(!next_after(format, time(181, 8_640_000), time(182, 0)));
+        assert!(!next_after(
+            format,
+            time(181, 8_640_000 - 2 * s),
+            time(182, 0)
+        ));
+    }
+}
+
+/// 23:59:60 and straight binary seconds 86,400 in A, B and G.
+#[test]
+fn added_second() {
+    let written = frame(format("B0"), time(1, 8_640_000), 0);
+    // 60 seconds, 59 minutes, 23 hours, day 1, then 128 + 256 + 4,096 + 16,384 + 65,536.
+    assert_eq!(
+        ones(&written),
+        [7, 8, 10, 13, 15, 17, 20, 21, 26, 30, 87, 88, 93, 95, 97]
+    );
+    let written = frame(format("A2"), time(1, 8_640_030), 0);
+    assert_eq!(
+        ones(&written),
+        [7, 8, 10, 13, 15, 17, 20, 21, 26, 30, 45, 46]
+    );
+    let written = frame(format("G2"), time(1, 8_640_012), 0);
+    assert_eq!(
+        ones(&written),
+        [7, 8, 10, 13, 15, 17, 20, 21, 26, 30, 45, 51]
+    );
+
+    for name in FORMATS {
+        let format = format(name);
+        let (n, s, _) = table(format);
+        for hundredths in (8_640_000..8_640_100).step_by(s as usize) {
+            let mut lent = vec![9; n];
+            let answer = write(format, time(366, hundredths), 0, &mut lent);
+            if leaps(format) {
+                assert_eq!(answer, Ok(()));
+                assert_eq!(read(format, &lent), Ok((time(366, hundredths), 0)));
+            } else {
+                assert_eq!(answer, Err(Refusal::AddedSecond));
+                assert_eq!(lent, vec![9; n]);
+            }
+        }
+    }
+}
+
+/// The 61st second stands at 23:59 alone, in A, B and G alone, and the straight
+/// binary seconds must be its own.
+#[test]
+fn added_second_refused() {
+    let with = |name: &str, from: Time, changes: &[(usize, u8)]| {
+        let mut bytes = frame(format(name), from, 0);
+        for &(index, symbol) in changes {
+            bytes[index] = symbol;
+        }
+        read(format(name), &bytes)
+    };
+    // Tens of seconds: 6 is 0, 1, 1 at 6 to 8.
+    let sixty = [(6, 0), (7, 1), (8, 1)];
+    for name in ["A1", "A2", "B1", "B2", "G1", "G2"] {
+        for minute in 0..1_440 {
+            let expected = if minute == 1_439 {
+                Ok((time(9, 8_640_000), 0))
+            } else {
+                Err(Refusal::Digit)
+            };
+            assert_eq!(with(name, time(9, minute * 6_000), &sixty), expected);
+        }
+        // 23:59:61.
+        let sixty_one = [(1, 1), (6, 0), (7, 1), (8, 1)];
+        let answer = with(name, time(9, 8_634_000), &sixty_one);
+        assert_eq!(answer, Err(Refusal::Digit));
+    }
+    for name in ["E1", "E2"] {
+        assert_eq!(with(name, time(9, 8_634_000), &sixty), Err(Refusal::Digit));
+    }
+    for name in ["D1", "D2", "H1", "H2"] {
+        assert_eq!(
+            with(name, time(9, 8_280_000), &sixty),
+            Err(Refusal::Element(7))
+        );
+    }
+    for name in ["A0", "A3", "B0", "B3"] {
+        for (from, seconds) in [
+            (8_640_000, 0_u32),
+            (8_640_000, 86_399),
+            (8_640_000, 86_401),
+            (8_639_900, 86_400),
+            (0, 86_400),
+        ] {
+            let places = (80..89).chain(90..98);
+            let bits = places
+                .enumerate()
+                .map(|(bit, place)| (place, (seconds >> bit & 1) as u8));
+            assert_eq!(
+                with(name, time(9, from), &bits.collect::<Vec<_>>()),
+                Err(Refusal::BinarySeconds)
+            );
+        }
+    }
+}
+
+#[test]
+fn added_second_printed() {
+    let mut input = b"G2\nP".to_vec();
+    for hundredths in [8_640_098, 8_640_099] {
+        let symbols = frame(format("G2"), time(59, hundredths), 0);
+        input.extend(symbols.iter().map(|&symbol| b"01P-"[usize::from(symbol)]));
+    }
+    let mut printed = Vec::new();
+    timeread(&input, &mut printed);
+    assert_eq!(
+        String::from_utf8(printed).unwrap(),
+        "201 059 23:59:60.99 000000000000\nelements 201 reports 1\n"
+    );
 }
 
 #[test]
@@ -268,7 +487,11 @@ fn differences() {
         Ok(3_162_239_999)
     );
     assert_eq!(difference(time(0, 0), later), Err(Refusal::Time));
-    assert_eq!(difference(later, time(1, 8_640_000)), Err(Refusal::Time));
+    assert_eq!(difference(later, time(1, 8_640_100)), Err(Refusal::Time));
+    // A day counts 8,640,000 hundredths, also one with a second added.
+    assert_eq!(difference(later, time(1, 8_640_000)), Ok(0));
+    assert_eq!(difference(time(1, 8_640_099), later), Ok(99));
+    assert_eq!(difference(later, time(1, 8_640_099)), Ok(-99));
 }
 
 #[test]
@@ -375,6 +598,44 @@ fn one_replaced() {
                 if let Answer::Report(time, _) = reader.feed(symbol) {
                     assert_eq!((count + 1) % n, 0);
                     assert_eq!(time, times[count / n]);
+                }
+            }
+        }
+    }
+}
+
+/// Nor does one in or beside an added or a taken second, for any symbol.
+#[test]
+fn one_replaced_in_a_leap_second() {
+    for name in FORMATS.into_iter().filter(|name| leaps(format(name))) {
+        let format = format(name);
+        let (n, s, _) = table(format);
+        for (kind, end) in [(SECOND_ADDED, 8_640_100), (SECOND_TAKEN, 8_639_900)] {
+            for (day, length) in [(181, 365), (365, 365), (365, 366), (366, 366)] {
+                let mut now = time(day, end - 2 * s);
+                let (mut elements, mut times) = (Vec::new(), Vec::new());
+                for _ in 0..4 {
+                    elements.extend(frame(format, now, 0));
+                    times.push(now);
+                    let kind = if now.day == day { kind } else { USUAL_DAY };
+                    now = step(format, now, length, kind).expect("a step");
+                }
+                for index in 0..elements.len() {
+                    for symbol in 0..4 {
+                        let mut spoiled = elements.clone();
+                        spoiled[index] = symbol;
+                        let mut reader = Reader::fresh(format).unwrap();
+                        let mut reports = 0;
+                        for (count, &symbol) in spoiled.iter().enumerate() {
+                            if let Answer::Report(time, _) = reader.feed(symbol) {
+                                assert_eq!((count + 1) % n, 0);
+                                assert_eq!(time, times[count / n]);
+                                reports += 1;
+                            }
+                        }
+                        let whole = symbol == elements[index];
+                        assert!(!whole || reports == 2, "{name} {kind} {day}");
+                    }
                 }
             }
         }

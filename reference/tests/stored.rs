@@ -1,10 +1,11 @@
-//! The stored cases of `crates/calls` against this crate: every line of each data file has the answer that stands in
-//! stdout under the file's name.
+//! The stored cases of `crates/calls` and `crates/recordings` against this crate: every line of each data file of calls,
+//! and every recording, has the answer that stands in stdout under the file's name.
 
 use reference::*;
-use std::fs::read_to_string;
+use std::fs::{self, read_to_string};
 
 const CALLS: &str = concat!(env!("CARGO_MANIFEST_DIR"), "/../crates/calls");
+const RECORDINGS: &str = concat!(env!("CARGO_MANIFEST_DIR"), "/../crates/recordings");
 
 fn elements(word: &str) -> Vec<u8> {
     let mut elements = vec![];
@@ -58,8 +59,10 @@ fn answer(line: &str) -> String {
     };
     let number = |i: usize| words[i].parse().unwrap();
     let said = match words[0] {
-        "step" => step(format(), time(3), words[5].parse().unwrap())
-            .map(|t| format!("{} {}", t.day, t.hundredths)),
+        "step" => {
+            let (year, kind) = (words[5].parse().unwrap(), words[6].parse().unwrap());
+            step(format(), time(3), year, kind).map(|t| format!("{} {}", t.day, t.hundredths))
+        }
         "write" => {
             let mut frame = vec![7u8; words[6].parse().unwrap()];
             let control = u64::from_str_radix(words[5], 16).unwrap();
@@ -94,4 +97,19 @@ fn stored_calls() {
         }
     }
     assert_eq!(expected, read_to_string(format!("{CALLS}/stdout")).unwrap());
+}
+
+#[test]
+fn stored_recordings() {
+    let mut expected = Vec::new();
+    for name in read_to_string(format!("{RECORDINGS}/args"))
+        .unwrap()
+        .lines()
+    {
+        expected.extend(format!("== {name}\n").bytes());
+        let recording = fs::read(format!("{RECORDINGS}/data/{name}")).unwrap();
+        timeread(&recording, &mut expected);
+    }
+    let stored = read_to_string(format!("{RECORDINGS}/stdout")).unwrap();
+    assert_eq!(String::from_utf8(expected).unwrap(), stored);
 }

@@ -1,5 +1,5 @@
 /* Every function of duskveyra.h from C: its answers, each refusal it can give, their order, and the memory it must leave.
- * What is expected stands in document 01: its examples, its table of places, its rules. Also compiles as C++. */
+ * What is expected stands in documents 01 and 02: the examples, the table of places, the rules. Also compiles as C++. */
 #include "duskveyra.h"
 
 #include <stdio.h>
@@ -179,6 +179,22 @@ static unsigned control_bits(uint8_t letter, uint8_t expression)
     }
 }
 
+/* Whether a second that is added or taken shows in the letter's frames. */
+static int leaps(uint8_t letter)
+{
+    return letter == 'A' || letter == 'B' || letter == 'G';
+}
+
+/* Where a day of that kind ends in the letter's frames. */
+static uint32_t day_end(uint8_t letter, unsigned day_kind)
+{
+    if (leaps(letter) && day_kind == DUSKVEYRA_SECOND_ADDED)
+        return 8640100;
+    if (leaps(letter) && day_kind == DUSKVEYRA_SECOND_TAKEN)
+        return 8639900;
+    return 8640000;
+}
+
 static int within(size_t i, size_t first, size_t last)
 {
     return first <= i && i <= last;
@@ -214,7 +230,7 @@ static char kind(uint8_t letter, uint8_t expression, size_t i)
 static uint32_t random_time(uint8_t letter)
 {
     uint32_t interval = interval_of(letter);
-    return (uint32_t)below(8640000 / interval) * interval;
+    return (uint32_t)below(day_end(letter, DUSKVEYRA_SECOND_ADDED) / interval) * interval;
 }
 
 static uint64_t random_control(uint8_t letter, uint8_t expression)
@@ -245,10 +261,11 @@ static uint8_t call_read(uint8_t letter, uint8_t expression, const uint8_t *fram
     return duskveyra_read(letter, expression, frame, length, &got.day, &got.hundredths, &got.control, &got.index);
 }
 
-static uint8_t call_step(uint8_t letter, uint8_t expression, uint16_t day, uint32_t hundredths, uint16_t year_length)
+static uint8_t call_step(uint8_t letter, uint8_t expression, uint16_t day, uint32_t hundredths, uint16_t year_length,
+                         uint8_t day_kind)
 {
     reset();
-    return duskveyra_step(letter, expression, day, hundredths, year_length, &got.day, &got.hundredths);
+    return duskveyra_step(letter, expression, day, hundredths, year_length, day_kind, &got.day, &got.hundredths);
 }
 
 static uint8_t call_scan(uint8_t letter, uint8_t expression, const uint8_t *recording, size_t length, size_t start)
@@ -307,7 +324,7 @@ static void unknown_formats(void)
                 continue;
             CHECK(call_write(l, e, 1, 0, 0, frame, 100) == 1 && all_bytes(frame, 100, FILL));
             CHECK(call_read(l, e, frame, 100) == 1 && same());
-            CHECK(call_step(l, e, 1, 0, 365) == 1 && same());
+            CHECK(call_step(l, e, 1, 0, 365, 0) == 1 && same());
             CHECK(call_scan(l, e, frame, 100, 0) == 1 && same());
         }
     free(frame);
@@ -354,17 +371,17 @@ static void examples(void)
     set_values(366, 0, 0);
     CHECK(same());
 
-    CHECK(call_step('B', 0, 365, 8639900, 365) == 0);
+    CHECK(call_step('B', 0, 365, 8639900, 365, 0) == 0);
     SET(uint16_t, day, 1);
     SET(uint32_t, hundredths, 0);
     CHECK(same());
-    CHECK(call_step('B', 0, 365, 8639900, 366) == 0);
+    CHECK(call_step('B', 0, 365, 8639900, 366, 0) == 0);
     SET(uint16_t, day, 366);
     SET(uint32_t, hundredths, 0);
     CHECK(same());
-    CHECK(call_step('B', 0, 1, 0, 364) == 11 && same());
-    CHECK(call_step('B', 0, 366, 0, 365) == 11 && same());
-    CHECK(call_step('B', 0, 367, 0, 366) == 2 && same());
+    CHECK(call_step('B', 0, 1, 0, 364, 0) == 11 && same());
+    CHECK(call_step('B', 0, 366, 0, 365, 0) == 11 && same());
+    CHECK(call_step('B', 0, 367, 0, 366, 0) == 2 && same());
 
     CHECK(call_difference(2, 0, 1, 8639999) == 0);
     SET(int64_t, difference, 1);
@@ -385,8 +402,15 @@ static void examples(void)
     CHECK(call_difference(1, 0, 0, 0) == 2 && same());
     CHECK(call_difference(367, 0, 1, 0) == 2 && same());
     CHECK(call_difference(1, 0, 65535, 0) == 2 && same());
-    CHECK(call_difference(1, 8640000, 1, 0) == 2 && same());
+    CHECK(call_difference(1, 8640100, 1, 0) == 2 && same());
     CHECK(call_difference(1, 0, 1, UINT32_MAX) == 2 && same());
+    /* A day counts 8,640,000 hundredths, also one with a second added. */
+    CHECK(call_difference(1, 8640099, 2, 0) == 0);
+    SET(int64_t, difference, 99);
+    CHECK(same());
+    CHECK(call_difference(2, 0, 1, 8640000) == 0);
+    SET(int64_t, difference, 0);
+    CHECK(same());
 
     /* The table's examples of the numbers 4 to 8. */
     CHECK(call_write('B', 0, 1, 100, 0, frame, 100) == 0);
@@ -426,9 +450,24 @@ static void orders(void)
         CHECK(answer == number);
         CHECK(number == 0 || all_bytes(frame, 100, FILL));
     }
-    for (bad = 0; bad < 8; bad++) {
-        uint8_t number = bad & 1 ? 1 : bad & 2 ? 2 : bad & 4 ? 11 : 0;
-        CHECK(call_step('B', bad & 1 ? 4 : 1, 1, bad & 2 ? 50 : 0, bad & 4 ? 367 : 366) == number);
+    for (bad = 0; bad < 32; bad++) {
+        uint8_t number = bad & 1 ? 1 : bad & 2 ? 2 : bad & 4 ? 14 : bad & 8 ? 9 : bad & 16 ? 3 : 0;
+        uint8_t answer;
+        memset(frame, FILL, 100);
+        answer = call_write('H', bad & 1 ? 3 : 1, bad & 2 ? 367 : 1, bad & 4 ? 8640000 : 0, bad & 8 ? 512 : 0, frame,
+                            bad & 16 ? 61 : 60);
+        CHECK(answer == number);
+        CHECK(number == 0 || all_bytes(frame, 100, FILL));
+        number = bad & 1 ? 1 : bad & 2 ? 2 : bad & 4 ? 14 : bad & 8 ? 11 : bad & 16 ? 15 : 0;
+        answer = call_step('E', bad & 1 ? 3 : 1, bad & 2 ? 0 : 1, bad & 4 ? 8640000 : 0, bad & 8 ? 367 : 366,
+                           bad & 16 ? 3 : 2);
+        CHECK(answer == number);
+        CHECK(number == 0 || same());
+    }
+    for (bad = 0; bad < 16; bad++) {
+        uint8_t number = bad & 1 ? 1 : bad & 2 ? 2 : bad & 4 ? 11 : bad & 8 ? 15 : 0;
+        uint32_t c = (bad & 2 ? 50 : 0) + (bad & 8 ? 8639900 : 0);
+        CHECK(call_step('B', bad & 1 ? 4 : 1, 1, c, bad & 4 ? 367 : 366, 2) == number);
         CHECK(number == 0 || same());
     }
     for (bad = 0; bad < 64; bad++) {
@@ -505,7 +544,8 @@ static void frames(void)
 
         for (turn = 0; turn < 100; turn++) {
             uint16_t day = turn == 0 ? 366 : (uint16_t)(1 + below(366));
-            uint32_t c = turn == 0 ? 8640000 - interval_of(letter) : random_time(letter);
+            uint32_t last = day_end(letter, turn == 1 ? DUSKVEYRA_SECOND_ADDED : DUSKVEYRA_USUAL_DAY);
+            uint32_t c = turn <= 1 ? last - interval_of(letter) : random_time(letter);
             uint64_t control =
                 turn == 0 && bits > 0 ? (UINT64_C(1) << bits) - 1 : random_control(letter, expression);
             memset(frame, FILL, n);
@@ -533,8 +573,9 @@ static void frames(void)
         memset(again, FILL, n);
         CHECK(call_write(letter, expression, 0, 0, 0, again, n) == 2);
         CHECK(call_write(letter, expression, 65535, 0, 0, again, n) == 2);
-        CHECK(call_write(letter, expression, 1, 8640000, 0, again, n) == 2);
+        CHECK(call_write(letter, expression, 1, 8640100, 0, again, n) == 2);
         CHECK(call_write(letter, expression, 1, UINT32_MAX, 0, again, n) == 2);
+        CHECK(leaps(letter) || call_write(letter, expression, 1, 8640000, 0, again, n) == 14);
         CHECK(interval_of(letter) == 1 || call_write(letter, expression, 1, 1, 0, again, n) == 2);
         CHECK(all_bytes(again, n, FILL));
         /* Other lengths. */
@@ -588,25 +629,184 @@ static void steps(void)
         uint32_t interval = interval_of(letter), last = 8640000 - interval;
         for (year_length = 0; year_length < 1000; year_length++) {
             int taken = year_length == 365 || year_length == 366;
-            CHECK(call_step(letter, expression, 365, 0, (uint16_t)year_length) == (taken ? 0 : 11));
+            CHECK(call_step(letter, expression, 365, 0, (uint16_t)year_length, 0) == (taken ? 0 : 11));
             if (taken) {
                 SET(uint16_t, day, 365);
                 SET(uint32_t, hundredths, interval);
             }
             CHECK(same());
         }
-        CHECK(call_step(letter, expression, 366, last, 366) == 0);
+        CHECK(call_step(letter, expression, 366, last, 366, 0) == 0);
         SET(uint16_t, day, 1);
         SET(uint32_t, hundredths, 0);
         CHECK(same());
-        CHECK(call_step(letter, expression, 59, last, 365) == 0);
+        CHECK(call_step(letter, expression, 59, last, 365, 0) == 0);
         SET(uint16_t, day, 60);
         SET(uint32_t, hundredths, 0);
         CHECK(same());
-        CHECK(call_step(letter, expression, 366, last, 365) == 11 && same());
-        CHECK(call_step(letter, expression, 0, 0, 365) == 2 && same());
-        CHECK(call_step(letter, expression, 1, 8640000, 365) == 2 && same());
-        CHECK(interval == 1 || (call_step(letter, expression, 1, interval - 1, 365) == 2 && same()));
+        CHECK(call_step(letter, expression, 366, last, 365, 0) == 11 && same());
+        CHECK(call_step(letter, expression, 0, 0, 365, 0) == 2 && same());
+        CHECK(call_step(letter, expression, 1, 8640000, 365, 0) == (leaps(letter) ? 15 : 14) && same());
+        CHECK(call_step(letter, expression, 1, 8640100, 365, 1) == 2 && same());
+        CHECK(interval == 1 || (call_step(letter, expression, 1, interval - 1, 365, 0) == 2 && same()));
+    }
+}
+
+/* Step by the rules, without the library: the number, and the next time where it is 0. */
+static uint8_t plain_step(uint8_t letter, uint16_t day, uint32_t c, uint16_t year_length, unsigned day_kind,
+                          uint16_t *next_day, uint32_t *next_c)
+{
+    if (day == 0 || day > 366 || c > 8640099 || c % interval_of(letter) != 0)
+        return 2;
+    if (!leaps(letter) && c >= 8640000)
+        return 14;
+    if ((year_length != 365 && year_length != 366) || day > year_length)
+        return 11;
+    if (day_kind > 2 || c >= day_end(letter, day_kind))
+        return 15;
+    *next_c = c + interval_of(letter);
+    *next_day = day;
+    if (*next_c == day_end(letter, day_kind)) {
+        *next_c = 0;
+        *next_day = day == year_length ? 1 : (uint16_t)(day + 1);
+    }
+    return 0;
+}
+
+/* Days of every kind, at their ends and past them. */
+static void kinds(void)
+{
+    static const uint32_t ends[] = {8639900, 8640000, 8640100};
+    static const uint16_t days[] = {0, 1, 181, 365, 366, 367};
+    int f;
+    size_t i, j;
+    unsigned day_kind, year_length;
+    int by;
+    for (f = 0; f < FORMATS; f++) {
+        uint8_t letter = (uint8_t)letters[f], expression = expressions[f];
+        uint32_t interval = interval_of(letter);
+        for (day_kind = 0; day_kind < 256; day_kind++) {
+            CHECK(call_step(letter, expression, 181, 0, 365, (uint8_t)day_kind) == (day_kind > 2 ? 15 : 0));
+            if (day_kind <= 2) {
+                SET(uint16_t, day, 181);
+                SET(uint32_t, hundredths, interval);
+            }
+            CHECK(same());
+        }
+        for (i = 0; i < 3; i++)
+            for (by = -3; by <= 1; by++)
+                for (j = 0; j < sizeof days / sizeof days[0]; j++)
+                    for (year_length = 364; year_length <= 367; year_length++)
+                        for (day_kind = 0; day_kind < 4; day_kind++) {
+                            uint32_t grid = ends[i] - ends[i] % interval + (uint32_t)(by * (int)interval);
+                            uint32_t beside = ends[i] + (uint32_t)by;
+                            int turn;
+                            for (turn = 0; turn < 2; turn++) {
+                                uint32_t c = turn == 0 ? grid : beside, next_c = 0;
+                                uint16_t next_day = 0, year = (uint16_t)year_length;
+                                uint8_t number = plain_step(letter, days[j], c, year, day_kind, &next_day, &next_c);
+                                CHECK(call_step(letter, expression, days[j], c, year, (uint8_t)day_kind) == number);
+                                if (number == 0) {
+                                    SET(uint16_t, day, next_day);
+                                    SET(uint32_t, hundredths, next_c);
+                                }
+                                CHECK(same());
+                            }
+                        }
+    }
+}
+
+/* Puts a decimal number of two digits at these places, lowest weight first. */
+static void put_two(uint8_t *frame, size_t units, size_t tens, size_t tens_width, unsigned number)
+{
+    size_t i;
+    for (i = 0; i < 4; i++)
+        frame[units + i] = number % 10 >> i & 1;
+    for (i = 0; i < tens_width; i++)
+        frame[tens + i] = number / 10 >> i & 1;
+}
+
+static void put_binary_seconds(uint8_t *frame, uint32_t seconds)
+{
+    size_t i;
+    for (i = 0; i < 9; i++)
+        frame[80 + i] = seconds >> i & 1;
+    for (i = 0; i < 8; i++)
+        frame[90 + i] = seconds >> (9 + i) & 1;
+}
+
+/* 23:59:60: written and read in A, B and G, in no other letter and at no other minute. */
+static void added_second(void)
+{
+    int f;
+    for (f = 0; f < FORMATS; f++) {
+        uint8_t letter = (uint8_t)letters[f], expression = expressions[f];
+        int binary = (letter == 'A' || letter == 'B') && (expression == 0 || expression == 3);
+        size_t n = size_of(letter);
+        uint32_t c, interval = interval_of(letter);
+        unsigned hour, minute, second;
+        uint8_t *frame = bytes(n, FILL), *expected = bytes(n, FILL);
+        if (!leaps(letter)) {
+            CHECK(call_write(letter, expression, 181, 8640000, 0, frame, n) == 14 && all_bytes(frame, n, FILL));
+            CHECK(call_write(letter, expression, 181, 8640000 - interval, 0, frame, n) == 0);
+            if (letter == 'E') {
+                /* 23:59:60 has only the tens. */
+                frame[6] = 0;
+                frame[7] = frame[8] = 1;
+                CHECK(call_read(letter, expression, frame, n) == 7 && same());
+            } else {
+                frame[7] = 1;
+                CHECK(call_read(letter, expression, frame, n) == 6);
+                SET(size_t, index, 7);
+                CHECK(same());
+            }
+            free(frame);
+            free(expected);
+            continue;
+        }
+        for (c = 8640000; c < 8640100; c += interval) {
+            uint64_t control = random_control(letter, expression);
+            /* The frame of 23:59:00 and the same hundredth, with the seconds put in by hand. */
+            CHECK(call_write(letter, expression, 181, c - 6000, control, expected, n) == 0);
+            put_two(expected, 1, 6, 3, 60);
+            if (binary)
+                put_binary_seconds(expected, 86400);
+            memset(frame, FILL, n);
+            CHECK(call_write(letter, expression, 181, c, control, frame, n) == 0);
+            CHECK(memcmp(frame, expected, n) == 0);
+            CHECK(call_read(letter, expression, frame, n) == 0);
+            set_values(181, c, control);
+            CHECK(same());
+        }
+        for (hour = 0; hour < 24; hour++)
+            for (minute = 0; minute < 60; minute++)
+                for (second = 59; second < 63; second++) {
+                    uint32_t seconds = (hour * 60 + minute) * 60 + second;
+                    int good = second == 59 || (second == 60 && hour == 23 && minute == 59);
+                    put_two(frame, 1, 6, 3, second);
+                    put_two(frame, 10, 15, 3, minute);
+                    put_two(frame, 20, 25, 2, hour);
+                    if (binary)
+                        put_binary_seconds(frame, seconds);
+                    CHECK(call_read(letter, expression, frame, n) == (good ? 0 : 7));
+                    if (good)
+                        set_values(181, seconds * 100 + (c - interval) % 100, got.control);
+                    CHECK(same());
+                }
+        if (binary) {
+            static const uint32_t others[] = {0, 60, 86340, 86399, 86401, 131071};
+            size_t i;
+            CHECK(call_write(letter, expression, 181, 8640000, 0, frame, n) == 0);
+            for (i = 0; i < sizeof others / sizeof others[0]; i++) {
+                put_binary_seconds(frame, others[i]);
+                CHECK(call_read(letter, expression, frame, n) == 8 && same());
+            }
+            CHECK(call_write(letter, expression, 182, 0, 0, frame, n) == 0);
+            put_binary_seconds(frame, 86400);
+            CHECK(call_read(letter, expression, frame, n) == 8 && same());
+        }
+        free(frame);
+        free(expected);
     }
 }
 
@@ -745,7 +945,7 @@ static void streams(void)
             control[i] = random_control(letter, expression);
             CHECK(call_write(letter, expression, day[i], c[i], control[i], stream + i * n, n) == 0);
             if (i < 5) {
-                CHECK(call_step(letter, expression, day[i], c[i], f % 2 ? 365 : 366) == 0);
+                CHECK(call_step(letter, expression, day[i], c[i], f % 2 ? 365 : 366, 0) == 0);
                 day[i + 1] = got.day;
                 c[i + 1] = got.hundredths;
             }
@@ -765,6 +965,54 @@ static void streams(void)
         }
         free(stream);
     }
+}
+
+/* Frames over the end of a day of every kind: each is reported, 23:59:60 too. Then every third element is replaced, one
+ * at a time: a time is reported only where a frame ends, and it is that frame's. */
+static void leap_streams(void)
+{
+    int f;
+    unsigned day_kind;
+    for (f = 0; f < FORMATS; f++)
+        for (day_kind = 0; day_kind < 3; day_kind++) {
+            uint8_t letter = (uint8_t)letters[f], expression = expressions[f];
+            size_t n = size_of(letter), i, at;
+            uint16_t day[5], year_length = f % 2 ? 365 : 366;
+            uint32_t c[5];
+            uint8_t *stream = bytes(1 + 5 * n, 2);
+            day[0] = 365;
+            c[0] = day_end(letter, day_kind) - 3 * interval_of(letter);
+            for (i = 0; i < 5; i++) {
+                CHECK(call_write(letter, expression, day[i], c[i], 0, stream + 1 + i * n, n) == 0);
+                if (i < 4) {
+                    uint8_t today = (uint8_t)(day[i] == 365 ? day_kind : 0);
+                    CHECK(call_step(letter, expression, day[i], c[i], year_length, today) == 0);
+                    day[i + 1] = got.day;
+                    c[i + 1] = got.hundredths;
+                }
+            }
+            CHECK(day[2] == 365 && c[2] == day_end(letter, day_kind) - interval_of(letter));
+            CHECK(day[3] == (f % 2 ? 1 : 366) && c[3] == 0);
+            /* The first turn replaces nothing. */
+            for (at = (size_t)f % 3; at <= 5 * n; at += 3) {
+                duskveyra_reader reader;
+                uint8_t kept = stream[at];
+                int whole = at < 3;
+                size_t reports = 0;
+                if (!whole)
+                    stream[at] = (uint8_t)((kept + 1 + below(3)) % 4);
+                CHECK(duskveyra_fresh(letter, expression, &reader) == 0);
+                for (i = 0; i <= 5 * n; i++)
+                    if (feed(&reader, stream[i], 0)) {
+                        reports++;
+                        CHECK(i > 0 && i % n == 0);
+                        CHECK(got.day == day[i / n - 1] && got.hundredths == c[i / n - 1]);
+                    }
+                CHECK(whole ? reports == 4 : reports >= 1);
+                stream[at] = kept;
+            }
+            free(stream);
+        }
 }
 
 static void scans(void)
@@ -915,9 +1163,12 @@ int main(void)
     orders();
     frames();
     steps();
+    kinds();
+    added_second();
     classifier();
     listing();
     streams();
+    leap_streams();
     scans();
     empty();
     any_reader();

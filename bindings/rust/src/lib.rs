@@ -22,6 +22,21 @@
 //! assert_eq!(last, Ok(Some(Report { time, control: 0b101 })));
 //! # Ok::<(), duskveyra::Refusal>(())
 //! ```
+//!
+//! A day may have a second more, 23:59:60, or a second less; [`step`] is told which. Formats A, B and G carry it:
+//!
+//! ```
+//! use duskveyra::{step, Format, Refusal, Time, SECOND_ADDED, SECOND_TAKEN, USUAL_DAY};
+//!
+//! let format = Format { letter: b'B', expression: 0 };
+//! let last = Time { day: 181, hundredths: 8_639_900 };
+//! let added = Time { day: 181, hundredths: 8_640_000 };
+//! let midnight = Time { day: 182, hundredths: 0 };
+//! assert_eq!(step(format, last, 365, USUAL_DAY), Ok(midnight));
+//! assert_eq!(step(format, last, 365, SECOND_ADDED), Ok(added));
+//! assert_eq!(step(format, added, 365, SECOND_ADDED), Ok(midnight));
+//! assert_eq!(step(format, last, 365, SECOND_TAKEN), Err(Refusal::InvalidKind));
+//! ```
 
 #![warn(missing_docs)]
 
@@ -39,6 +54,12 @@ pub const ONE: u8 = 1;
 pub const MARK: u8 = 2;
 /// Symbol of a spoiled element.
 pub const SPOILED: u8 = 3;
+/// Kind of a day of 86,400 seconds.
+pub const USUAL_DAY: u8 = 0;
+/// Kind of a day of 86,401 seconds: 23:59:60 follows 23:59:59.
+pub const SECOND_ADDED: u8 = 1;
+/// Kind of a day of 86,399 seconds: the next day follows 23:59:58.
+pub const SECOND_TAKEN: u8 = 2;
 /// The elements of the longest frame.
 pub const LONGEST_FRAME: usize = 100;
 /// The words of a [`Reader`].
@@ -64,12 +85,14 @@ pub struct Format {
 }
 
 /// A day of the year and the hundredths of a second since midnight. Any two numbers make a value of this type; a call
-/// refuses one that is out of range, or not on the format, with [`Refusal::InvalidTime`].
+/// refuses one that is out of range, or not on the format, with [`Refusal::InvalidTime`]. From hundredth 8,640,000 on
+/// it lies in a second that was added to its day, 23:59:60; D, E and H do not carry that second, and [`write`] and
+/// [`step`] refuse it there with [`Refusal::SecondNotCarried`].
 #[derive(Clone, Copy, Debug, PartialEq, Eq, Hash)]
 pub struct Time {
     /// The day, 1 to 366.
     pub day: u16,
-    /// Hundredths of a second since midnight, 0 to 8,639,999.
+    /// Hundredths of a second since midnight, 0 to 8,640,099.
     pub hundredths: u32,
 }
 
@@ -93,7 +116,7 @@ pub struct Found {
 
 /// Writes a time and a control word as the symbols of one frame; every byte of `frame` is set.
 ///
-/// Refuses with 1; 2; 9; 3 where `frame` has not the format's number of elements; in this order. A refusal leaves
+/// Refuses with 1; 2; 14; 9; 3 where `frame` has not the format's number of elements; in this order. A refusal leaves
 /// `frame` as it was.
 #[inline]
 pub fn write(format: Format, time: Time, control: u64, frame: &mut [u8]) -> Result<(), Refusal> {
@@ -135,11 +158,12 @@ pub fn read(format: Format, frame: &[u8]) -> Result<Report, Refusal> {
     Ok(report(day, hundredths, control))
 }
 
-/// The time of the frame after the one with this time, in a year of `year_length` days.
+/// The time of the frame after the one with this time, in a year of `year_length` days. The kind is that of the given
+/// time's day: [`USUAL_DAY`], [`SECOND_ADDED`] or [`SECOND_TAKEN`]; in D, E and H the frames go on as usual for each.
 ///
-/// Refuses with 1; 2; 11; in this order.
+/// Refuses with 1; 2; 14; 11; 15; in this order.
 #[inline]
-pub fn step(format: Format, time: Time, year_length: u16) -> Result<Time, Refusal> {
+pub fn step(format: Format, time: Time, year_length: u16, kind: u8) -> Result<Time, Refusal> {
     let (mut day, mut hundredths) = (0, 0);
     // SAFETY: both pointers point to locals.
     let number = unsafe {
@@ -149,6 +173,7 @@ pub fn step(format: Format, time: Time, year_length: u16) -> Result<Time, Refusa
             time.day,
             time.hundredths,
             year_length,
+            kind,
             &mut day,
             &mut hundredths,
         )
@@ -157,7 +182,8 @@ pub fn step(format: Format, time: Time, year_length: u16) -> Result<Time, Refusa
     Ok(Time { day, hundredths })
 }
 
-/// The first time less the second, within one year, in signed hundredths of a second.
+/// The first time less the second, within one year, in signed hundredths of a second. A day counts 8,640,000 of them,
+/// whatever its kind.
 ///
 /// Refuses with 2 where a day or hundredths are out of range; no grid of a format is asked for.
 #[inline]
@@ -244,7 +270,7 @@ pub fn scan(format: Format, recording: &[u8], start: usize) -> Result<Option<Fou
 }
 
 /// A stream reader: it hears one symbol at a time and reports with the one that ends the second of two frames behind a
-/// mark, the second's time next after the first's.
+/// mark, the second's time next after the first's for some year length and some kind of day.
 #[derive(Clone, Debug, PartialEq, Eq, Hash)]
 pub struct Reader {
     words: [u64; READER_WORDS],

@@ -1,4 +1,4 @@
-//! The thirteen numbers that a call refuses with.
+//! The fifteen numbers that a call refuses with.
 
 use std::error::Error;
 use std::fmt;
@@ -18,7 +18,8 @@ pub enum Refusal {
     MisplacedMark(usize),
     /// 6: a 1 or 3 as index marker, or a 3 in the place of a digit, straight binary seconds or control bit.
     InvalidElement(usize),
-    /// 7: digit over 9, hours over 23, minutes or seconds over 59, day 0 or over 366.
+    /// 7: digit over 9, hours over 23, minutes or seconds over 59 (at 23:59 in A, B and G seconds over 60), day 0 or
+    /// over 366.
     InvalidDigit,
     /// 8: straight binary seconds differ from the digits.
     SecondsDiffer,
@@ -32,10 +33,14 @@ pub enum Refusal {
     StartPastEnd,
     /// 13: the reader's letter, expression or place out of range.
     InvalidReader,
+    /// 14: a time in an added second in D, E or H, which do not carry it.
+    SecondNotCarried,
+    /// 15: kind of day above 2, or in A, B and G a time past the end of a day of that kind.
+    InvalidKind,
 }
 
 impl Refusal {
-    /// The number, 1 to 13.
+    /// The number, 1 to 15.
     pub fn number(self) -> u8 {
         match self {
             Refusal::UnknownFormat => 1,
@@ -51,6 +56,8 @@ impl Refusal {
             Refusal::InvalidYearLength => 11,
             Refusal::StartPastEnd => 12,
             Refusal::InvalidReader => 13,
+            Refusal::SecondNotCarried => 14,
+            Refusal::InvalidKind => 15,
         }
     }
 
@@ -79,6 +86,8 @@ impl Refusal {
             11 => Refusal::InvalidYearLength,
             12 => Refusal::StartPastEnd,
             13 => Refusal::InvalidReader,
+            14 => Refusal::SecondNotCarried,
+            15 => Refusal::InvalidKind,
             _ => unreachable!("the library returned {number}, which is no number of a refusal"),
         })
     }
@@ -102,6 +111,8 @@ impl fmt::Display for Refusal {
             Refusal::InvalidYearLength => "year length not 365 or 366, or the day is beyond it",
             Refusal::StartPastEnd => "start past the recording's end",
             Refusal::InvalidReader => "reader's letter, expression or place out of range",
+            Refusal::SecondNotCarried => "added second in a format that does not carry it",
+            Refusal::InvalidKind => "kind of day above 2, or the time is past the day's end",
         };
         write!(f, "refused {}: {why}", self.number())?;
         match self.index() {

@@ -31,6 +31,7 @@ extern "C" {
         day: u16,
         hundredths: u32,
         year_length: u16,
+        kind: u8,
         next_day: *mut u16,
         next_hundredths: *mut u32,
     ) -> u8;

@@ -1,9 +1,9 @@
-//! Every call through the safe types: document 01's examples, each refusal and the order of refusals, lent memory left
-//! as it was, and readers stored and made again.
+//! Every call through the safe types: document 01's examples, each refusal and the order of refusals, the leap second,
+//! lent memory left as it was, and readers stored and made again.
 
 use duskveyra::{
     classify, classify_list, difference, read, scan, step, write, Format, Found, Reader, Refusal,
-    Report, Time, LONGEST_FRAME, MARK, ONE, SPOILED, ZERO,
+    Report, Time, LONGEST_FRAME, MARK, ONE, SECOND_ADDED, SECOND_TAKEN, SPOILED, USUAL_DAY, ZERO,
 };
 
 const FORMATS: [&str; 16] = [
@@ -48,6 +48,14 @@ fn table(format: Format) -> (usize, u32) {
     }
 }
 
+/// Where days of the kinds 0, 1 and 2 end in the format's frames.
+fn day_ends(format: Format) -> [u32; 3] {
+    match format.letter {
+        b'A' | b'B' | b'G' => [8_640_000, 8_640_100, 8_639_900],
+        _ => [8_640_000; 3],
+    }
+}
+
 fn frame(name: &str, at: Time, control: u64) -> Vec<u8> {
     let mut frame = vec![0xa5; table(format(name)).0];
     write(format(name), at, control, &mut frame).expect("a time and control word to write");
@@ -82,6 +90,54 @@ fn write_refuses_in_order_and_leaves_the_frame() {
         assert_eq!(answer.err(), expected);
         assert!(expected.is_none() || lent == [0xa5; LONGEST_FRAME]);
         lent = [0xa5; LONGEST_FRAME];
+    }
+}
+
+#[test]
+fn an_added_second_is_refused_in_order_where_it_is_not_carried() {
+    let known = format("H1");
+    let wrong = format("H3");
+    let mut lent = [0xa5; LONGEST_FRAME];
+    for bad in 0..32 {
+        let first = |refusals: [Refusal; 5]| {
+            let bit = (0..5).find(|bit| bad >> bit & 1 == 1);
+            bit.map(|bit| refusals[bit])
+        };
+        let format = if bad & 1 != 0 { wrong } else { known };
+        let at = time(
+            if bad & 2 != 0 { 0 } else { 1 },
+            if bad & 4 != 0 { 8_640_000 } else { 0 },
+        );
+        let answer = write(
+            format,
+            at,
+            if bad & 8 != 0 { 512 } else { 0 },
+            &mut lent[..if bad & 16 != 0 { 59 } else { 60 }],
+        );
+        let expected = first([
+            Refusal::UnknownFormat,
+            Refusal::InvalidTime,
+            Refusal::SecondNotCarried,
+            Refusal::ControlTooLong,
+            Refusal::WrongLength,
+        ]);
+        assert_eq!(answer.err(), expected);
+        assert!(expected.is_none() || lent == [0xa5; LONGEST_FRAME]);
+        lent = [0xa5; LONGEST_FRAME];
+        let answer = step(
+            format,
+            at,
+            if bad & 8 != 0 { 364 } else { 365 },
+            if bad & 16 != 0 { 3 } else { SECOND_ADDED },
+        );
+        let expected = first([
+            Refusal::UnknownFormat,
+            Refusal::InvalidTime,
+            Refusal::SecondNotCarried,
+            Refusal::InvalidYearLength,
+            Refusal::InvalidKind,
+        ]);
+        assert_eq!(answer.err(), expected);
     }
 }
 
@@ -139,15 +195,19 @@ fn examples_of_writing_and_reading() {
 fn step_and_difference() {
     let b = format("B0");
     let last = time(365, 8_639_900);
-    assert_eq!(step(b, last, 365), Ok(time(1, 0)));
-    assert_eq!(step(b, last, 366), Ok(time(366, 0)));
-    assert_eq!(step(b, last, 364), Err(Refusal::InvalidYearLength));
-    assert_eq!(step(b, time(366, 0), 365), Err(Refusal::InvalidYearLength));
-    assert_eq!(step(b, time(1, 50), 364), Err(Refusal::InvalidTime));
+    assert_eq!(step(b, last, 365, USUAL_DAY), Ok(time(1, 0)));
+    assert_eq!(step(b, last, 366, USUAL_DAY), Ok(time(366, 0)));
+    assert_eq!(step(b, last, 364, 3), Err(Refusal::InvalidYearLength));
     assert_eq!(
-        step(format("D0"), time(0, 50), 364),
+        step(b, time(366, 0), 365, 3),
+        Err(Refusal::InvalidYearLength)
+    );
+    assert_eq!(step(b, time(1, 50), 364, 3), Err(Refusal::InvalidTime));
+    assert_eq!(
+        step(format("D0"), time(0, 50), 364, 3),
         Err(Refusal::UnknownFormat)
     );
+    assert_eq!(step(b, last, 366, SECOND_TAKEN), Err(Refusal::InvalidKind));
 
     assert_eq!(difference(time(2, 0), time(1, 8_639_999)), Ok(1));
     assert_eq!(difference(time(1, 8_639_999), time(2, 0)), Ok(-1));
@@ -156,9 +216,102 @@ fn step_and_difference() {
         difference(time(1, 0), time(366, 8_639_999)),
         Ok(-3_162_239_999)
     );
-    for bad in [time(0, 0), time(367, 0), time(1, 8_640_000)] {
+    assert_eq!(difference(time(1, 8_640_099), time(2, 0)), Ok(99));
+    assert_eq!(difference(time(2, 0), time(1, 8_640_000)), Ok(0));
+    for bad in [time(0, 0), time(367, 0), time(1, 8_640_100)] {
         assert_eq!(difference(bad, time(1, 0)), Err(Refusal::InvalidTime));
         assert_eq!(difference(time(1, 0), bad), Err(Refusal::InvalidTime));
+    }
+}
+
+#[test]
+fn days_of_every_kind() {
+    for name in FORMATS {
+        let (format, interval) = (format(name), table(format(name)).1);
+        for (kind, end) in (USUAL_DAY..=SECOND_TAKEN).zip(day_ends(format)) {
+            let last = time(181, end - interval);
+            let before = time(181, end - 2 * interval);
+            assert_eq!(step(format, before, 365, kind), Ok(last), "{name} {kind}");
+            assert_eq!(
+                step(format, last, 365, kind),
+                Ok(time(182, 0)),
+                "{name} {kind}"
+            );
+            let expected = match end {
+                8_640_100 => Refusal::InvalidTime,
+                _ if day_ends(format)[1] == end => Refusal::SecondNotCarried,
+                _ => Refusal::InvalidKind,
+            };
+            let past = step(format, time(181, end), 365, kind);
+            assert_eq!(past, Err(expected), "{name} {kind}");
+        }
+        for kind in 3..=255 {
+            let refused = step(format, time(181, 0), 365, kind);
+            assert_eq!(refused, Err(Refusal::InvalidKind), "{name} {kind}");
+        }
+    }
+}
+
+#[test]
+fn the_added_second_is_written_and_read_in_a_b_and_g() {
+    let seconds = |frame: &[u8]| [&frame[1..5], &frame[6..9]].concat();
+    for name in FORMATS {
+        let (format, (n, interval)) = (format(name), table(format(name)));
+        let carried = day_ends(format)[1] == 8_640_100;
+        for hundredths in (8_640_000..8_640_100).step_by(interval as usize) {
+            let at = time(366, hundredths);
+            let mut lent = vec![0xa5; n];
+            let answer = write(format, at, 0, &mut lent);
+            if !carried {
+                assert_eq!(answer, Err(Refusal::SecondNotCarried));
+                assert_eq!(lent, vec![0xa5; n]);
+                continue;
+            }
+            assert_eq!(answer, Ok(()));
+            assert_eq!(seconds(&lent), [0, 0, 0, 0, 0, 1, 1], "{name}");
+            let report = Report {
+                time: at,
+                control: 0,
+            };
+            assert_eq!(read(format, &lent), Ok(report));
+            // 23:58:60.
+            lent[10] = ZERO;
+            assert_eq!(read(format, &lent), Err(Refusal::InvalidDigit));
+        }
+    }
+    for name in ["A0", "A3", "B0", "B3"] {
+        let good = frame(name, time(1, 8_640_000), 0);
+        let ones: Vec<usize> = (80..98).filter(|&index| good[index] == ONE).collect();
+        // 86,400
+        assert_eq!(ones, [87, 88, 93, 95, 97]);
+        let mut zero = good.clone();
+        for index in ones {
+            zero[index] = ZERO;
+        }
+        assert_eq!(read(format(name), &zero), Err(Refusal::SecondsDiffer));
+    }
+}
+
+#[test]
+fn days_of_every_kind_are_reported() {
+    for name in FORMATS {
+        let (format, interval) = (format(name), table(format(name)).1);
+        for (kind, end) in (USUAL_DAY..=SECOND_TAKEN).zip(day_ends(format)) {
+            let mut at = time(365, end - 2 * interval);
+            let mut reader = Reader::fresh(format).unwrap();
+            let mut reports = Vec::new();
+            assert_eq!(reader.feed(MARK), Ok(None));
+            for _ in 0..4 {
+                for symbol in frame(name, at, 0) {
+                    reports.extend(reader.feed(symbol).unwrap());
+                }
+                let kind = if at.day == 365 { kind } else { USUAL_DAY };
+                at = step(format, at, 365, kind).unwrap();
+            }
+            let times: Vec<Time> = reports.iter().map(|report| report.time).collect();
+            let expected = [time(365, end - interval), time(1, 0), time(1, interval)];
+            assert_eq!(times, expected, "{name} {kind}");
+        }
     }
 }
 
@@ -243,7 +396,7 @@ fn a_stream_joined_at_any_element_is_reported_within_3n() {
         for _ in 0..5 {
             stream.extend(frame(name, at, 0));
             times.push(at);
-            at = step(format(name), at, 366).unwrap();
+            at = step(format(name), at, 366, USUAL_DAY).unwrap();
         }
         for joined in 0..n {
             let mut reader = Reader::fresh(format(name)).unwrap();
@@ -313,4 +466,9 @@ fn refusals_as_errors() {
     assert_eq!(Refusal::InvalidElement(3).index(), Some(3));
     assert_eq!(Refusal::InvalidReader.number(), 13);
     assert_eq!(Refusal::InvalidReader.index(), None);
+    assert_eq!(Refusal::SecondNotCarried.number(), 14);
+    assert_eq!(
+        Refusal::InvalidKind.to_string(),
+        "refused 15: kind of day above 2, or the time is past the day's end"
+    );
 }

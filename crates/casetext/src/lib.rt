@@ -1,4 +1,4 @@
-// A call of the engine as a line of text, `step B 0 365 8639900 365`, and its answer as text, `1 0`.
+// A call of the engine as a line of text, `step B 0 365 8639900 365 0`, and its answer as text, `1 0`.
 // A refusal is R and its number, with 5 and 6 also @ and the index of the element.
 ghost use Prim.Native.Nat.{_≤_, _<_};
 use clock::difference;
@@ -126,6 +126,8 @@ fn put_refusal(text: &mut [u8; 4096], at: usize, refusal: Refusal) -> usize {
         Refusal::InvalidYearLength => put_number(text, at, 11),
         Refusal::StartPastEnd => put_number(text, at, 12),
         Refusal::InvalidReader => put_number(text, at, 13),
+        Refusal::SecondNotCarried => put_number(text, at, 14),
+        Refusal::InvalidKind => put_number(text, at, 15),
     }
 }
 
@@ -272,7 +274,9 @@ fn elements_in(line: &[u8], word: usize, frame: &mut [u8; 512]) -> usize {
 
 fn put_step(line: &[u8], text: &mut [u8; 4096]) -> usize {
     let year = (decimal(line, 5) % 65_536) as u16;
-    let stepped = step(format_in(line), time_in(line, 3), year);
+    // a line without it asks for a usual day
+    let kind = (decimal(line, 6) % 256) as u8;
+    let stepped = step(format_in(line), time_in(line, 3), year, kind);
     match stepped {
         Stepped::Next(time) => put_time(text, 0, time),
         Stepped::Refused(refusal) => put_refusal(text, 0, refusal),

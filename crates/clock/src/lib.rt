@@ -4,8 +4,9 @@ ghost use mathlib.Core.Bool.{true};
 ghost use Prim.Native.Nat.{_+_, _*_, _<_};
 ghost use lib.IntN.{pos, _-ℤ_};
 ghost use Rattle.timecode.specs.Calls.{differenceOf};
-ghost use Rattle.timecode.specs.Formats.{known, inRange, onFormat};
-ghost use Rattle.timecode.specs.Frames.{inYear, following, stepOf, sameTime, gives, nextAfter};
+ghost use Rattle.timecode.specs.Formats.{known, inRange, onFormat, secondCarried};
+ghost use Rattle.timecode.specs.Frames.{inYear, kinds, dayEnd, onDay, following, stepOf, sameTime, gives, any, nextAfter};
+use layout::carries_leap;
 use layout::frame_interval;
 use layout::is_known;
 use timecode::Format;
@@ -34,6 +35,16 @@ pub fn on_format(format: Format, time: Time) -> bool
     false
 }
 
+// The time is not in the added second, or the format carries it.
+pub fn second_carried(format: Format, time: Time) -> bool
+    ensures { λ r. ⌜ r ≡ secondCarried format time ⌝ }
+{
+    if carries_leap(format) {
+        return true;
+    }
+    time.hundredths < Time::DAY_LENGTH
+}
+
 // The year's length is 365 or 366, and the day is not beyond it.
 fn in_year(time: Time, year: u16) -> bool
     ensures { λ r. ⌜ r ≡ inYear time year ⌝ }
@@ -47,13 +58,38 @@ fn in_year(time: Time, year: u16) -> bool
     false
 }
 
-// The time one frame interval later, in a year of that length.
-fn later(format: Format, time: Time, year: u16) -> Time
-    requires { ⌜ (onFormat format time ≡ true) ⌝ }
-    ensures { λ r. ⌜ r ≡ following format time year ⌝ }
+// Where a day of that kind ends; a format that does not carry the leap second goes on as usual.
+fn day_end(format: Format, kind: u8) -> u32
+    ensures { λ r. ⌜ r ≡ dayEnd format kind ⌝ }
+{
+    if carries_leap(format) {
+        if kind == Time::SECOND_ADDED {
+            return 8_640_100;
+        }
+        if kind == Time::SECOND_TAKEN {
+            return 8_639_900;
+        }
+    }
+    Time::DAY_LENGTH
+}
+
+// The kind is one of the three, and the time is not past the end of a day of that kind.
+fn on_day(format: Format, time: Time, kind: u8) -> bool
+    ensures { λ r. ⌜ r ≡ onDay format time kind ⌝ }
+{
+    if kind <= Time::SECOND_TAKEN {
+        return time.hundredths < day_end(format, kind);
+    }
+    false
+}
+
+// The time one frame interval later, in a year of that length and after a day of that kind.
+fn later(format: Format, time: Time, year: u16, kind: u8) -> Time
+    requires { ⌜ (onFormat format time ≡ true) × (secondCarried format time ≡ true) ⌝ }
+    ensures { λ r. ⌜ r ≡ following format time year kind ⌝ }
 {
     let hundredths = time.hundredths + frame_interval(format);
-    if hundredths != Time::DAY_LENGTH {
+    if hundredths != day_end(format, kind) {
         return Time {
             day: time.day,
             hundredths: hundredths,
@@ -71,15 +107,22 @@ fn later(format: Format, time: Time, year: u16) -> Time
     }
 }
 
-pub fn step(format: Format, time: Time, year: u16) -> Stepped
-    ensures { λ r. ⌜ r ≡ stepOf format time year ⌝ }
+// The kind is that of the earlier time's day.
+pub fn step(format: Format, time: Time, year: u16, kind: u8) -> Stepped
+    ensures { λ r. ⌜ r ≡ stepOf format time year kind ⌝ }
 {
     if is_known(format) {
         if on_format(format, time) {
-            if in_year(time, year) {
-                return Stepped::Next(later(format, time, year));
+            if second_carried(format, time) {
+                if in_year(time, year) {
+                    if on_day(format, time, kind) {
+                        return Stepped::Next(later(format, time, year, kind));
+                    }
+                    return Stepped::Refused(Refusal::InvalidKind);
+                }
+                return Stepped::Refused(Refusal::InvalidYearLength);
             }
-            return Stepped::Refused(Refusal::InvalidYearLength);
+            return Stepped::Refused(Refusal::SecondNotCarried);
         }
         return Stepped::Refused(Refusal::InvalidTime);
     }
@@ -104,14 +147,27 @@ fn leads_to(stepped: Stepped, time: Time) -> bool
     }
 }
 
+// In a year of that length, without a known kind: one of the three gives it.
+fn next_in_year(format: Format, first: Time, second: Time, year: u16) -> bool
+    ensures { λ r. ⌜ r ≡ any (λ kind. gives (stepOf format first year kind) second) kinds ⌝ }
+{
+    if leads_to(step(format, first, year, Time::USUAL_DAY), second) {
+        return true;
+    }
+    if leads_to(step(format, first, year, Time::SECOND_ADDED), second) {
+        return true;
+    }
+    leads_to(step(format, first, year, Time::SECOND_TAKEN), second)
+}
+
 // Without a known year: one of the two lengths gives it.
 pub fn next_after(format: Format, first: Time, second: Time) -> bool
     ensures { λ r. ⌜ r ≡ nextAfter format first second ⌝ }
 {
-    if leads_to(step(format, first, 365), second) {
+    if next_in_year(format, first, second, 365) {
         return true;
     }
-    leads_to(step(format, first, 366), second)
+    next_in_year(format, first, second, 366)
 }
 
 // Hundredths since the start of day 0.

@@ -10,7 +10,8 @@ use borrow.Author.Tests.{leb-true}
 use lib.Dec.{leb, eqb}
 use lib.ListN.{getD}
 use Rattle.timecode.specs.Answers.{check}
-use Rattle.timecode.specs.Frames.{areDigits, isTime, timeIn, secondsAgree}
+use Rattle.timecode.specs.Formats.{carriesLeap}
+use Rattle.timecode.specs.Frames.{areDigits, lastSecond, isTime, timeIn, secondsAgree}
 use Rattle.timecode.specs.Laws.Digits.{decode}
 use Rattle.timecode.specs.Laws.Tests.{by-test, and-left, and-right}
 use Rattle.timecode.specs.Layout.{seconds, minutes, hours, days, tenths, hundredths, hasSeconds, straightSeconds, controlRange, control, timeFields, fields, flatten, runs, digitIn, numberIn}
@@ -32,8 +33,8 @@ unfoldable pub digitsFrom : ℕ → ℕ → List ℕ → Bool
 digitsFrom zero j ds = true
 digitsFrom (suc n) j ds = leb (getD ds j 0) 9 && digitsFrom n (suc j) ds
 
-unfoldable pub isTimeOf : List ℕ → Bool
-isTimeOf ds = digitsFrom 11 0 ds && (leb (two ds 4) 23 && (leb (two ds 2) 59 && (leb (two ds 0) 59 && (leb 1 (dayOf ds) && leb (dayOf ds) 366))))
+unfoldable pub isTimeOf : Format → List ℕ → Bool
+isTimeOf f ds = digitsFrom 11 0 ds && (leb (two ds 4) 23 && (leb (two ds 2) 59 && (leb (two ds 0) (lastSecond f (two ds 4) (two ds 2)) && (leb 1 (dayOf ds) && leb (dayOf ds) 366))))
 
 unfoldable pub timeOf : List ℕ → Time
 timeOf ds = record { day = dayOf ds; hundredths = ((two ds 4 * 60 + two ds 2) * 60 + two ds 0) * 100 + getD ds 9 0 * 10 + getD ds 10 0 }
@@ -46,7 +47,7 @@ controlOf f ds =
     getD ds 13 0 + 2 ^ getD (widthsOf f) 13 0 * (getD ds 14 0 + 2 ^ getD (widthsOf f) 14 0 * (getD ds 15 0 + 2 ^ getD (widthsOf f) 15 0 * (getD ds 16 0 + 2 ^ getD (widthsOf f) 16 0 * getD ds 17 0)))
 
 unfoldable pub meaningOf : Format → List ℕ → Reading
-meaningOf f ds = check Reading.Refused 7 (isTimeOf ds) (check Reading.Refused 8 (agreeOf f ds) (Accepted (timeOf ds) (controlOf f ds)))
+meaningOf f ds = check Reading.Refused 7 (isTimeOf f ds) (check Reading.Refused 8 (agreeOf f ds) (Accepted (timeOf ds) (controlOf f ds)))
 
 -- ---- a frame's digits say what the frame says
 
@@ -107,7 +108,7 @@ module _ (f : Format) (frame : List ℕ) where
         hundredths = ((hour-is i * 60 + minute-is i) * 60 + second-is i) * 100 + tenth-is i * 10 + hundredth-is i;
       }
 
-  is-time-is : isTimeOf ds ≡ isTime f frame
+  is-time-is : isTimeOf f ds ≡ isTime f frame
   unfolding isTimeOf isTime
   is-time-is = rw (digits-are, hour-is, minute-is, second-is, day-is)
 
@@ -134,7 +135,7 @@ digits-end ds j h = let m : 11 - j ≡ 0 = omega arith in rw m
 pub record Bounds (ds : List ℕ) : Type 0 where
   pub hour : two ds 4 ≤ 23
   pub minute : two ds 2 ≤ 59
-  pub second : two ds 0 ≤ 59
+  pub second : two ds 0 ≤ 60
   pub day : dayOf ds ≤ 366
   pub tenth : getD ds 9 0 ≤ 9
   pub hundredth : getD ds 10 0 ≤ 9
@@ -145,12 +146,22 @@ digits-small zero j ds h k l = absurd (not-suc-le-zero l)
 digits-small (suc n) j ds h zero l = rw (add-zero j) (leb-true (getD ds j 0) 9 (and-left (leb (getD ds j 0) 9) (digitsFrom n (suc j) ds) h))
 digits-small (suc n) j ds h (suc k) l = rw (add-suc j k, ← suc-add j k) (digits-small n (suc j) ds (and-right (leb (getD ds j 0) 9) (digitsFrom n (suc j) ds) h) k (omega arith))
 
-pub time-bounds : (ds : List ℕ) → isTimeOf ds ≡ true → Bounds ds
+-- where it is not 23:59 the 60th second is the last
+pub other-minute : (f : Format) (h m : ℕ) → (eqb h 23 && eqb m 59) ≡ false → lastSecond f h m ≡ 59
+unfolding lastSecond
+other-minute f h m n = by-test (carriesLeap f) (λ y. rw (y, n)) (λ k. rw k)
+
+last-second-60 : (f : Format) (h m : ℕ) → lastSecond f h m ≤ 60
+unfolding lastSecond
+last-second-60 f h m = by-test (carriesLeap f && (eqb h 23 && eqb m 59)) (λ y. rw y (omega arith)) (λ n. rw n (omega arith))
+
+pub time-bounds : (f : Format) (ds : List ℕ) → isTimeOf f ds ≡ true → Bounds ds
 unfolding isTimeOf
-time-bounds ds h =
+time-bounds f ds h =
     let H = leb (two ds 4) 23 in
     let M = leb (two ds 2) 59 in
-    let S = leb (two ds 0) 59 in
+    let last = lastSecond f (two ds 4) (two ds 2) in
+    let S = leb (two ds 0) last in
     let F = leb 1 (dayOf ds) in
     let L = leb (dayOf ds) 366 in
     let a = and-right (digitsFrom 11 0 ds) (H && (M && (S && (F && L)))) h in
@@ -160,7 +171,7 @@ time-bounds ds h =
     record {
       hour = leb-true (two ds 4) 23 (and-left H (M && (S && (F && L))) a);
       minute = leb-true (two ds 2) 59 (and-left M (S && (F && L)) b);
-      second = leb-true (two ds 0) 59 (and-left S (F && L) c);
+      second = omega (arith, leb-true (two ds 0) last (and-left S (F && L) c), last-second-60 f (two ds 4) (two ds 2));
       day = leb-true (dayOf ds) 366 (and-right F L (and-right S (F && L) c));
       tenth = digits 9 (omega arith);
       hundredth = digits 10 (omega arith);

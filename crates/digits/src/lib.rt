@@ -4,11 +4,12 @@ ghost use mathlib.Core.Path.{_≡_};
 ghost use mathlib.Core.Bool.{true};
 ghost use Prim.Native.Nat.{_+_, _*_, _^_, _≤_, _<_};
 ghost use lib.ListN.{getD, length};
-ghost use Rattle.timecode.specs.Frames.{controlFits};
+ghost use Rattle.timecode.specs.Frames.{controlFits, lastSecond};
 ghost use Rattle.timecode.specs.Layout.{runs, fields, numbers, spread};
 ghost use Rattle.layout.specs.Tables.{widthsOf};
 ghost use Rattle.digits.specs.Saying.{two, dayOf, digitsFrom, isTimeOf, timeOf, agreeOf, controlOf, meaningOf};
 ghost use Rattle.digits.specs.Splitting.{Widths, Digits, LowBits};
+use layout::carries_leap;
 use timecode::Format;
 use timecode::Reading;
 use timecode::Refusal;
@@ -35,7 +36,8 @@ pub fn control_fits(format: Format, widths: &[u8], control: u64) -> bool
     control >> bits == 0
 }
 
-// The digits of a time and a control word, right as far as the runs are wide.
+// The digits of a time and a control word, right as far as the runs are wide. The added second is one more than the second
+// before it: 23:59:60.
 pub fn digits_of(format: Format, widths: &[u8], time: Time, control: u64) -> [u64; 18]
     requires { ⌜ Widths (now widths) × (now widths ≡ widthsOf format) ⌝ }
     ensures { λ r. ⌜ LowBits (runs format) r (spread (fields format) (numbers time control)) ⌝ }
@@ -43,9 +45,11 @@ pub fn digits_of(format: Format, widths: &[u8], time: Time, control: u64) -> [u6
     let day = time.day as u64;
     let c = time.hundredths as u64;
     let seconds = c / 100;
-    let second = seconds % 60;
-    let minute = seconds / 60 % 60;
-    let hour = seconds / 60 / 60;
+    let added = c / 8_640_000;
+    let usual = seconds - added;
+    let second = usual % 60 + added;
+    let minute = usual / 60 % 60;
+    let hour = usual / 60 / 60;
     let control2 = control >> width(widths, 13);
     let control3 = control2 >> width(widths, 14);
     let control4 = control3 >> width(widths, 15);
@@ -102,19 +106,35 @@ fn are_digits(digits: &[u64]) -> bool
     true
 }
 
-// Number 7: no digit over 9, hours over 23, minutes or seconds over 59, day 0 or over 366.
-fn is_time(digits: &[u64]) -> bool
+// The last second of a minute: the 61st at 23:59 only, where the format carries it.
+fn last_second(format: Format, hour: u64, minute: u64) -> u64
+    ensures { λ r. ⌜ r ≡ lastSecond format hour minute ⌝ }
+{
+    if hour == 23 {
+        if minute == 59 {
+            if carries_leap(format) {
+                return 60;
+            }
+        }
+    }
+    59
+}
+
+// Number 7: no digit over 9, hours over 23, minutes over 59, seconds over the minute's last, day 0 or over 366.
+fn is_time(format: Format, digits: &[u64]) -> bool
     requires { ⌜ Digits (now digits) ⌝ }
-    ensures { λ r. ⌜ r ≡ isTimeOf (now (digits .entry)) ⌝ }
+    ensures { λ r. ⌜ r ≡ isTimeOf format (now (digits .entry)) ⌝ }
 {
     if are_digits(digits) {
-        if 23 < pair(digits, 4) {
+        let hour = pair(digits, 4);
+        if 23 < hour {
             return false;
         }
-        if 59 < pair(digits, 2) {
+        let minute = pair(digits, 2);
+        if 59 < minute {
             return false;
         }
-        if 59 < pair(digits, 0) {
+        if last_second(format, hour, minute) < pair(digits, 0) {
             return false;
         }
         let day = day_in(digits);
@@ -126,8 +146,8 @@ fn is_time(digits: &[u64]) -> bool
     false
 }
 
-fn time_in(digits: &[u64]) -> Time
-    requires { ⌜ Digits (now digits) × (isTimeOf (now digits) ≡ true) ⌝ }
+fn time_in(format: Format, digits: &[u64]) -> Time
+    requires { ⌜ Digits (now digits) × (isTimeOf format (now digits) ≡ true) ⌝ }
     ensures { λ r. ⌜ r ≡ timeOf (now (digits .entry)) ⌝ }
 {
     let hundredths = ((pair(digits, 4) * 60 + pair(digits, 2)) * 60 + pair(digits, 0)) * 100
@@ -176,8 +196,8 @@ pub fn meaning(format: Format, widths: &[u8], digits: &[u64]) -> Reading
     requires { ⌜ Widths (now widths) × (now widths ≡ widthsOf format) × Digits (now digits) ⌝ }
     ensures { λ r. ⌜ r ≡ meaningOf format (now (digits .entry)) ⌝ }
 {
-    if is_time(digits) {
-        let time = time_in(digits);
+    if is_time(format, digits) {
+        let time = time_in(format, digits);
         if seconds_agree(format, widths, digits, time) {
             return Reading::Accepted(time, control_in(format, widths, digits));
         }

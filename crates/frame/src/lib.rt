@@ -12,6 +12,7 @@ ghost use Rattle.timecode.specs.Layout.{runs, rest, encode};
 ghost use Rattle.layout.specs.Tables.{widthsOf};
 ghost use Rattle.frame.specs.Offences.{shape, judged, offendedOf};
 use clock::on_format;
+use clock::second_carried;
 use digits::control_fits;
 use digits::digits_of;
 use digits::meaning;
@@ -38,14 +39,17 @@ fn check_write(format: Format, time: Time, control: u64, bytes: usize) -> Writte
 {
     if is_known(format) {
         if on_format(format, time) {
-            let widths = run_widths(format);
-            if control_fits(format, &widths, control) {
-                if bytes == frame_size(format) {
-                    return Written::Done;
+            if second_carried(format, time) {
+                let widths = run_widths(format);
+                if control_fits(format, &widths, control) {
+                    if bytes == frame_size(format) {
+                        return Written::Done;
+                    }
+                    return Written::Refused(Refusal::WrongLength);
                 }
-                return Written::Refused(Refusal::WrongLength);
+                return Written::Refused(Refusal::ControlTooLong);
             }
-            return Written::Refused(Refusal::ControlTooLong);
+            return Written::Refused(Refusal::SecondNotCarried);
         }
         return Written::Refused(Refusal::InvalidTime);
     }

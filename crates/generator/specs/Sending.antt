@@ -1,7 +1,12 @@
--- A generator's frames from a first time on, all with one control word and one year length, and their lines.
+-- A generator's frames from a start on, all with one control word and one year length, and their lines.
+-- The start has the kind of its day; every later day is usual.
+use mathlib.Core.Path.{_≡_}
+use mathlib.Core.Bool.{cond}
 use mathlib.Core.List.{List, [], _∷_, _++_}
-use Prim.Native.Nat.{ℕ, zero, suc}
-use Rattle.timecode.specs.Frames.{stepOf, left, Sent}
+use Prim.Native.Nat.{ℕ, zero, suc, _-_, _<_, _≤_}
+use lib.Dec.{eqb}
+use lib.ListN.{take}
+use Rattle.timecode.specs.Frames.{usual, stepOf, left, Sent}
 use Rattle.timecode.specs.declared.Format.{Format}
 use Rattle.timecode.specs.declared.Stepped.{Stepped}
 use Rattle.timecode.specs.declared.Stepped.the-variants.{Next}
@@ -9,39 +14,56 @@ use Rattle.timecode.specs.declared.Time.{Time}
 use Rattle.timecode.specs.declared.Written.{Written}
 use Rattle.timecode.specs.declared.Written.the-variants.{Done}
 use Rattle.frametext.specs.Characters.{lineOf, takenOf}
+use Rattle.generator.specs.declared.Generated.{Generated}
+use Rattle.generator.specs.declared.Start.{Start}
 
--- Write's checks of the first frame, then Step's of the year length
+-- Write's checks of the first frame, then Step's of its time, the year length and the kind
 abbrev pub begun : Written → Stepped → Written
 begun Done (Next u) = Done
 begun Done (Stepped.Refused x) = Written.Refused x
 begun (Written.Refused x) s = Written.Refused x
 
-unfoldable pub begunOf : Format → Time → ℕ → ℕ → Written
-begunOf f t w year = begun (takenOf f t w) (stepOf f t year)
+unfoldable pub begunOf : Format → Start → ℕ → ℕ → Written
+begunOf f s w year = begun (takenOf f (s .time) w) (stepOf f (s .time) year (s .kind))
 
--- the time of the next frame; where Step refuses, the same
-abbrev pub stepped : Stepped → Time → Time
-stepped (Next u) t = u
-stepped (Stepped.Refused x) t = t
+-- the kind of the next frame's day: the same on the same day, else usual
+unfoldable pub kindAfter : Time → Time → ℕ → ℕ
+kindAfter t u kind = cond (eqb (t .day) (u .day)) kind usual
 
-unfoldable pub nextTime : Format → Time → ℕ → Time
-nextTime f t year = stepped (stepOf f t year) t
+-- where the next frame starts; where Step refuses, at the same
+abbrev pub stepped : Stepped → Start → Start
+stepped (Next u) s = record { time = u; kind = kindAfter (s .time) u (s .kind) }
+stepped (Stepped.Refused x) s = s
 
--- the time of frame k, counted from 0
-unfoldable pub timeOf : Format → Time → ℕ → ℕ → Time
-timeOf f t year zero = t
-timeOf f t year (suc k) = nextTime f (timeOf f t year k) year
+unfoldable pub nextStart : Format → Start → ℕ → Start
+nextStart f s year = stepped (stepOf f (s .time) year (s .kind)) s
+
+-- where frame k starts, counted from 0
+unfoldable pub startOf : Format → Start → ℕ → ℕ → Start
+startOf f s year zero = s
+startOf f s year (suc k) = nextStart f (startOf f s year k) year
 
 -- the line of a frame; where Write refuses, nothing
 unfoldable pub lineFor : Format → Time → ℕ → List ℕ
 lineFor f t w = left (takenOf f t w) (lineOf f t w) []
 
 -- the lines of the first k frames
-unfoldable pub linesOf : Format → Time → ℕ → ℕ → ℕ → List ℕ
-linesOf f t w year zero = []
-linesOf f t w year (suc k) = linesOf f t w year k ++ lineFor f (timeOf f t year k) w
+unfoldable pub linesOf : Format → Start → ℕ → ℕ → ℕ → List ℕ
+linesOf f s w year zero = []
+linesOf f s w year (suc k) = linesOf f s w year k ++ lineFor f (startOf f s year k .time) w
 
 -- the first k frames
-unfoldable pub framesOf : Format → Time → ℕ → ℕ → ℕ → List Sent
-framesOf f t w year zero = []
-framesOf f t w year (suc k) = framesOf f t w year k ++ (record { time = timeOf f t year k; control = w } ∷ [])
+unfoldable pub framesOf : Format → Start → ℕ → ℕ → ℕ → List Sent
+framesOf f s w year zero = []
+framesOf f s w year (suc k) = framesOf f s w year k ++ (record { time = startOf f s year k .time; control = w } ∷ [])
+
+-- What a call for so many frames leaves: the lines of all but the frames left at the start of 65,536 bytes, and where the next frame starts.
+-- It puts all, unless there is no room for one line more, and at least one. What stands behind the lines is free.
+abbrev pub Generates : Format → Start → ℕ → ℕ → ℕ → Generated → List ℕ → Type 0
+Generates f s w year frames r out =
+    (r .filled ≤ 65536)
+    × (r .left ≤ frames)
+    × (r .next ≡ startOf f s year (frames - r .left))
+    × (take (r .filled) out ≡ linesOf f s w year (frames - r .left))
+    × (1 ≤ frames → r .left < frames)
+    × (r .filled ≤ 65280 → r .left ≡ 0)

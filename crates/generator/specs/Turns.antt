@@ -15,7 +15,8 @@ use Rattle.timecode.specs.declared.Written.the-variants.{Done}
 use Rattle.frametext.specs.Characters.{lineOf, takenOf, lined, linedOf}
 use Rattle.frametext.specs.declared.Lined.{Lined}
 use Rattle.frametext.specs.declared.Lined.the-variants.{Line}
-use Rattle.generator.specs.Sending.{begun, begunOf, nextTime, timeOf, lineFor, linesOf}
+use Rattle.generator.specs.Sending.{begun, begunOf, nextStart, startOf, lineFor, linesOf}
+use Rattle.generator.specs.declared.Start.{Start}
 
 -- ---- frame_line's answer is Write's
 
@@ -45,45 +46,49 @@ part-length k line h n = length-take-le k line (omega arith)
 
 -- ---- the checks
 
-pub begun-step : (f : Format) (t : Time) (w year : ℕ) → takenOf f t w ≡ Done → begun Done (stepOf f t year) ≡ begunOf f t w year
+pub begun-step : (f : Format) (s : Start) (w year : ℕ) → takenOf f (s .time) w ≡ Done → begun Done (stepOf f (s .time) year (s .kind)) ≡ begunOf f s w year
 unfolding begunOf
-begun-step f t w year d = rw d
+begun-step f s w year d = rw d
 
-pub begun-refused : (f : Format) (t : Time) (w year : ℕ) (x : Refusal) → takenOf f t w ≡ Written.Refused x → Written.Refused x ≡ begunOf f t w year
+pub begun-refused : (f : Format) (s : Start) (w year : ℕ) (x : Refusal) → takenOf f (s .time) w ≡ Written.Refused x → Written.Refused x ≡ begunOf f s w year
 unfolding begunOf
-begun-refused f t w year x r = rw r
+begun-refused f s w year x r = rw r
 
 -- ---- the loop
 
--- all but the frames left are put, and the time is the next one's
-pub record PutSoFar (f : Format) (t : Time) (w year frames left : ℕ) (now : Time) (filled : ℕ) (out : List ℕ) : Type 0 where
-  pub reached : now ≡ timeOf f t year (frames - left)
-  pub put : take filled out ≡ linesOf f t w year (frames - left)
+-- all but the frames left are put, and the next one is due
+pub record PutSoFar (f : Format) (s : Start) (w year frames left : ℕ) (now : Start) (filled : ℕ) (out : List ℕ) : Type 0 where
+  pub reached : now ≡ startOf f s year (frames - left)
+  pub put : take filled out ≡ linesOf f s w year (frames - left)
 
-pub put-start : (f : Format) (t : Time) (w year frames : ℕ) (out : List ℕ) → PutSoFar f t w year frames frames t 0 out
-unfolding timeOf linesOf
-put-start f t w year frames out = record { reached = ap (timeOf f t year) (none frames); put = ap (linesOf f t w year) (none frames) }
-  where
-    none : (frames : ℕ) → 0 ≡ frames - frames
-    none frames = omega arith
+none-put : (frames : ℕ) → 0 ≡ frames - frames
+none-put frames = omega arith
+
+pub starts-first : (f : Format) (s : Start) (year frames : ℕ) → s ≡ startOf f s year (frames - frames)
+unfolding startOf
+starts-first f s year frames = ap (startOf f s year) (none-put frames)
+
+pub put-start : (f : Format) (s : Start) (w year frames : ℕ) (out : List ℕ) → PutSoFar f s w year frames frames s 0 out
+unfolding linesOf
+put-start f s w year frames out = record { reached = starts-first f s year frames; put = ap (linesOf f s w year) (none-put frames) }
 
 one-more : (frames left : ℕ) → 0 < left → left ≤ frames → frames - (left - 1) ≡ suc (frames - left)
 one-more frames left a b = omega arith
 
-next-time : (f : Format) (t : Time) (year k : ℕ) → timeOf f t year (suc k) ≡ nextTime f (timeOf f t year k) year
-unfolding timeOf
-next-time f t year k = refl
+next-start : (f : Format) (s : Start) (year k : ℕ) → startOf f s year (suc k) ≡ nextStart f (startOf f s year k) year
+unfolding startOf
+next-start f s year k = refl
 
-next-line : (f : Format) (t : Time) (w year k : ℕ) → linesOf f t w year (suc k) ≡ linesOf f t w year k ++ lineFor f (timeOf f t year k) w
+next-line : (f : Format) (s : Start) (w year k : ℕ) → linesOf f s w year (suc k) ≡ linesOf f s w year k ++ lineFor f (startOf f s year k .time) w
 unfolding linesOf
-next-line f t w year k = refl
+next-line f s w year k = refl
 
-pub put-turn : (f : Format) (t : Time) (w year frames left : ℕ) (now now′ : Time) (filled filled′ : ℕ) (out out′ : List ℕ) → 0 < left → left ≤ frames → PutSoFar f t w year frames left now filled out
-    → take filled′ out′ ≡ take filled out ++ lineFor f now w → now′ ≡ nextTime f now year → PutSoFar f t w year frames (left - 1) now′ filled′ out′
-put-turn f t w year frames left now now′ filled filled′ out out′ a b s p q =
+pub put-turn : (f : Format) (s : Start) (w year frames left : ℕ) (now now′ : Start) (filled filled′ : ℕ) (out out′ : List ℕ) → 0 < left → left ≤ frames → PutSoFar f s w year frames left now filled out
+    → take filled′ out′ ≡ take filled out ++ lineFor f (now .time) w → now′ ≡ nextStart f now year → PutSoFar f s w year frames (left - 1) now′ filled′ out′
+put-turn f s w year frames left now now′ filled filled′ out out′ a b h p q =
     record {
-      reached = q ∙ rw (one-more frames left a b, next-time f t year (frames - left), s .reached);
-      put = p ∙ rw (one-more frames left a b, next-line f t w year (frames - left), s .put, s .reached);
+      reached = q ∙ rw (one-more frames left a b, next-start f s year (frames - left), h .reached);
+      put = p ∙ rw (one-more frames left a b, next-line f s w year (frames - left), h .put, h .reached);
     }
 
 -- where something stands, some frame was put

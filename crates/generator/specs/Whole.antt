@@ -1,20 +1,22 @@
 -- The parts put one behind another are the lines of all the frames; these are a generator's, as document 01 has it, and timeread reads its elements.
 use mathlib.Core.Path.{_≡_, refl, sym, ap, _∙_}
+use mathlib.Core.Bool.{Bool, true, false, cond, _&&_}
 use mathlib.Core.List.{List, [], _∷_, _++_, append-assoc, append-nil}
-use Prim.Native.Nat.{ℕ, zero, suc, _+_, _-_, _<_, _≤_}
+use mathlib.Core.Logic.{_⊎_, inl, inr}
+use Prim.Native.Nat.{ℕ, zero, suc, _+_, _-_, _%_, _<_, _≤_}
 use native.Mathlib.Nat.{not-suc-le-zero}
 use native.Mathlib.Omega.{arith}
-use borrow.Author.Tests.{eqb-false, ltb-true, ltb-false, le-leb}
+use borrow.Author.Tests.{eqb-true, eqb-false, ltb-true, ltb-false, le-leb, lt-ltb, eq-eqb, ne-eqb}
 use lib.Dec.{eqb, ltb}
 use lib.ListN.{getD, length, length-append, List·getD-append}
 use lib.Seq.{getD-at}
-use Rattle.timecode.specs.Formats.{dayLength, interval}
-use Rattle.timecode.specs.Frames.{inYear, dayAfter, following, stepOf, written, Sent, noFrame, Generator, elements}
+use Rattle.timecode.specs.Formats.{member, known, interval, carriesLeap}
+use Rattle.timecode.specs.Frames.{yearLengths, inYear, dayAfter, usual, kinds, dayLengthOf, dayEnd, onDay, following, stepOf, written, Sent, noFrame, Generator, elements}
 use Rattle.timecode.specs.Laws.Checks.{done}
 use Rattle.timecode.specs.Laws.Reading.{Valid}
-use Rattle.timecode.specs.Laws.Stepping.{went, step-on-format}
-use Rattle.timecode.specs.Laws.Tests.{by-test}
-use Rattle.timecode.specs.Laws.Times.{is-on-format}
+use Rattle.timecode.specs.Laws.Stepping.{went, carries, year-is, step-on-format}
+use Rattle.timecode.specs.Laws.Tests.{by-test, and-right}
+use Rattle.timecode.specs.Laws.Times.{is-on-format, is-carried}
 use Rattle.timecode.specs.Laws.Writing.{length-written, taken, takes}
 use Rattle.timecode.specs.Stream.{plainAnswers}
 use Rattle.timecode.specs.declared.Format.{Format}
@@ -26,7 +28,8 @@ use Rattle.timecode.specs.declared.Written.the-variants.{Done}
 use Rattle.listing.specs.Printed.{printedFor, printed}
 use Rattle.frametext.specs.Characters.{lineOf, takenOf, firstLine, framesText, recordingText}
 use Rattle.frametext.specs.Recording.{recording-is-read}
-use Rattle.generator.specs.Sending.{begun, begunOf, stepped, nextTime, timeOf, lineFor, linesOf, framesOf}
+use Rattle.generator.specs.Sending.{begun, begunOf, kindAfter, stepped, nextStart, startOf, lineFor, linesOf, framesOf}
+use Rattle.generator.specs.declared.Start.{Start}
 
 -- ---- parts
 
@@ -36,59 +39,122 @@ plus-none a = omega arith
 plus-more : (a b : ℕ) → a + suc b ≡ suc (a + b)
 plus-more a b = omega arith
 
-pub times-parts : (f : Format) (t : Time) (year a b : ℕ) → timeOf f t year (a + b) ≡ timeOf f (timeOf f t year a) year b
-unfolding timeOf
-times-parts f t year a zero = ap (timeOf f t year) (plus-none a)
-times-parts f t year a (suc b) = ap (timeOf f t year) (plus-more a b) ∙ ap (λ (u : Time). nextTime f u year) (times-parts f t year a b)
+pub starts-parts : (f : Format) (s : Start) (year a b : ℕ) → startOf f s year (a + b) ≡ startOf f (startOf f s year a) year b
+unfolding startOf
+starts-parts f s year a zero = ap (startOf f s year) (plus-none a)
+starts-parts f s year a (suc b) = ap (startOf f s year) (plus-more a b) ∙ ap (λ (v : Start). nextStart f v year) (starts-parts f s year a b)
 
-pub lines-parts : (f : Format) (t : Time) (w year a b : ℕ) → linesOf f t w year (a + b) ≡ linesOf f t w year a ++ linesOf f (timeOf f t year a) w year b
+pub lines-parts : (f : Format) (s : Start) (w year a b : ℕ) → linesOf f s w year (a + b) ≡ linesOf f s w year a ++ linesOf f (startOf f s year a) w year b
 unfolding linesOf
-lines-parts f t w year a zero = ap (linesOf f t w year) (plus-none a) ∙ sym (append-nil (linesOf f t w year a))
-lines-parts f t w year a (suc b) =
-    ap (linesOf f t w year) (plus-more a b)
-    ∙ rw (lines-parts f t w year a b, times-parts f t year a b)
-    (append-assoc (linesOf f t w year a) (linesOf f (timeOf f t year a) w year b) (lineFor f (timeOf f (timeOf f t year a) year b) w))
+lines-parts f s w year a zero = ap (linesOf f s w year) (plus-none a) ∙ sym (append-nil (linesOf f s w year a))
+lines-parts f s w year a (suc b) =
+    ap (linesOf f s w year) (plus-more a b)
+    ∙ rw (lines-parts f s w year a b, starts-parts f s year a b)
+    (append-assoc (linesOf f s w year a) (linesOf f (startOf f s year a) w year b) (lineFor f (startOf f (startOf f s year a) year b .time) w))
 
 parts-sum : (frames left left′ : ℕ) → left ≤ frames → left′ ≤ left → frames - left + (left - left′) ≡ frames - left′
 parts-sum frames left left′ a b = omega arith
 
--- the frames left become fewer, and the time is the next one's
-pub times-turn : (f : Format) (t now now′ : Time) (year frames left left′ : ℕ) → left ≤ frames → left′ ≤ left → now ≡ timeOf f t year (frames - left) → now′ ≡ timeOf f now year (left - left′) → now′ ≡ timeOf f t year (frames - left′)
-times-turn f t now now′ year frames left left′ a b p q =
-    q ∙ rw p (sym (times-parts f t year (frames - left) (left - left′))) ∙ ap (timeOf f t year) (parts-sum frames left left′ a b)
+-- the frames left become fewer, and the next one is due
+pub starts-turn : (f : Format) (s now now′ : Start) (year frames left left′ : ℕ) → left ≤ frames → left′ ≤ left → now ≡ startOf f s year (frames - left) → now′ ≡ startOf f now year (left - left′) → now′ ≡ startOf f s year (frames - left′)
+starts-turn f s now now′ year frames left left′ a b p q =
+    q ∙ rw p (sym (starts-parts f s year (frames - left) (left - left′))) ∙ ap (startOf f s year) (parts-sum frames left left′ a b)
 
-pub times-start : (f : Format) (t : Time) (year frames : ℕ) → t ≡ timeOf f t year (frames - frames)
-unfolding timeOf
-times-start f t year frames = ap (timeOf f t year) (none frames)
-  where
-    none : (frames : ℕ) → 0 ≡ frames - frames
-    none frames = omega arith
+-- ---- Step taken once is taken for ever: with its year length, and with its kind until the day ends
 
--- ---- Step taken once with a year length is taken with it for ever
-
-following-inside : (f : Format) (t : Time) (year : ℕ) → 1 ≤ t .day → t .day ≤ year → following f t year .day ≤ year
+following-inside : (f : Format) (t : Time) (year kind : ℕ) → 1 ≤ t .day → t .day ≤ year → following f t year kind .day ≤ year
 unfolding following dayAfter
-following-inside f t year a b =
-    by-test (eqb (t .hundredths + interval f) dayLength)
+following-inside f t year kind a b =
+    by-test (eqb (t .hundredths + interval f) (dayEnd f kind))
     (λ y. rw y (by-test (eqb (t .day) year) (λ e. rw e (omega arith)) (λ n. rw n (omega (arith, eqb-false (t .day) year n)))))
     (λ n. rw n b)
 
-step-stays : (f : Format) (t : Time) (year : ℕ) (u : Time) → stepOf f t year ≡ Next u → stepOf f u year ≡ Next (following f u year)
+two-days : (year : ℕ) → (year ≡ 365) ⊎ (year ≡ 366) → 1 < year
+two-days year (inl p) = omega arith
+two-days year (inr p) = omega arith
+
+day-moves : (day year : ℕ) → 1 < year → day ≡ dayAfter day year → ⊥
+unfolding dayAfter
+day-moves day year l h = by-test (eqb day year) (λ y. omega (arith, eqb-true day year y, rw y at h)) (λ n. omega (arith, rw n at h))
+
+usual-room : (f : Format) → 0 < dayEnd f usual
+unfolding dayEnd dayLengthOf
+usual-room f = by-test (carriesLeap f) (λ y. rw y (omega arith)) (λ n. rw n (omega arith))
+
+following-on-day : (f : Format) (t : Time) (year kind : ℕ) → known f ≡ true → 1 < year → member kind kinds ≡ true → t .hundredths < dayEnd f kind → t .hundredths % interval f ≡ 0
+    → onDay f (following f t year kind) (kindAfter t (following f t year kind) kind) ≡ true
+unfolding following kindAfter onDay
+following-on-day f t year kind k l m b g =
+    by-test (eqb (t .hundredths + interval f) (dayEnd f kind))
+    (λ y. rw (y, ne-eqb (t .day) (dayAfter (t .day) year) (day-moves (t .day) year l), lt-ltb 0 (dayEnd f usual) (usual-room f)))
+    (λ n.
+    let before : t .hundredths + interval f < dayEnd f kind = omega (arith, carries f k kind m (t .hundredths) b g, eqb-false (t .hundredths + interval f) (dayEnd f kind) n) in
+    rw (n, eq-eqb (t .day) (t .day) refl, m, lt-ltb (t .hundredths + interval f) (dayEnd f kind) before))
+
+next-step : (f : Format) (t u : Time) (year kind : ℕ) → stepOf f t year kind ≡ Next u → stepOf f u year (kindAfter t u kind) ≡ Next (following f u year (kindAfter t u kind))
 unfolding stepOf inYear
-step-stays f t year u h =
-    let s = went f t year u h in
-    let inside : u .day ≤ year = rw (s .to) at (following-inside f t year (s .from .first) (s .inside)) in
-    rw (s .format, is-on-format f u (step-on-format f t u (year, h)), s .length-is, le-leb (u .day) year inside)
+next-step f t u year kind h =
+    let p = went f t year kind u h in
+    let inside : u .day ≤ year = rw (p .to) at (following-inside f t year kind (p .from .first) (p .inside)) in
+    let there : onDay f u (kindAfter t u kind) ≡ true = rw (p .to) at (following-on-day f t year kind (p .format) (two-days year (year-is year (p .length-is))) (p .kind-is) (p .before) (p .from .grid)) in
+    let o = step-on-format f t u (year, kind, h) in
+    rw (p .format, is-on-format f u o, is-carried f u o, p .length-is, le-leb (u .day) year inside, there)
 
-next-is : (f : Format) (t : Time) (year : ℕ) (u : Time) → stepOf f t year ≡ Next u → stepOf f t year ≡ Next (nextTime f t year)
-unfolding nextTime
-next-is f t year u h = h ∙ ap Next (sym (ap (λ (s : Stepped). stepped s t) h))
+-- Step takes the time, the year length and the kind
+abbrev Steps : Format → Start → ℕ → Type 0
+Steps f s year = (u : Time) × (stepOf f (s .time) year (s .kind) ≡ Next u)
 
-begun-done : (a : Written) (s : Stepped) (t : Time) → begun a s ≡ Done → (a ≡ Done) × (s ≡ Next (stepped s t))
-begun-done Done (Next u) t h = (refl, refl)
-begun-done Done (Stepped.Refused x) t h = absurd (done x h)
-begun-done (Written.Refused x) (Next u) t h = absurd (done x h)
-begun-done (Written.Refused x) (Stepped.Refused y) t h = absurd (done x h)
+step-stays : (f : Format) (s : Start) (year : ℕ) → Steps f s year → Steps f (nextStart f s year) year
+unfolding nextStart
+step-stays f s year (u, h) = rw h (following f u year (kindAfter (s .time) u (s .kind)), next-step f (s .time) u year (s .kind) h)
+
+next-is : (f : Format) (s : Start) (year : ℕ) → Steps f s year → stepOf f (s .time) year (s .kind) ≡ Next (nextStart f s year .time)
+unfolding nextStart
+next-is f s year (u, h) = rw h
+
+begun-done : (a : Written) (p : Stepped) → begun a p ≡ Done → (a ≡ Done) × ((u : Time) × (p ≡ Next u))
+begun-done Done (Next u) h = (refl, (u, refl))
+begun-done Done (Stepped.Refused x) h = absurd (done x h)
+begun-done (Written.Refused x) (Next u) h = absurd (done x h)
+begun-done (Written.Refused x) (Stepped.Refused y) h = absurd (done x h)
+
+-- ---- the kind told is the first day's, and every later day is usual
+
+next-kind : (p : Stepped) (s : Start) → stepped p s .kind ≡ kindAfter (s .time) (stepped p s .time) (s .kind)
+unfolding kindAfter
+next-kind (Next u) s = refl
+next-kind (Stepped.Refused x) s = rw (eq-eqb (s .time .day) (s .time .day) refl)
+
+next-kind-at : (f : Format) (s : Start) (year k : ℕ) → startOf f s year (suc k) .kind ≡ kindAfter (startOf f s year k .time) (startOf f s year (suc k) .time) (startOf f s year k .kind)
+unfolding startOf nextStart
+next-kind-at f s year k = next-kind (stepOf f (startOf f s year k .time) year (startOf f s year k .kind)) (startOf f s year k)
+
+-- frames 0 to k are all of the first day
+unfoldable pub ofFirstDay : Format → Start → ℕ → ℕ → Bool
+ofFirstDay f s year zero = true
+ofFirstDay f s year (suc k) = ofFirstDay f s year k && eqb (s .time .day) (startOf f s year (suc k) .time .day)
+
+first-day : (f : Format) (s : Start) (year k : ℕ) → ofFirstDay f s year k ≡ true → s .time .day ≡ startOf f s year k .time .day
+unfolding ofFirstDay startOf
+first-day f s year zero h = refl
+first-day f s year (suc k) h = eqb-true (s .time .day) (startOf f s year (suc k) .time .day) (and-right (ofFirstDay f s year k) (eqb (s .time .day) (startOf f s year (suc k) .time .day)) h)
+
+usual-stays : (b : Bool) → cond b usual usual ≡ usual
+usual-stays true = refl
+usual-stays false = refl
+
+kind-turn : (b : Bool) (first day next told kind : ℕ) → kind ≡ cond b told usual → (b ≡ true → first ≡ day) → cond (eqb day next) kind usual ≡ cond (b && eqb first next) told usual
+kind-turn true first day next told kind p q = rw (p, q refl)
+kind-turn false first day next told kind p q = rw p (usual-stays (eqb day next))
+
+pub kind-at : (f : Format) (s : Start) (year k : ℕ) → startOf f s year k .kind ≡ cond (ofFirstDay f s year k) (s .kind) usual
+unfolding ofFirstDay startOf kindAfter
+kind-at f s year zero = refl
+kind-at f s year (suc k) =
+    next-kind-at f s year k
+    ∙ kind-turn (ofFirstDay f s year k) (s .time .day) (startOf f s year k .time .day) (startOf f s year (suc k) .time .day) (s .kind) (startOf f s year k .kind) (kind-at f s year k) (first-day f s year k)
+
+-- ---- the frames' text
 
 text-append : (f : Format) (xs ys : List Sent) → framesText f (xs ++ ys) ≡ framesText f xs ++ framesText f ys
 unfolding framesText
@@ -101,69 +167,77 @@ text-one f s = append-nil (lineOf f (s .time) (s .control))
 
 -- ---- after `begin`'s checks
 
-module _ (f : Format) (t : Time) (w year : ℕ) (b : begunOf f t w year ≡ Done) where
-  begins : (takenOf f t w ≡ Done) × (stepOf f t year ≡ Next (stepped (stepOf f t year) t))
+module _ (f : Format) (s : Start) (w year : ℕ) (b : begunOf f s w year ≡ Done) where
+  begins : (takenOf f (s .time) w ≡ Done) × Steps f s year
   unfolding begunOf
-  begins = begun-done (takenOf f t w) (stepOf f t year) t b
+  begins = begun-done (takenOf f (s .time) w) (stepOf f (s .time) year (s .kind)) b
 
-  valid : Valid f t w
+  valid : Valid f (s .time) w
   unfolding takenOf
-  valid = taken f t w (written f t w) (begins .0) .0
+  valid = taken f (s .time) w (written f (s .time) w) (begins .0) .0
 
-  step-at : (k : ℕ) → stepOf f (timeOf f t year k) year ≡ Next (timeOf f t year (suc k))
-  unfolding timeOf
-  step-at zero = next-is f t year (stepped (stepOf f t year) t) (begins .1)
-  step-at (suc k) = next-is f (timeOf f t year (suc k)) year (following f (timeOf f t year (suc k)) year) (step-stays f (timeOf f t year k) year (timeOf f t year (suc k)) (step-at k))
+  steps-at : (k : ℕ) → Steps f (startOf f s year k) year
+  unfolding startOf
+  steps-at zero = begins .1
+  steps-at (suc k) = step-stays f (startOf f s year k) year (steps-at k)
 
-  valid-at : (k : ℕ) → Valid f (timeOf f t year k) w
-  valid-at k = record { format = valid .format; time = went f (timeOf f t year k) year (timeOf f t year (suc k)) (step-at k) .from; room = valid .room }
+  -- no later step is refused
+  pub step-at : (k : ℕ) → stepOf f (startOf f s year k .time) year (startOf f s year k .kind) ≡ Next (startOf f s year (suc k) .time)
+  unfolding startOf
+  step-at k = next-is f (startOf f s year k) year (steps-at k)
+
+  abbrev timeAt : ℕ → Time
+  timeAt k = startOf f s year k .time
+
+  valid-at : (k : ℕ) → Valid f (timeAt k) w
+  valid-at k = record { format = valid .format; time = went f (timeAt k) year (startOf f s year k .kind) (timeAt (suc k)) (step-at k) .from; room = valid .room }
 
   abbrev frame : ℕ → Sent
-  frame k = record { time = timeOf f t year k; control = w }
+  frame k = record { time = timeAt k; control = w }
 
-  line-at : (k : ℕ) → lineFor f (timeOf f t year k) w ≡ lineOf f (timeOf f t year k) w
+  line-at : (k : ℕ) → lineFor f (timeAt k) w ≡ lineOf f (timeAt k) w
   unfolding lineFor takenOf
-  line-at k = rw (takes f (timeOf f t year k) w (written f (timeOf f t year k) w) (valid-at k) (length-written f (timeOf f t year k) w))
+  line-at k = rw (takes f (timeAt k) w (written f (timeAt k) w) (valid-at k) (length-written f (timeAt k) w))
 
   -- every frame's line is put
-  pub lines-are : (k : ℕ) → linesOf f t w year k ≡ framesText f (framesOf f t w year k)
+  pub lines-are : (k : ℕ) → linesOf f s w year k ≡ framesText f (framesOf f s w year k)
   unfolding linesOf framesOf framesText
   lines-are zero = refl
-  lines-are (suc k) = rw (lines-are k, line-at k, text-append f (framesOf f t w year k) (frame k ∷ []), text-one f (frame k))
+  lines-are (suc k) = rw (lines-are k, line-at k, text-append f (framesOf f s w year k) (frame k ∷ []), text-one f (frame k))
 
-  length-frames : (k : ℕ) → length (framesOf f t w year k) ≡ k
+  length-frames : (k : ℕ) → length (framesOf f s w year k) ≡ k
   unfolding framesOf
   length-frames zero = refl
-  length-frames (suc k) = length-append (framesOf f t w year k) (frame k ∷ []) ∙ ap (λ (n : ℕ). n + 1) (length-frames k) ∙ one k
+  length-frames (suc k) = length-append (framesOf f s w year k) (frame k ∷ []) ∙ ap (λ (n : ℕ). n + 1) (length-frames k) ∙ one k
     where
       one : (k : ℕ) → k + 1 ≡ suc k
       one k = omega arith
 
-  frame-at : (k j : ℕ) → j < k → getD (framesOf f t w year k) j noFrame ≡ frame j
+  frame-at : (k j : ℕ) → j < k → getD (framesOf f s w year k) j noFrame ≡ frame j
   unfolding framesOf
   frame-at zero j h = absurd (not-suc-le-zero h)
   frame-at (suc k) j h =
       by-test (ltb j k)
-      (λ y. List·getD-append (framesOf f t w year k) (frame k ∷ []) noFrame j (omega (arith, ltb-true j k y, length-frames k)) ∙ frame-at k j (ltb-true j k y))
-      (λ n. let last : j ≡ k = omega (arith, ltb-false j k n) in rw last (getD-at (framesOf f t w year k) (frame k) [] noFrame k (length-frames k)))
+      (λ y. List·getD-append (framesOf f s w year k) (frame k ∷ []) noFrame j (omega (arith, ltb-true j k y, length-frames k)) ∙ frame-at k j (ltb-true j k y))
+      (λ n. let last : j ≡ k = omega (arith, ltb-false j k n) in rw last (getD-at (framesOf f s w year k) (frame k) [] noFrame k (length-frames k)))
 
-  first-time : timeOf f t year 0 ≡ t
-  unfolding timeOf
-  first-time = refl
+  first-start : startOf f s year 0 ≡ s
+  unfolding startOf
+  first-start = refl
 
   -- They are the frames of a generator: all that is shown of generators is true of them.
-  pub is-generator : (k : ℕ) → Generator f (framesOf f t w year k)
+  pub is-generator : (k : ℕ) → Generator f (framesOf f s w year k)
   is-generator k =
       record {
         takes = λ j h lent n.
             let a : j < k = omega (arith, length-frames k) in
-            rw (frame-at k 0 (omega arith), frame-at k j a, first-time) (takes f t w lent valid n);
+            rw (frame-at k 0 (omega arith), frame-at k j a, first-start) (takes f (s .time) w lent valid n);
         steps = λ j h.
             let a : suc j < k = omega (arith, length-frames k) in
-            (year, rw (frame-at k j (omega arith), frame-at k (suc j) a) (step-at j));
+            (year, startOf f s year j .kind, rw (frame-at k j (omega arith), frame-at k (suc j) a) (step-at j));
       }
 
   -- What timeread prints of the first line and these lines is the listing of exactly the frames' elements.
-  pub recording-read : (k : ℕ) → printed (firstLine f ++ linesOf f t w year k) ≡ printedFor 0 0 (plainAnswers f [] (elements f (framesOf f t w year k)))
+  pub recording-read : (k : ℕ) → printed (firstLine f ++ linesOf f s w year k) ≡ printedFor 0 0 (plainAnswers f [] (elements f (framesOf f s w year k)))
   unfolding recordingText
-  recording-read k = rw (lines-are k) (recording-is-read f (framesOf f t w year k) (valid .format))
+  recording-read k = rw (lines-are k) (recording-is-read f (framesOf f s w year k) (valid .format))

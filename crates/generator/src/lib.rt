@@ -1,10 +1,11 @@
 // The lines of a generator's frames, as many at a time as lent memory has room for.
+// The day on which it starts has any kind that Step takes; every later day is usual.
 ghost use mathlib.Core.Path.{_≡_};
 ghost use mathlib.Core.List.{_++_};
-ghost use Prim.Native.Nat.{_-_, _<_, _≤_};
-ghost use lib.ListN.{length, take};
+ghost use Prim.Native.Nat.{_≤_};
+ghost use lib.ListN.{take};
 ghost use Rattle.timecode.specs.declared.Written.the-variants.{Done};
-ghost use Rattle.generator.specs.Sending.{begun, begunOf, nextTime, timeOf, lineFor, linesOf};
+ghost use Rattle.generator.specs.Sending.{begun, begunOf, kindAfter, nextStart, lineFor, Generates};
 use clock::step;
 use frametext::Lined;
 use frametext::frame_line;
@@ -14,9 +15,15 @@ use timecode::Stepped;
 use timecode::Time;
 use timecode::Written;
 
-// The time of the next frame, how many frames are left, and how many bytes were put.
-pub struct Generated {
+// Where frames start: the time of the first, and the kind of its day.
+pub struct Start {
     pub time: Time,
+    pub kind: u8,
+}
+
+// Where the next frame starts, how many frames are left, and how many bytes were put.
+pub struct Generated {
+    pub next: Start,
     pub left: u64,
     pub filled: usize,
 }
@@ -30,32 +37,46 @@ fn check_step(stepped: Stepped) -> Written
     }
 }
 
-// Whether there are such frames: Write's checks of the first of them, then Step's of the year length.
-pub fn begin(format: Format, time: Time, control: u64, year: u16) -> Written
-    ensures { λ r. ⌜ r ≡ begunOf format time control year ⌝ }
+// Whether there are such frames: Write's checks of the first of them, then Step's of its time, the year length and the kind.
+pub fn begin(format: Format, start: Start, control: u64, year: u16) -> Written
+    ensures { λ r. ⌜ r ≡ begunOf format start control year ⌝ }
 {
     let mut first = [0u8; 256];
-    let lined = frame_line(format, time, control, &mut first);
+    let lined = frame_line(format, start.time, control, &mut first);
     match lined {
-        Lined::Line(_) => check_step(step(format, time, year)),
+        Lined::Line(_) => check_step(step(format, start.time, year, start.kind)),
         Lined::Refused(refusal) => Written::Refused(refusal),
     }
 }
 
-// A refused step leaves the time; after `begin` none is.
-fn next_time(format: Format, time: Time, year: u16) -> Time
-    ensures { λ r. ⌜ r ≡ nextTime format time year ⌝ }
+// The kind belongs to the first day alone.
+fn kind_after(time: Time, next: Time, kind: u8) -> u8
+    ensures { λ r. ⌜ r ≡ kindAfter time next kind ⌝ }
 {
-    let stepped = step(format, time, year);
+    if time.day == next.day {
+        return kind;
+    }
+    Time::USUAL_DAY
+}
+
+// A refused step leaves the start; after `begin` none is.
+fn next_start(format: Format, start: Start, year: u16) -> Start
+    ensures { λ r. ⌜ r ≡ nextStart format start year ⌝ }
+{
+    let time = start.time;
+    let stepped = step(format, time, year, start.kind);
     match stepped {
-        Stepped::Next(next) => next,
-        Stepped::Refused(_) => time,
+        Stepped::Next(next) => Start {
+            time: next,
+            kind: kind_after(time, next, start.kind),
+        },
+        Stepped::Refused(_) => start,
     }
 }
 
-fn put_next(out: &mut [u8], at: usize, format: Format, time: Time, control: u64) -> usize
-    requires { ⌜ (at ≤ 65280) × (length (now out) ≡ 65536) ⌝ }
-    ensures { λ r. ⌜ (r ≤ 65536) × (length (now (out .exit)) ≡ 65536) × (take r (now (out .exit)) ≡ take at (now (out .entry)) ++ lineFor format time control) ⌝ }
+fn put_next(out: &mut [u8; 65536], at: usize, format: Format, time: Time, control: u64) -> usize
+    requires { ⌜ at ≤ 65280 ⌝ }
+    ensures { λ r. ⌜ (r ≤ 65536) × (take r (now (out .exit)) ≡ take at (now (out .entry)) ++ lineFor format time control) ⌝ }
 {
     let mut line = [0u8; 256];
     let lined = frame_line(format, time, control, &mut line);
@@ -65,42 +86,28 @@ fn put_next(out: &mut [u8], at: usize, format: Format, time: Time, control: u64)
     }
 }
 
-fn fill(
-    out: &mut [u8],
-    format: Format,
-    time: Time,
-    control: u64,
-    year: u16,
-    frames: u64,
-) -> Generated
-    requires { ⌜ length (now out) ≡ 65536 ⌝ }
-    ensures { λ r. ⌜ (length (now (out .exit)) ≡ 65536) × (r .filled ≤ 65536) × (r .left ≤ frames) × (r .time ≡ timeOf format time year (frames - r .left)) × (take (r .filled) (now (out .exit)) ≡ linesOf format time control year (frames - r .left)) × (1 ≤ frames → r .left < frames) × (r .filled ≤ 65280 → r .left ≡ 0) ⌝ }
-{
-    let mut next = time;
-    let mut left = frames;
-    let mut filled = 0;
-    while 0 < left && filled <= 65_280 {
-        filled = put_next(out, filled, format, next, control);
-        next = next_time(format, next, year);
-        left -= 1;
-    }
-    Generated {
-        time: next,
-        left: left,
-        filled: filled,
-    }
-}
-
 // Puts the lines of the first of so many frames: all of them, unless the lent memory has no room for one line more.
 pub fn generate(
     out: &mut [u8; 65536],
     format: Format,
-    time: Time,
+    start: Start,
     control: u64,
     year: u16,
     frames: u64,
 ) -> Generated
-    ensures { λ r. ⌜ (length (now (out .exit)) ≡ 65536) × (r .filled ≤ 65536) × (r .left ≤ frames) × (r .time ≡ timeOf format time year (frames - r .left)) × (take (r .filled) (now (out .exit)) ≡ linesOf format time control year (frames - r .left)) × (1 ≤ frames → r .left < frames) × (r .filled ≤ 65280 → r .left ≡ 0) ⌝ }
+    ensures { λ r. ⌜ Generates format start control year frames r (now (out .exit)) ⌝ }
 {
-    fill(out, format, time, control, year, frames)
+    let mut next = start;
+    let mut left = frames;
+    let mut filled = 0;
+    while 0 < left && filled <= 65_280 {
+        filled = put_next(out, filled, format, next.time, control);
+        next = next_start(format, next, year);
+        left -= 1;
+    }
+    Generated {
+        next: next,
+        left: left,
+        filled: filled,
+    }
 }

@@ -332,7 +332,7 @@ fn year_of(case: Case, j: u64) -> u16 {
 
 // A refused step leaves the time, and the next frame says it again.
 fn time_after(format: Format, time: Time, year: u16) -> Time {
-    let stepped = step(format, time, year);
+    let stepped = step(format, time, year, Time::USUAL_DAY);
     match stepped {
         Stepped::Next(next) => next,
         Stepped::Refused(_) => time,

@@ -3,7 +3,7 @@
 ghost use mathlib.Core.Path.{_≡_};
 ghost use Prim.Native.Nat.{_≤_};
 ghost use lib.ListN.{set};
-ghost use Rattle.timecode.specs.Formats.{known, size, interval};
+ghost use Rattle.timecode.specs.Formats.{known, size, interval, carriesLeap};
 ghost use Rattle.timecode.specs.declared.Format.{Format};
 ghost use Rattle.layout.specs.Tables.{RowFor, startsOf, widthsOf, markPlaces};
 use timecode::Format;
@@ -147,6 +147,19 @@ pub fn frame_interval(format: Format) -> u32
 {
     let row = row_of(format.letter);
     row.interval
+}
+
+// A, B and G carry an added or taken second.
+pub fn carries_leap(format: Format) -> bool
+    ensures { λ r. ⌜ r ≡ carriesLeap format ⌝ }
+{
+    if format.letter == b'A' {
+        return true;
+    }
+    if format.letter == b'B' {
+        return true;
+    }
+    format.letter == b'G'
 }
 
 pub fn mark_places() -> [u8; 11]

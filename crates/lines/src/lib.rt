@@ -71,15 +71,17 @@ fn put_pair(line: &mut [u8], at: usize, number: u64, separator: u8) -> usize
     put(line, behind, separator)
 }
 
-// hh:mm:ss.cc and a space.
+// hh:mm:ss.cc and a space; the added second is one more than the second before it, 23:59:60.
 fn put_clock(line: &mut [u8], at: usize, hundredths: u32) -> usize
     requires { ⌜ (at + 12 ≤ 64) × (length (now line) ≡ 64) ⌝ }
     ensures { λ r. ⌜ (r ≡ at + 12) × (length (now (line .exit)) ≡ 64) × (take r (now (line .exit)) ≡ take at (now (line .entry)) ++ clockOf hundredths) ⌝ }
 {
     let c = hundredths as u64;
-    let hour = put_pair(line, at, c / 100 / 60 / 60, b':');
-    let minute = put_pair(line, hour, c / 100 / 60 % 60, b':');
-    let second = put_pair(line, minute, c / 100 % 60, b'.');
+    let added = c / 8_640_000;
+    let usual = c / 100 - added;
+    let hour = put_pair(line, at, usual / 60 / 60, b':');
+    let minute = put_pair(line, hour, usual / 60 % 60, b':');
+    let second = put_pair(line, minute, usual % 60 + added, b'.');
     put_pair(line, second, c % 100, b' ')
 }
 

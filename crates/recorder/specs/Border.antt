@@ -30,8 +30,8 @@ writeSaid letter expression day hundredths control frame = writtenSaid (writeOf 
 abbrev pub readSaid : ℕ → ℕ → List ℕ → Said
 readSaid letter expression frame = readingSaid (readOf (formatOf letter expression) frame)
 
-abbrev pub stepSaid : ℕ → ℕ → ℕ → ℕ → ℕ → Said
-stepSaid letter expression day hundredths year = steppedSaid (stepOf (formatOf letter expression) (timeOf day hundredths) year)
+abbrev pub stepSaid : ℕ → ℕ → ℕ → ℕ → ℕ → ℕ → Said
+stepSaid letter expression day hundredths year kind = steppedSaid (stepOf (formatOf letter expression) (timeOf day hundredths) year kind)
 
 abbrev pub differenceSaid : ℕ → ℕ → ℕ → ℕ → Said
 differenceSaid firstDay firstHundredths secondDay secondHundredths = subtractedSaid (differenceOf (timeOf firstDay firstHundredths) (timeOf secondDay secondHundredths))

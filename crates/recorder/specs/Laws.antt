@@ -26,6 +26,8 @@ use Rattle.timecode.specs.declared.Refusal.the-variants.{
   InvalidYearLength,
   StartPastEnd,
   InvalidReader,
+  SecondNotCarried,
+  InvalidKind,
 }
 use Rattle.stream.specs.Feeding.{freshReader, madeOf, isValid, answerOf}
 use Rattle.stream.specs.declared.Made.{Made}
@@ -46,6 +48,8 @@ refusal-numbered InvalidInterval = refl
 refusal-numbered InvalidYearLength = refl
 refusal-numbered StartPastEnd = refl
 refusal-numbered InvalidReader = refl
+refusal-numbered SecondNotCarried = refl
+refusal-numbered InvalidKind = refl
 
 -- the reader made, or another where it is refused
 abbrev madeOr : Reader → Made → Reader

@@ -75,6 +75,8 @@ fn put_index(refusal: Refusal, index: &mut usize)
         Refusal::InvalidYearLength => {}
         Refusal::StartPastEnd => {}
         Refusal::InvalidReader => {}
+        Refusal::SecondNotCarried => {}
+        Refusal::InvalidKind => {}
     }
 }
 
@@ -200,7 +202,7 @@ pub extern "C" fn duskveyra_read(
     }
 }
 
-// Step: the next time.
+// Step: the next time. The kind is that of the given time's day.
 #[no_mangle]
 pub extern "C" fn duskveyra_step(
     letter: u8,
@@ -208,16 +210,18 @@ pub extern "C" fn duskveyra_step(
     day: u16,
     hundredths: u32,
     year_length: u16,
+    kind: u8,
     next_day: &mut u16,
     next_hundredths: &mut u32,
 ) -> u8
-    ensures { λ r. ⌜ r ≡ stepSaid letter expression day hundredths «year_length» .number ⌝ }
-    ensures { λ _. ⌜ pos (now («next_day» .exit)) ∷ pos (now («next_hundredths» .exit)) ∷ [] ≡ valuesLeft (stepSaid letter expression day hundredths «year_length») (pos (now («next_day» .entry)) ∷ pos (now («next_hundredths» .entry)) ∷ []) ⌝ }
+    ensures { λ r. ⌜ r ≡ stepSaid letter expression day hundredths «year_length» kind .number ⌝ }
+    ensures { λ _. ⌜ pos (now («next_day» .exit)) ∷ pos (now («next_hundredths» .exit)) ∷ [] ≡ valuesLeft (stepSaid letter expression day hundredths «year_length» kind) (pos (now («next_day» .entry)) ∷ pos (now («next_hundredths» .entry)) ∷ []) ⌝ }
 {
     let stepped = step(
         format_of(letter, expression),
         time_of(day, hundredths),
         year_length,
+        kind,
     );
     match stepped {
         Stepped::Next(time) => {

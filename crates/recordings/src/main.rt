@@ -1,5 +1,6 @@
 // For each recording that an argument names: its name, and what timeread prints of it.
-// The expected lines are not this program's: they came with the recordings, and for those named own_ they are the plain version's in reference/.
+// The expected lines are not this program's: they came with the recordings, and for those named own_, and for leap_added_A0,
+// which the leap second changed, they are the plain version's in reference/.
 fn print_recording(argument: usize) {
     let mut name = io::buffer();
     let n = os::arg(argument, &mut name);

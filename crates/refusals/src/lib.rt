@@ -1,4 +1,4 @@
-// Document 01's number of a refusal, for programs and callers that take numbers alone.
+// The number of a refusal, for programs and callers that take numbers alone.
 ghost use mathlib.Core.Path.{_≡_};
 ghost use Rattle.timecode.specs.Answers.{number};
 use timecode::Refusal;
@@ -20,5 +20,7 @@ pub fn number_of(refusal: Refusal) -> u8
         Refusal::InvalidYearLength => 11,
         Refusal::StartPastEnd => 12,
         Refusal::InvalidReader => 13,
+        Refusal::SecondNotCarried => 14,
+        Refusal::InvalidKind => 15,
     }
 }

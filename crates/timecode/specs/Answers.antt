@@ -1,4 +1,4 @@
--- Document 01, "Numbers a call refuses with": the number and the values of each case of each answer.
+-- Document 01, "Numbers a call refuses with": the number and the values of each case of each answer. 14 and 15 are document 02's.
 use mathlib.Core.Bool.{Bool, true, false}
 use mathlib.Core.List.{List, [], _∷_}
 use Prim.Native.Nat.{ℕ, _-_}
@@ -25,6 +25,8 @@ use Rattle.timecode.specs.declared.Refusal.the-variants.{
   InvalidYearLength,
   StartPastEnd,
   InvalidReader,
+  SecondNotCarried,
+  InvalidKind,
 }
 use Rattle.timecode.specs.declared.Scanned.{Scanned}
 use Rattle.timecode.specs.declared.Scanned.the-variants.{Found, None}
@@ -50,13 +52,15 @@ number InvalidInterval = 10
 number InvalidYearLength = 11
 number StartPastEnd = 12
 number InvalidReader = 13
+number SecondNotCarried = 14
+number InvalidKind = 15
 
 -- the refusal with the number k; i is the index that 5 and 6 carry
 abbrev pub refusal : ℕ → ℕ → Refusal
 refusal k i =
     getD
     (UnknownFormat ∷ InvalidTime ∷ WrongLength ∷ UnknownSymbol ∷ MisplacedMark i ∷ InvalidElement i ∷ InvalidDigit
-    ∷ SecondsDiffer ∷ ControlTooLong ∷ InvalidInterval ∷ InvalidYearLength ∷ StartPastEnd ∷ InvalidReader ∷ [])
+    ∷ SecondsDiffer ∷ ControlTooLong ∷ InvalidInterval ∷ InvalidYearLength ∷ StartPastEnd ∷ InvalidReader ∷ SecondNotCarried ∷ InvalidKind ∷ [])
     (k - 1)
     UnknownFormat
 
@@ -84,6 +88,8 @@ index InvalidInterval = []
 index InvalidYearLength = []
 index StartPastEnd = []
 index InvalidReader = []
+index SecondNotCarried = []
+index InvalidKind = []
 
 -- a refusal carries its number, with 5 and 6 the index, and no value beside
 abbrev pub refused : Refusal → Said

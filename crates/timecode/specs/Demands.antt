@@ -1,6 +1,6 @@
 -- The demands, stated over the definitions and proved for every format, time, control word, list and length.
 use mathlib.Core.Path.{_≡_, refl, sym, ap, _∙_}
-use mathlib.Core.Bool.{true}
+use mathlib.Core.Bool.{true, false}
 use mathlib.Core.List.{List, [], _∷_, _++_}
 use mathlib.Core.Logic.{_↔_, _⊎_}
 use Prim.Native.Nat.{ℕ, suc, _+_, _*_, _-_, _/_, _%_, _<_, _≤_}
@@ -8,21 +8,23 @@ use native.Mathlib.Nat.{div-add-mod, mod-lt, mul-le-mul-left}
 use native.Mathlib.Omega.{arith}
 use lib.ListN.{getD, length, take, drop, set, replicate, length-replicate, length-drop, length-set}
 use lib.Seq.{length-take-le}
-use Rattle.timecode.specs.Answers.{refusal}
+use Rattle.timecode.specs.Answers.{number, refusal}
 use Rattle.timecode.specs.Calls.{scanOf}
-use Rattle.timecode.specs.Formats.{size, onFormat}
-use Rattle.timecode.specs.Frames.{Follows, nextAfter, writeOf, writeLeaves, readOf, Sent, Generator, elements}
+use Rattle.timecode.specs.Formats.{member, size, lastHundredth, dayLength, onFormat, carriesLeap, secondCarried}
+use Rattle.timecode.specs.Frames.{usual, kinds, sameDay, nextDay, stepOf, Follows, nextAfter, writeOf, writeLeaves, readOf, Sent, Generator, elements}
 use Rattle.timecode.specs.Laws.Checks.{accepted, by-reading}
-use Rattle.timecode.specs.Laws.Existence.{frames, length-frames, control-at, first-time, generator}
+use Rattle.timecode.specs.Laws.Existence.{frames, length-frames, control-at, first-time, generator, goes-on}
 use Rattle.timecode.specs.Laws.Generators.{sentAt, length-elements, EndsFrame}
 use Rattle.timecode.specs.Laws.Machine.{feed-accepts, feed-refuses, EndsInFrames, held-elements, answer-no-refusal, feed-reports, SameWindow, same-answer, same-answers, answers-behind}
 use Rattle.timecode.specs.Laws.Marks.{size-positive}
-use Rattle.timecode.specs.Laws.Reading.{accepted-was-written}
+use Rattle.timecode.specs.Laws.Reading.{accepted-was-written, refused-up-to-8}
 use Rattle.timecode.specs.Laws.Scanning.{LowestAt, NowhereAt, scan-found, scan-none}
-use Rattle.timecode.specs.Laws.Stepping.{step-on-format, next-follows, follows-next, YearTurn, successors}
+use Rattle.timecode.specs.Laws.Stepping.{step-on-format, steps-usual, next-follows, follows-next, three, Turn, successors}
 use Rattle.timecode.specs.Laws.Streams.{among-le, part-report, part-intact, part-replaced, part-whole, stream-replaced, report, first-report}
-use Rattle.timecode.specs.Laws.Times.{is-on-format}
+use Rattle.timecode.specs.Laws.Successors.{Apart, apart}
+use Rattle.timecode.specs.Laws.Times.{is-on-format, is-carried, none-added, one-added}
 use Rattle.timecode.specs.Laws.Writing.{written-is-accepted, taken, takes, leaves}
+use Rattle.timecode.specs.Layout.{second, minute, hour}
 use Rattle.timecode.specs.Stream.{windowLength, plainAnswer, Plain, plainFeed, plainAnswers, plainHeld, elementsOf}
 use Rattle.timecode.specs.declared.Answer.{Answer}
 use Rattle.timecode.specs.declared.Answer.the-variants.{Quiet, Report}
@@ -59,6 +61,18 @@ refused-exactly-when-unwritten f bytes = (
   λ refused t w writes. accepted t w (refused .0) (sym (refused .1) ∙ accepted-exactly-when-written f bytes t w .1 writes),
   λ none. by-reading (readOf f bytes) (λ x h. (x, h)) (λ t w h. absurd (none t w (accepted-exactly-when-written f bytes t w .0 h))),
 )
+
+-- Read refuses with numbers up to 8 alone, never with 14.
+pub read-refuses-up-to-8 : (f : Format) (bytes : List ℕ) (r : Refusal) → readOf f bytes ≡ Reading.Refused r → number r ≤ 8
+read-refuses-up-to-8 = refused-up-to-8
+
+-- The added second is written and read as 23:59:60 and SBS 86,400.
+pub added-second-is-the-61st : (c : ℕ) → dayLength ≤ c → c ≤ lastHundredth → (hour c ≡ 23) × (minute c ≡ 59) × (second c ≡ 60) × (c / 100 ≡ 86400)
+added-second-is-the-61st c a b = let d = one-added c a b in (d .2, d .1, d .0, omega arith)
+
+-- Before it seconds, minutes and hours are those of 86,400 seconds.
+pub other-seconds-are-usual : (c : ℕ) → c < dayLength → (hour c ≡ c / 100 / 60 / 60) × (minute c ≡ c / 100 / 60 % 60) × (second c ≡ c / 100 % 60)
+other-seconds-are-usual c h = let d = none-added c h in (d .2, d .1, d .0)
 
 -- ---- Demand 3, of the plain machine. A list of Feeds starts with a fresh one, which holds nothing.
 
@@ -136,6 +150,11 @@ generators-exist f t ws h = (
   control-at f t ws,
 )
 
+-- Each goes on with any time that follows its last one, so with any year length and kind that Step takes, and with any control word that Write takes.
+pub generators-go-on : (f : Format) (sent : List Sent) (s : Sent) → Generator f sent → 0 < length sent → Follows f (sentAt sent (length sent - 1) .time) (s .time)
+    → ((lent : List ℕ) → length lent ≡ size f → writeOf f (sentAt sent 0 .time) (s .control) lent ≡ Done) → Generator f (sent ++ (s ∷ []))
+generators-go-on f sent s = goes-on sent s f
+
 -- ---- Two readers of one format, each fed from fresh, whose last 2n + 1 elements agree gave the same answer to the newest of them, and give the same answers, refusals too, to the same symbols after it.
 
 pub same-window-same-answers : (f : Format) (ss rs : List ℕ) → SameWindow f (elementsOf ss) (elementsOf rs)
@@ -150,16 +169,29 @@ same-window-same-answers f ss rs w = (
       ∙ sym (answers-behind f [] rs xs),
 )
 
--- ---- Step: a step of a time on the format is on the format; next after is some step; the times that follow one are the same, or day 1 and day 366 at midnight.
+-- ---- Step, for every kind of day: a step is a time that Write takes; next after is some step; the times that follow one, and how they differ.
 
-pub step-stays-on-format : (f : Format) (t u : Time) → Follows f t u → onFormat f u ≡ true
-step-stays-on-format f t u s = is-on-format f u (step-on-format f t u s)
+pub step-stays-on-format : (f : Format) (t u : Time) → Follows f t u → (onFormat f u ≡ true) × (secondCarried f u ≡ true)
+step-stays-on-format f t u s = let o = step-on-format f t u s in (is-on-format f u o, is-carried f u o)
+
+-- D, E and H step as usual for every kind.
+pub step-as-usual-without-leap : (f : Format) (t : Time) (year kind : ℕ) → carriesLeap f ≡ false → member kind kinds ≡ true → stepOf f t year kind ≡ stepOf f t year usual
+step-as-usual-without-leap = steps-usual
 
 pub next-after-exactly-when-some-step : (f : Format) (t u : Time) → (nextAfter f t u ≡ true) ↔ Follows f t u
 next-after-exactly-when-some-step f t u = (next-follows f t u, follows-next f t u)
 
-pub two-that-follow : (f : Format) (t u v : Time) → Follows f t u → Follows f t v → (u ≡ v) ⊎ (YearTurn u v ⊎ YearTurn v u)
+-- Up to three times follow one: the next frame of its day, and the first of the day after in a year of 365 or 366 days.
+pub three-may-follow : (f : Format) (t u : Time) → Follows f t u → (u ≡ sameDay f t) ⊎ ((u ≡ nextDay t 365) ⊎ (u ≡ nextDay t 366))
+three-may-follow = three
+
+-- Two of them are the same, or day 1 and day 366 at midnight, or 23:59:59 or 23:59:60 and midnight in A, B or G.
+pub two-that-follow : (f : Format) (t u v : Time) → Follows f t u → Follows f t v → (u ≡ v) ⊎ (Turn f u v ⊎ Turn f v u)
 two-that-follow = successors
+
+-- Two that are not the same are written at least seven elements apart, whatever the control words.
+pub two-that-follow-are-apart : (f : Format) (t u v : Time) → Follows f t u → Follows f t v → (u ≡ v) ⊎ Apart f u v
+two-that-follow-are-apart = apart
 
 -- ---- Scan answers the lowest place, at least 1 and at least the start, where a mark stands before and Read accepts; None exactly if there is none.
 

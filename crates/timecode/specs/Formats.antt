@@ -1,8 +1,9 @@
 -- Document 01, "Elements and formats": the formats, their table, and the times that lie on them.
-use mathlib.Core.Bool.{Bool, false, cond, _&&_, _||_}
+-- Document 02, "Leap second": a second may be added to a day or taken from it; A, B and G carry that.
+use mathlib.Core.Bool.{Bool, true, false, cond, _&&_, _||_}
 use mathlib.Core.List.{List, [], _∷_}
 use Prim.Native.Nat.{ℕ, _%_}
-use lib.Dec.{leb, eqb}
+use lib.Dec.{leb, ltb, eqb}
 use Rattle.timecode.specs.declared.Format.{Format}
 use Rattle.timecode.specs.declared.Time.{Time}
 
@@ -82,14 +83,14 @@ carriesControl f = member (f .expression) (0 ∷ 1 ∷ [])
 unfoldable pub carriesSeconds : Format → Bool
 carriesSeconds f = member (f .expression) (0 ∷ 3 ∷ [])
 
--- A time is a day (1 to 366) and c, hundredths of a second since midnight (0 to 8,639,999).
+-- A time is a day (1 to 366) and c, hundredths of a second since midnight (0 to 8,640,099: a day may have a second added).
 abbrev pub lastDay : ℕ
 lastDay = 366
 
 abbrev pub lastHundredth : ℕ
-lastHundredth = 8639999
+lastHundredth = 8640099
 
--- every day has 86,400 seconds
+-- a usual day has 86,400 seconds; the added second begins there
 abbrev pub dayLength : ℕ
 dayLength = 8640000
 
@@ -99,3 +100,11 @@ inRange t = leb 1 (t .day) && (leb (t .day) lastDay && leb (t .hundredths) lastH
 -- number 2: day and c are in range, and S divides c
 unfoldable pub onFormat : Format → Time → Bool
 onFormat f t = inRange t && eqb (t .hundredths % interval f) 0
+
+-- A, B and G carry an added or taken second; D, E and H do not.
+unfoldable pub carriesLeap : Format → Bool
+carriesLeap f = member (f .letter) (A ∷ B ∷ G ∷ [])
+
+-- number 14: the time is not in the added second, or the format carries it
+unfoldable pub secondCarried : Format → Time → Bool
+secondCarried f t = cond (carriesLeap f) true (ltb (t .hundredths) dayLength)

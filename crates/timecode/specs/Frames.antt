@@ -1,4 +1,5 @@
 -- Document 01, "Stepping, writing, reading": Step and next after, Write, Read, and the generator.
+-- Document 02, "Leap second": Step is told the kind of the earlier time's day, and 23:59:60 is read where it is carried.
 use mathlib.Core.Path.{_≡_}
 use mathlib.Core.Bool.{Bool, true, false, cond, _&&_, _||_}
 use mathlib.Core.List.{List, [], _∷_, _++_}
@@ -6,7 +7,7 @@ use Prim.Native.Nat.{ℕ, suc, _+_, _*_, _/_, _^_, _<_}
 use lib.Dec.{leb, ltb, eqb}
 use lib.ListN.{getD, length}
 use Rattle.timecode.specs.Answers.{refusal, check}
-use Rattle.timecode.specs.Formats.{member, isSymbol, known, size, interval, lastDay, dayLength, onFormat}
+use Rattle.timecode.specs.Formats.{member, isSymbol, known, size, interval, lastDay, dayLength, onFormat, carriesLeap, secondCarried}
 use Rattle.timecode.specs.Layout.{Run, Field, seconds, minutes, hours, days, tenths, hundredths, hasSeconds, straightSeconds, control, timeFields, fields, flatten, runs, numbers, spread, inRun, rest, encode, digitIn, numberIn}
 use Rattle.timecode.specs.declared.Format.{Format}
 use Rattle.timecode.specs.declared.Reading.{Reading}
@@ -30,24 +31,56 @@ inYear t year = member year yearLengths && leb (t .day) year
 unfoldable pub dayAfter : ℕ → ℕ → ℕ
 dayAfter day year = cond (eqb day year) 1 (day + 1)
 
--- c + S, or at 8,640,000 the day after and c = 0
-unfoldable pub following : Format → Time → ℕ → Time
-following f t year =
-    cond (eqb (t .hundredths + interval f) dayLength)
-    (record { day = dayAfter (t .day) year; hundredths = 0 })
-    (record { day = t .day; hundredths = t .hundredths + interval f })
+-- The kind of a day: usual, a second added, a second taken.
+abbrev pub usual : ℕ
+usual = 0
 
--- Step checks 1, 2, 11.
-unfoldable pub stepOf : Format → Time → ℕ → Stepped
-stepOf f t year =
+abbrev pub secondAdded : ℕ
+secondAdded = 1
+
+abbrev pub secondTaken : ℕ
+secondTaken = 2
+
+abbrev pub kinds : List ℕ
+kinds = usual ∷ secondAdded ∷ secondTaken ∷ []
+
+-- 86,400 seconds, 86,401 or 86,399
+unfoldable pub dayLengthOf : ℕ → ℕ
+dayLengthOf kind = cond (eqb kind secondAdded) 8640100 (cond (eqb kind secondTaken) 8639900 dayLength)
+
+-- where a day of the kind ends; D, E and H step as usual for every kind
+unfoldable pub dayEnd : Format → ℕ → ℕ
+dayEnd f kind = cond (carriesLeap f) (dayLengthOf kind) dayLength
+
+-- number 15: the kind is at most 2, and c is not past the end of a day of that kind (in D, E and H 14 has asked that before)
+unfoldable pub onDay : Format → Time → ℕ → Bool
+onDay f t kind = member kind kinds && ltb (t .hundredths) (dayEnd f kind)
+
+-- the next frame of the same day
+abbrev pub sameDay : Format → Time → Time
+sameDay f t = record { day = t .day; hundredths = t .hundredths + interval f }
+
+-- the first frame of the day after
+abbrev pub nextDay : Time → ℕ → Time
+nextDay t year = record { day = dayAfter (t .day) year; hundredths = 0 }
+
+-- c + S, or at the day's end the day after and c = 0
+unfoldable pub following : Format → Time → ℕ → ℕ → Time
+following f t year kind = cond (eqb (t .hundredths + interval f) (dayEnd f kind)) (nextDay t year) (sameDay f t)
+
+-- Step checks 1, 2, 14, 11, 15. The kind is that of the earlier time's day.
+unfoldable pub stepOf : Format → Time → ℕ → ℕ → Stepped
+stepOf f t year kind =
     check Stepped.Refused 1 (known f)
     (check Stepped.Refused 2 (onFormat f t)
+    (check Stepped.Refused 14 (secondCarried f t)
     (check Stepped.Refused 11 (inYear t year)
-    (Next (following f t year))))
+    (check Stepped.Refused 15 (onDay f t kind)
+    (Next (following f t year kind))))))
 
--- u is the step of t for a year length that Step takes
+-- u is the step of t for a year length and a kind that Step takes
 abbrev pub Follows : Format → Time → Time → Type 0
-Follows f t u = (year : ℕ) × (stepOf f t year ≡ Next u)
+Follows f t u = (year : ℕ) × (kind : ℕ) × (stepOf f t year kind ≡ Next u)
 
 abbrev pub sameTime : Time → Time → Bool
 sameTime t u = eqb (t .day) (u .day) && eqb (t .hundredths) (u .hundredths)
@@ -60,9 +93,9 @@ abbrev pub any : (ℕ → Bool) → List ℕ → Bool
 any p [] = false
 any p (x ∷ xs) = p x || any p xs
 
--- Without a known year, u is next after t if one of the two lengths gives it. Day 366 counts only with 366: Step refuses it with 365.
+-- Without a known year and kind, u is next after t if some year length and some kind give it. Day 366 counts only with 366: Step refuses it with 365.
 unfoldable pub nextAfter : Format → Time → Time → Bool
-nextAfter f t u = any (λ year. gives (stepOf f t year) u) yearLengths
+nextAfter f t u = any (λ year. any (λ kind. gives (stepOf f t year kind) u) kinds) yearLengths
 
 -- ---- Write
 
@@ -79,14 +112,15 @@ totalWidth (r ∷ rs) = r .width + totalWidth rs
 unfoldable pub controlFits : Format → ℕ → Bool
 controlFits f w = ltb w (2 ^ totalWidth (control f))
 
--- Write checks 1, 2, 9, 3.
+-- Write checks 1, 2, 14, 9, 3.
 unfoldable pub writeOf : Format → Time → ℕ → List ℕ → Written
 writeOf f t w lent =
     check Written.Refused 1 (known f)
     (check Written.Refused 2 (onFormat f t)
+    (check Written.Refused 14 (secondCarried f t)
     (check Written.Refused 9 (controlFits f w)
     (check Written.Refused 3 (eqb (length lent) (size f))
-    Done)))
+    Done))))
 
 -- lent memory after a call: new contents where it was done, and the old where it was refused
 abbrev pub left : Written → List ℕ → List ℕ → List ℕ
@@ -127,13 +161,17 @@ abbrev pub areDigits : List ℕ → List Run → Bool
 areDigits frame [] = true
 areDigits frame (r ∷ rs) = leb (digitIn frame r) 9 && areDigits frame rs
 
--- number 7: no digit over 9, hours over 23, minutes or seconds over 59, day 0 or over 366
+-- the last second of a minute: the 61st at 23:59 only, in A, B and G only
+unfoldable pub lastSecond : Format → ℕ → ℕ → ℕ
+lastSecond f hour minute = cond (carriesLeap f && (eqb hour 23 && eqb minute 59)) 60 59
+
+-- number 7: no digit over 9, hours over 23, minutes over 59, seconds over the minute's last, day 0 or over 366
 unfoldable pub isTime : Format → List ℕ → Bool
 isTime f frame =
     areDigits frame (flatten (timeFields f))
     && (leb (numberIn frame (hours f)) 23
     && (leb (numberIn frame (minutes f)) 59
-    && (leb (numberIn frame (seconds f)) 59
+    && (leb (numberIn frame (seconds f)) (lastSecond f (numberIn frame (hours f)) (numberIn frame (minutes f)))
     && (leb 1 (numberIn frame (days f)) && leb (numberIn frame (days f)) lastDay))))
 
 -- the time that the digits say
@@ -170,7 +208,7 @@ pub record Sent : Type 0 where
 abbrev pub noFrame : Sent
 noFrame = record { time = record { day = 0; hundredths = 0 }; control = 0 }
 
--- Its first time and all its control words are any that Write takes. Each time is the step of the last for a year length that Step takes.
+-- Its first time and all its control words are any that Write takes. Each time is the step of the last for a year length and a kind that Step takes, chosen anew at each step.
 pub record Generator (f : Format) (sent : List Sent) : Type 0 where
   pub takes : (j : ℕ) → j < length sent → (lent : List ℕ) → length lent ≡ size f → writeOf f (getD sent 0 noFrame .time) (getD sent j noFrame .control) lent ≡ Done
   pub steps : (j : ℕ) → suc j < length sent → Follows f (getD sent j noFrame .time) (getD sent (suc j) noFrame .time)

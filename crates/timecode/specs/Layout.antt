@@ -4,7 +4,7 @@ use mathlib.Core.List.{List, [], _∷_, _++_, map}
 use Prim.Native.Nat.{ℕ, zero, suc, _+_, _*_, _-_, _/_, _%_, _^_}
 use lib.Dec.{leb, ltb, eqb}
 use lib.ListN.{getD}
-use Rattle.timecode.specs.Formats.{A, B, E, G, H, member, rowOf, carriesControl, carriesSeconds}
+use Rattle.timecode.specs.Formats.{A, B, E, G, H, member, rowOf, carriesControl, carriesSeconds, dayLength}
 use Rattle.timecode.specs.declared.Format.{Format}
 use Rattle.timecode.specs.declared.Time.{Time}
 
@@ -85,20 +85,24 @@ runs f = flatten (fields f)
 
 -- ---- the numbers that the fields carry
 
--- seconds, minutes and hours of c
+-- 1 in the added second, 0 before it
+abbrev pub addedIn : ℕ → ℕ
+addedIn c = c / dayLength
+
+-- seconds, minutes and hours of c; the added second is one more than the second before it: 23:59:60
 abbrev pub second : ℕ → ℕ
-second c = c / 100 % 60
+second c = (c / 100 - addedIn c) % 60 + addedIn c
 
 abbrev pub minute : ℕ → ℕ
-minute c = c / 100 / 60 % 60
+minute c = (c / 100 - addedIn c) / 60 % 60
 
 abbrev pub hour : ℕ → ℕ
-hour c = c / 100 / 60 / 60
+hour c = (c / 100 - addedIn c) / 60 / 60
 
 unfoldable pub timeNumbers : Time → List ℕ
 timeNumbers t = second (t .hundredths) ∷ minute (t .hundredths) ∷ hour (t .hundredths) ∷ t .day ∷ t .hundredths / 10 % 10 ∷ t .hundredths % 10 ∷ []
 
--- SBS is the whole seconds c / 100
+-- SBS is the whole seconds c / 100, 86,400 in the added second
 unfoldable pub numbers : Time → ℕ → List ℕ
 numbers t w = timeNumbers t ++ (t .hundredths / 100 ∷ w ∷ [])
 

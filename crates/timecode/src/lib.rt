@@ -1,5 +1,5 @@
 // What the calls of the time code engine take and what they answer: types only, no function.
-// Document 01 as definitions, and the theorems over them, stand in specs/.
+// Document 01 and the leap second of document 02 as definitions, and the theorems over them, stand in specs/.
 
 // A rate letter, in capital ASCII, and a coded expression.
 pub struct Format {
@@ -18,12 +18,19 @@ impl Time {
 
     pub const LAST_DAY: u16 = 366;
 
-    pub const LAST_HUNDREDTH: u32 = 8_639_999;
-    // the hundredths of a day
+    // the last of a day with a second added
+    pub const LAST_HUNDREDTH: u32 = 8_640_099;
+    // the hundredths of a usual day
     pub const DAY_LENGTH: u32 = 8_640_000;
+    // the kinds of a day: 86,400 seconds, 86,401 or 86,399
+    pub const USUAL_DAY: u8 = 0;
+
+    pub const SECOND_ADDED: u8 = 1;
+
+    pub const SECOND_TAKEN: u8 = 2;
 }
 
-// Document 01's thirteen numbers, in their order: 1 to 13. With 5 and 6 goes the index of the element.
+// Document 01's thirteen numbers and document 02's 14 and 15, in their order. With 5 and 6 goes the index of the element.
 pub enum Refusal {
     UnknownFormat,
     InvalidTime,
@@ -38,6 +45,8 @@ pub enum Refusal {
     InvalidYearLength,
     StartPastEnd,
     InvalidReader,
+    SecondNotCarried,
+    InvalidKind,
 }
 
 // Write, and the classifier over lists: whether the lent memory was written.

@@ -1,13 +1,15 @@
 // Prints a recording that timeread reads: the first line, and the frames of a generator, a line each.
-// Its arguments are letter and expression, day, hundredths, year length, number of frames and, if any, the control word.
+// Its arguments are letter and expression, day, hundredths, year length, number of frames and, if any, the control word
+// and the kind of the first day.
 ghost use mathlib.Core.Path.{_≡_};
 ghost use Prim.Native.Nat.{_-_, _≤_};
-ghost use Rattle.generator.specs.Sending.{timeOf};
+ghost use Rattle.generator.specs.Sending.{startOf};
 use arguments::Number;
 use arguments::decimal_in;
 use arguments::hexadecimal_in;
 use frametext::first_line;
 use generator::Generated;
+use generator::Start;
 use generator::begin;
 use generator::generate;
 use printing::print_refused;
@@ -18,7 +20,7 @@ use timecode::Written;
 
 struct Request {
     format: Format,
-    time: Time,
+    start: Start,
     control: u64,
     year: u16,
     frames: u64,
@@ -31,6 +33,11 @@ enum Asked {
 
 enum Named {
     Known(Format),
+    Malformed,
+}
+
+enum Started {
+    At(Start),
     Malformed,
 }
 
@@ -91,7 +98,21 @@ fn control_argument(count: usize) -> Number {
     hexadecimal_in(&text[..n])
 }
 
-// A number past the end of its type becomes the type's last, which is no day, no year length and no time either.
+fn kind_argument(count: usize) -> Number {
+    if count < 8 {
+        return Number::Value(0);
+    }
+    number_argument(7)
+}
+
+// A number past the end of its type becomes the type's last, which is no kind, no day, no year length and no time either.
+fn limited_8(number: u64) -> u8 {
+    if number <= 255 {
+        return (number % 256) as u8;
+    }
+    255
+}
+
 fn limited_16(number: u64) -> u16 {
     if number <= 65_535 {
         return (number % 65_536) as u16;
@@ -106,18 +127,34 @@ fn limited_32(number: u64) -> u32 {
     4_294_967_295
 }
 
+fn start_argument(count: usize) -> Started {
+    let Number::Value(day) = number_argument(2) else {
+        return Started::Malformed;
+    };
+    let Number::Value(hundredths) = number_argument(3) else {
+        return Started::Malformed;
+    };
+    let Number::Value(kind) = kind_argument(count) else {
+        return Started::Malformed;
+    };
+    Started::At(Start {
+        time: Time {
+            day: limited_16(day),
+            hundredths: limited_32(hundredths),
+        },
+        kind: limited_8(kind),
+    })
+}
+
 fn asked_for() -> Asked {
     let count = os::arg_count();
-    if 7 < count {
+    if 8 < count {
         return Asked::Malformed;
     }
     let Named::Known(format) = format_argument() else {
         return Asked::Malformed;
     };
-    let Number::Value(day) = number_argument(2) else {
-        return Asked::Malformed;
-    };
-    let Number::Value(hundredths) = number_argument(3) else {
+    let Started::At(start) = start_argument(count) else {
         return Asked::Malformed;
     };
     let Number::Value(year) = number_argument(4) else {
@@ -131,10 +168,7 @@ fn asked_for() -> Asked {
     };
     Asked::Recording(Request {
         format: format,
-        time: Time {
-            day: limited_16(day),
-            hundredths: limited_32(hundredths),
-        },
+        start: start,
         control: control,
         year: limited_16(year),
         frames: frames,
@@ -143,23 +177,23 @@ fn asked_for() -> Asked {
 
 // Each part goes on where the one before ended; the end is reached unless nothing can be written any more.
 fn print_frames(request: Request) -> Generated
-    ensures { λ r. ⌜ (r .left ≤ request .frames) × (r .time ≡ timeOf (request .format) (request .time) (request .year) (request .frames - r .left)) ⌝ }
+    ensures { λ r. ⌜ (r .left ≤ request .frames) × (r .next ≡ startOf (request .format) (request .start) (request .year) (request .frames - r .left)) ⌝ }
 {
     let format = request.format;
     let control = request.control;
     let year = request.year;
     let mut out = io::large_buffer();
-    let mut time = request.time;
+    let mut next = request.start;
     let mut left = request.frames;
     let mut more = true;
     while 0 < left && more {
-        let generated = generate(&mut out, format, time, control, year, left);
-        time = generated.time;
+        let generated = generate(&mut out, format, next, control, year, left);
+        next = generated.next;
         left = generated.left;
         more = write_first(&mut out, generated.filled);
     }
     Generated {
-        time: time,
+        next: next,
         left: left,
         filled: 0,
     }
@@ -176,7 +210,7 @@ fn print_recording(request: Request) {
 
 // Every check is made before anything is printed.
 fn print_checked(request: Request) {
-    let answer = begin(request.format, request.time, request.control, request.year);
+    let answer = begin(request.format, request.start, request.control, request.year);
     match answer {
         Written::Done => print_recording(request),
         Written::Refused(refusal) => print_refused(refusal),
@@ -190,7 +224,7 @@ fn main() {
         Asked::Malformed => {
             io::write_all(
                 libc::STDERR_FILENO,
-                b"usage: timewrite FORMAT DAY HUNDREDTHS YEAR-LENGTH FRAMES [CONTROL-WORD]\n",
+                b"usage: timewrite FORMAT DAY HUNDREDTHS YEAR-LENGTH FRAMES [CONTROL-WORD [DAY-KIND]]\n",
             );
         }
     }

@@ -1,5 +1,6 @@
 -- `digits_of` meets its contract.
 use borrow.Author.Needs.{needs}
+use native.Mathlib.Omega.{arith}
 use mathlib.Core.Path.{refl, subst}
 use Rattle.digits.specs.Splitting.{rawDigits, raw-low}
 use Rattle.digits.specs.Splitting.{LowBits}
@@ -12,6 +13,12 @@ cast-day c = search needs
 
 cast-c : tie.Need-cast-c
 cast-c c = search needs
+
+sub-usual : tie.Need-sub-usual
+sub-usual c = omega arith
+
+add-second : tie.Need-add-second
+add-second c = omega arith
 
 width-requires : tie.Need-width-requires
 width-requires c κs = search needs
@@ -53,6 +60,8 @@ digits-of-spec =
     (tie.spec
     cast-day
     cast-c
+    sub-usual
+    add-second
     width-requires
     shr-control2
     width-requires-2

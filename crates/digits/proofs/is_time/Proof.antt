@@ -22,23 +22,26 @@ returns-2 : tie.Need-returns-2
 unfolding isTimeOf
 returns-2 c = rw (← c .before .before .before .before .before .are-digits .ensures, c .before .before .before .before .if1 .taken, ← c .before .before .before .pair .ensures .0, le-leb _ _ (c .before .before .if2 .left), ← c .before .pair2 .ensures .0, lt-leb _ _ (c .if3 .taken))
 
+last-second-requires : tie.Need-last-second-requires
+last-second-requires c κs = search needs
+
 pair-requires-3 : tie.Need-pair-requires-3
 pair-requires-3 c κs = search needs
 
 returns-3 : tie.Need-returns-3
 unfolding isTimeOf
-returns-3 c = rw (← c .before .before .before .before .before .before .before .are-digits .ensures, c .before .before .before .before .before .before .if1 .taken, ← c .before .before .before .before .before .pair .ensures .0, le-leb _ _ (c .before .before .before .before .if2 .left), ← c .before .before .before .pair2 .ensures .0, le-leb _ _ (c .before .before .if3 .left), ← c .before .pair3 .ensures .0, lt-leb _ _ (c .if4 .taken))
+returns-3 c = rw (← c .before .before .before .before .before .before .before .before .are-digits .ensures, c .before .before .before .before .before .before .before .if1 .taken, ← c .before .before .before .before .before .before .pair .ensures .0, le-leb _ _ (c .before .before .before .before .before .if2 .left), ← c .before .before .before .before .pair2 .ensures .0, le-leb _ _ (c .before .before .before .if3 .left), ← c .before .before .last-second .ensures, ← c .before .pair3 .ensures .0, lt-leb _ _ (c .if4 .taken))
 
 day-in-requires : tie.Need-day-in-requires
 day-in-requires c κs = search needs
 
 returns-4 : tie.Need-returns-4
 unfolding isTimeOf
-returns-4 c = rw (← c .before .before .before .before .before .before .before .before .before .are-digits .ensures, c .before .before .before .before .before .before .before .before .if1 .taken, ← c .before .before .before .before .before .before .before .pair .ensures .0, le-leb _ _ (c .before .before .before .before .before .before .if2 .left), ← c .before .before .before .before .before .pair2 .ensures .0, le-leb _ _ (c .before .before .before .before .if3 .left), ← c .before .before .before .pair3 .ensures .0, le-leb _ _ (c .before .before .if4 .left), ← c .before .day-in .ensures, lt-leb _ _ (c .if5 .taken))
+returns-4 c = rw (← c .before .before .before .before .before .before .before .before .before .before .are-digits .ensures, c .before .before .before .before .before .before .before .before .before .if1 .taken, ← c .before .before .before .before .before .before .before .before .pair .ensures .0, le-leb _ _ (c .before .before .before .before .before .before .before .if2 .left), ← c .before .before .before .before .before .before .pair2 .ensures .0, le-leb _ _ (c .before .before .before .before .before .if3 .left), ← c .before .before .before .before .last-second .ensures, ← c .before .before .before .pair3 .ensures .0, le-leb _ _ (c .before .before .if4 .left), ← c .before .day-in .ensures, lt-leb _ _ (c .if5 .taken))
 
 returns-5 : tie.Need-returns-5
 unfolding isTimeOf
-returns-5 c = rw (← c .before .before .before .before .before .before .before .before .before .are-digits .ensures, c .before .before .before .before .before .before .before .before .if1 .taken, ← c .before .before .before .before .before .before .before .pair .ensures .0, le-leb _ _ (c .before .before .before .before .before .before .if2 .left), ← c .before .before .before .before .before .pair2 .ensures .0, le-leb _ _ (c .before .before .before .before .if3 .left), ← c .before .before .before .pair3 .ensures .0, le-leb _ _ (c .before .before .if4 .left), ← c .before .day-in .ensures, le-leb _ _ (c .if5 .left))
+returns-5 c = rw (← c .before .before .before .before .before .before .before .before .before .before .are-digits .ensures, c .before .before .before .before .before .before .before .before .before .if1 .taken, ← c .before .before .before .before .before .before .before .before .pair .ensures .0, le-leb _ _ (c .before .before .before .before .before .before .before .if2 .left), ← c .before .before .before .before .before .before .pair2 .ensures .0, le-leb _ _ (c .before .before .before .before .before .if3 .left), ← c .before .before .before .before .last-second .ensures, ← c .before .before .before .pair3 .ensures .0, le-leb _ _ (c .before .before .if4 .left), ← c .before .day-in .ensures, le-leb _ _ (c .if5 .left))
 
 returns-6 : tie.Need-returns-6
 unfolding isTimeOf
@@ -53,6 +56,7 @@ is-time-spec =
     returns
     pair-requires-2
     returns-2
+    last-second-requires
     pair-requires-3
     returns-3
     day-in-requires

@@ -10,11 +10,17 @@ use Rattle.lines.specs.Text.{pairOf, clockOf}
 use Rattle.lines.proofs.put_clock.Statement.{statement}
 use Rattle.lines.proofs.put_clock.Tie as tie
 
+sub-usual : tie.Need-sub-usual
+sub-usual c = search needs
+
 put-pair-requires : tie.Need-put-pair-requires
 put-pair-requires c κs = search needs
 
 put-pair-requires-2 : tie.Need-put-pair-requires-2
 put-pair-requires-2 c κs = search needs
+
+add-put-pair : tie.Need-add-put-pair
+add-put-pair c = search needs
 
 put-pair-requires-3 : tie.Need-put-pair-requires-3
 put-pair-requires-3 c κs = search needs
@@ -40,8 +46,10 @@ pub put-clock-spec : {M : Type 1} → statement M
 put-clock-spec =
     tie.close
     (tie.spec
+    sub-usual
     put-pair-requires
     put-pair-requires-2
+    add-put-pair
     put-pair-requires-3
     put-pair-requires-4
     same-length

@@ -1,8 +1,8 @@
 -- A chain of checks taken apart: an answer that is no refusal passed them all.
-use mathlib.Core.Path.{_≡_, refl}
+use mathlib.Core.Path.{_≡_, refl, subst}
 use mathlib.Core.Bool.{Bool, true, false}
 use mathlib.Core.List.{[], _∷_, map}
-use Prim.Native.Nat.{ℕ}
+use Prim.Native.Nat.{ℕ, _≤_}
 use native.Mathlib.Omega.{arith}
 use Rattle.timecode.specs.Answers.{number, refusal, check}
 use Rattle.timecode.specs.declared.Answer.{Answer}
@@ -17,7 +17,7 @@ use Rattle.timecode.specs.declared.Written.{Written}
 use Rattle.timecode.specs.declared.Written.the-variants.{Done}
 
 -- the refusal with the number k has the number k
-pub numbered : (i : ℕ) → map (λ k. number (refusal k i)) (1 ∷ 2 ∷ 3 ∷ 4 ∷ 5 ∷ 6 ∷ 7 ∷ 8 ∷ 9 ∷ 10 ∷ 11 ∷ 12 ∷ 13 ∷ []) ≡ 1 ∷ 2 ∷ 3 ∷ 4 ∷ 5 ∷ 6 ∷ 7 ∷ 8 ∷ 9 ∷ 10 ∷ 11 ∷ 12 ∷ 13 ∷ []
+pub numbered : (i : ℕ) → map (λ k. number (refusal k i)) (1 ∷ 2 ∷ 3 ∷ 4 ∷ 5 ∷ 6 ∷ 7 ∷ 8 ∷ 9 ∷ 10 ∷ 11 ∷ 12 ∷ 13 ∷ 14 ∷ 15 ∷ []) ≡ 1 ∷ 2 ∷ 3 ∷ 4 ∷ 5 ∷ 6 ∷ 7 ∷ 8 ∷ 9 ∷ 10 ∷ 11 ∷ 12 ∷ 13 ∷ 14 ∷ 15 ∷ []
 numbered i = refl
 
 -- the answer a is none of the refusals
@@ -53,3 +53,8 @@ refused-no-report r t w h = absurd (no-path cc)
 pub by-reading : {P : Type 0} (r : Reading) → ((x : Refusal) → r ≡ Reading.Refused x → P) → ((t : Time) (w : ℕ) → r ≡ Accepted t w → P) → P
 by-reading (Reading.Refused x) refused taken = refused x refl
 by-reading (Accepted t w) refused taken = taken t w refl
+
+-- a check of Read that refuses has its own number or a later one's
+pub refused-up-to : (n k : ℕ) (b : Bool) (a : Reading) (r : Refusal) → number (refusal k 0) ≤ n → (a ≡ Reading.Refused r → number r ≤ n) → check Reading.Refused k b a ≡ Reading.Refused r → number r ≤ n
+refused-up-to n k true a r h later q = later q
+refused-up-to n k false a r h later q = let p : refusal k 0 ≡ r = cc in subst (λ (x : Refusal). number x ≤ n) p h

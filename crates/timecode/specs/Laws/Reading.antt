@@ -1,27 +1,29 @@
 -- Read accepts exactly the bytes as which a time and a control word are written, and gives those.
 use mathlib.Core.Path.{_≡_, refl, sym, ap, _∙_, subst, subst₂}
-use mathlib.Core.Bool.{true, false, _&&_}
+use mathlib.Core.Bool.{true, false, _&&_, _||_}
 use mathlib.Core.List.{List, [], _∷_, _++_}
+use mathlib.Core.Logic.{_⊎_, inl, inr}
 use Prim.Native.Nat.{ℕ, zero, suc, _+_, _*_, _/_, _%_, _^_, _<_, _≤_}
 use native.Mathlib.Nat.{not-suc-le-zero, add-zero, zero-add, add-suc, suc-add, mod-eq-of-lt, mod-one}
 use native.Mathlib.Omega.{arith}
-use borrow.Author.Tests.{leb-true, eqb-true, eq-eqb}
-use lib.Dec.{leb, eqb}
+use borrow.Author.Tests.{leb-true, leb-false, eqb-true, eq-eqb}
+use lib.Dec.{leb, ltb, eqb}
 use lib.ListN.{getD, length}
-use Rattle.timecode.specs.Answers.{refusal}
-use Rattle.timecode.specs.Formats.{known, size, lastDay}
-use Rattle.timecode.specs.Frames.{totalWidth, written, areSymbols, offence, checkElements, areDigits, isTime, timeIn, secondsAgree, readOf}
-use Rattle.timecode.specs.Laws.Checks.{passed, accepted}
+use Rattle.timecode.specs.Answers.{number, refusal}
+use Rattle.timecode.specs.Formats.{known, size, lastDay, lastHundredth, dayLength, carriesLeap}
+use Rattle.timecode.specs.Frames.{totalWidth, written, areSymbols, held, offence, checkElements, areDigits, lastSecond, isTime, timeIn, secondsAgree, readOf}
+use Rattle.timecode.specs.Laws.Checks.{passed, accepted, refused-up-to}
 use Rattle.timecode.specs.Laws.Digits.{Below, capacity, joined, decode, joined-lt, digits-agree, number-joined}
 use Rattle.timecode.specs.Laws.Fields.{fields-together, digits-back, AreDigits, are-digits, Binary, binary-positive, binary-capacity, binary-below}
 use Rattle.timecode.specs.Laws.Runs.{Small, Clean, clean-bits, encode-decode, small-decoded, small-front, small-back}
 use Rattle.timecode.specs.Laws.Table.{layout-proper}
-use Rattle.timecode.specs.Laws.Tests.{by-test, and-left, and-right}
-use Rattle.timecode.specs.Laws.Times.{OnFormat, time-grid}
+use Rattle.timecode.specs.Laws.Tests.{by-test, clash, and-left, and-right}
+use Rattle.timecode.specs.Laws.Times.{OnFormat, none-added, one-added, time-grid}
 use Rattle.timecode.specs.Layout.{Run, seconds, minutes, hours, days, tenths, hundredths, hasSeconds, straightSeconds, controlRange, control, timeFields, fields, flatten, runs, second, minute, hour, timeNumbers, numbers, digitsOf, spread, rest, encode, numberIn}
 use Rattle.timecode.specs.declared.Format.{Format}
 use Rattle.timecode.specs.declared.Reading.{Reading}
 use Rattle.timecode.specs.declared.Reading.the-variants.{Accepted}
+use Rattle.timecode.specs.declared.Refusal.{Refusal}
 use Rattle.timecode.specs.declared.Time.{Time}
 
 -- the time and the control word are ones that Write takes in the format
@@ -59,16 +61,37 @@ elements-pass rests rs (s ∷ ss) i a c =
 
 -- ---- what Read accepts was written
 
--- hours, minutes, seconds, tenths and hundredths of the hundredths that they make
-clock : (h m s t u : ℕ) → m ≤ 59 → s ≤ 59 → t ≤ 9 → u ≤ 9 → (c : ℕ) → c ≡ ((h * 60 + m) * 60 + s) * 100 + t * 10 + u
-    → (second c ≡ s) × (minute c ≡ m) × (hour c ≡ h) × (c / 10 % 10 ≡ t) × (c % 10 ≡ u)
-clock h m s t u a b d e c q = omega arith
+-- the second is a usual one, or the added one at 23:59 where the format carries it
+abbrev pub InMinute : Format → ℕ → ℕ → ℕ → Type 0
+InMinute f h m s = (s ≤ 59) ⊎ ((carriesLeap f ≡ true) × (h ≡ 23) × (m ≡ 59) × (s ≡ 60))
+
+in-minute : (f : Format) (h m s : ℕ) → leb s (lastSecond f h m) ≡ true → InMinute f h m s
+unfolding lastSecond
+in-minute f h m s k =
+    by-test (carriesLeap f && (eqb h 23 && eqb m 59))
+    (λ y.
+    let last = and-right (carriesLeap f) (eqb h 23 && eqb m 59) y in
+    let b : s ≤ 60 = leb-true s 60 (rw y at k) in
+    by-test (leb s 59)
+    (λ z. inl (leb-true s 59 z))
+    (λ z. inr (and-left (carriesLeap f) (eqb h 23 && eqb m 59) y, eqb-true h 23 (and-left (eqb h 23) (eqb m 59) last), eqb-true m 59 (and-right (eqb h 23) (eqb m 59) last), omega (arith, leb-false s 59 z))))
+    (λ n. inl (leb-true s 59 (rw n at k)))
+
+module _ (f : Format) (h m s t u c : ℕ) (a : h ≤ 23) (b : m ≤ 59) (d : t ≤ 9) (e : u ≤ 9) (q : c ≡ ((h * 60 + m) * 60 + s) * 100 + t * 10 + u) where
+  -- hours, minutes, seconds, tenths and hundredths of the hundredths that they make
+  clock : InMinute f h m s → (second c ≡ s) × (minute c ≡ m) × (hour c ≡ h) × (c / 10 % 10 ≡ t) × (c % 10 ≡ u)
+  clock (inl p) = let l : c < dayLength = omega arith in rw (none-added c l .0, none-added c l .1, none-added c l .2) (omega arith)
+  clock (inr p) = let l : dayLength ≤ c = omega arith in let n : c ≤ lastHundredth = omega arith in rw (one-added c l n .0, one-added c l n .1, one-added c l n .2) (omega arith)
+
+  in-day : InMinute f h m s → (c ≤ lastHundredth) × (carriesLeap f ≡ false → c < dayLength)
+  in-day (inl p) = (omega arith, λ n. omega arith)
+  in-day (inr p) = (omega arith, λ n. clash (p .0) n)
 
 pub record IsTime (f : Format) (frame : List ℕ) : Type 0 where
   pub digits : AreDigits (decode (flatten (timeFields f)) frame)
   pub hour-is : numberIn frame (hours f) ≤ 23
   pub minute-is : numberIn frame (minutes f) ≤ 59
-  pub second-is : numberIn frame (seconds f) ≤ 59
+  pub second-is : InMinute f (numberIn frame (hours f)) (numberIn frame (minutes f)) (numberIn frame (seconds f))
   pub first : 1 ≤ numberIn frame (days f)
   pub last : numberIn frame (days f) ≤ lastDay
 
@@ -77,7 +100,7 @@ unfolding isTime
 is-time f frame h =
     let H = leb (numberIn frame (hours f)) 23 in
     let M = leb (numberIn frame (minutes f)) 59 in
-    let S = leb (numberIn frame (seconds f)) 59 in
+    let S = leb (numberIn frame (seconds f)) (lastSecond f (numberIn frame (hours f)) (numberIn frame (minutes f))) in
     let F = leb 1 (numberIn frame (days f)) in
     let L = leb (numberIn frame (days f)) lastDay in
     let a = and-right (areDigits frame (flatten (timeFields f))) (H && (M && (S && (F && L)))) h in
@@ -88,7 +111,7 @@ is-time f frame h =
       digits = are-digits frame (flatten (timeFields f)) (and-left (areDigits frame (flatten (timeFields f))) (H && (M && (S && (F && L)))) h);
       hour-is = leb-true (numberIn frame (hours f)) 23 (and-left H (M && (S && (F && L))) a);
       minute-is = leb-true (numberIn frame (minutes f)) 59 (and-left M (S && (F && L)) b);
-      second-is = leb-true (numberIn frame (seconds f)) 59 (and-left S (F && L) c);
+      second-is = in-minute f (numberIn frame (hours f)) (numberIn frame (minutes f)) (numberIn frame (seconds f)) (and-left S (F && L) c);
       first = leb-true 1 (numberIn frame (days f)) (and-left F L d);
       last = leb-true (numberIn frame (days f)) lastDay (and-right F L d);
     }
@@ -156,7 +179,7 @@ module _ (f : Format) (frame : List ℕ) (k : known f ≡ true) (n : length fram
   unfolding runs fields timeFields numbers timeNumbers timeIn seconds minutes hours days tenths hundredths
   digits-same =
       let c =
-      clock (numberIn frame (hours f)) (numberIn frame (minutes f)) (numberIn frame (seconds f)) (numberIn frame (tenths f)) (numberIn frame (hundredths f)) (time .minute-is) (time .second-is) (omega (arith, time .digits)) (omega (arith, time .digits)) (read-time .hundredths) refl in
+      clock f (numberIn frame (hours f)) (numberIn frame (minutes f)) (numberIn frame (seconds f)) (numberIn frame (tenths f)) (numberIn frame (hundredths f)) (read-time .hundredths) (time .hour-is) (time .minute-is) (omega (arith, time .digits)) (omega (arith, time .digits)) refl (time .second-is) in
       fields-together frame (fields f) (numbers read-time read-control) (
         ap (digitsOf (seconds f)) (c .0) ∙ digits-back frame (seconds f) (omega (arith, time .digits)),
         (
@@ -183,12 +206,9 @@ module _ (f : Format) (frame : List ℕ) (k : known f ≡ true) (n : length fram
   read-on-format : OnFormat f read-time
   unfolding timeIn timeFields tenths hundredths seconds minutes hours days
   read-on-format =
-      record {
-        first = time .first;
-        last = time .last;
-        below = omega (arith, time .hour-is, time .minute-is, time .second-is, time .digits);
-        grid = time-grid f frame k time-part;
-      }
+      let d =
+      in-day f (numberIn frame (hours f)) (numberIn frame (minutes f)) (numberIn frame (seconds f)) (numberIn frame (tenths f)) (numberIn frame (hundredths f)) (read-time .hundredths) (time .hour-is) (time .minute-is) (omega (arith, time .digits)) (omega (arith, time .digits)) refl (time .second-is) in
+      record { first = time .first; last = time .last; below = d .0; grid = time-grid f frame k time-part; carried = d .1 }
 
   read-valid : Valid f read-time read-control
   read-valid =
@@ -218,3 +238,34 @@ accepted-was-written f frame t w h =
     let clean : Clean (size f) (rest f) (runs f) frame = λ i l. rw (zero-add i) at (d .0 i (omega arith)) in
     subst₂ (λ (x : Time) (y : ℕ). Valid f x y × (written f x y ≡ frame)) same-time same-control
     (read-valid f frame (a .0) n clean (is-time f frame (e .0)) (g .0), read-written f frame (a .0) n clean (is-time f frame (e .0)) (g .0))
+
+-- ---- the numbers that Read refuses with
+
+offence-up-to : (rests : ℕ → ℕ) (rs : List Run) (i s : ℕ) → number (refusal (offence rests rs i s) i) ≤ 8
+unfolding offence
+offence-up-to rests rs i s =
+    by-test (held rs i)
+    (λ y. by-test (ltb s 2) (λ a. rw (y, a) (omega arith)) (λ a. by-test (eqb s 2) (λ b. rw (y, a, b) (omega arith)) (λ b. rw (y, a, b) (omega arith))))
+    (λ n. by-test (eqb s (rests i)) (λ a. rw (n, a) (omega arith)) (λ a. by-test (eqb s 2 || eqb (rests i) 2) (λ b. rw (n, a, b) (omega arith)) (λ b. rw (n, a, b) (omega arith))))
+
+elements-up-to : (rests : ℕ → ℕ) (rs : List Run) (ss : List ℕ) (i : ℕ) (a : Reading) (r : Refusal) → (a ≡ Reading.Refused r → number r ≤ 8) → checkElements rests rs i ss a ≡ Reading.Refused r → number r ≤ 8
+unfolding checkElements
+elements-up-to rests rs [] i a r later h = later h
+elements-up-to rests rs (s ∷ ss) i a r later h =
+    by-test (eqb (offence rests rs i s) 0)
+    (λ y. elements-up-to rests rs ss (suc i) a r later (rw y at h))
+    (λ m.
+    let z : Reading.Refused (refusal (offence rests rs i s) i) ≡ Reading.Refused r = rw m at h in
+    let p : refusal (offence rests rs i s) i ≡ r = cc in
+    subst (λ (x : Refusal). number x ≤ 8) p (offence-up-to rests rs i s))
+
+pub refused-up-to-8 : (f : Format) (frame : List ℕ) (r : Refusal) → readOf f frame ≡ Reading.Refused r → number r ≤ 8
+unfolding readOf
+refused-up-to-8 f frame r =
+    refused-up-to 8 1 (known f) _ r (omega arith)
+    (refused-up-to 8 3 (eqb (length frame) (size f)) _ r (omega arith)
+    (refused-up-to 8 4 (areSymbols frame) _ r (omega arith)
+    (elements-up-to (rest f) (runs f) frame 0 _ r
+    (refused-up-to 8 7 (isTime f frame) _ r (omega arith)
+    (refused-up-to 8 8 (secondsAgree f frame) _ r (omega arith)
+    (λ h. absurd (accepted (timeIn f frame) (numberIn frame (control f)) r (sym h))))))))

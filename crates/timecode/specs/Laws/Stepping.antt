@@ -1,19 +1,19 @@
 -- Step taken apart: a step of a time on the format is on the format, next after is some step, and the times that follow one.
 use mathlib.Core.Path.{_≡_, refl, sym, ap, _∙_, subst}
-use mathlib.Core.Bool.{Bool, true, _&&_}
+use mathlib.Core.Bool.{Bool, true, false, _&&_}
 use mathlib.Core.List.{List, [], _∷_}
 use mathlib.Core.Logic.{_⊎_, inl, inr}
-use Prim.Native.Nat.{ℕ, _+_, _%_, _≤_}
-use native.Mathlib.Nat.{add-mod-right, zero-mod}
+use Prim.Native.Nat.{ℕ, suc, _+_, _*_, _/_, _%_, _≤_, _<_}
+use native.Mathlib.Nat.{add-mod-right, zero-mod, div-add-mod, lt-of-mul-lt-mul-left, mul-le-mul-left}
 use native.Mathlib.Omega.{arith}
-use borrow.Author.Tests.{leb-true, eqb-true, eqb-false, le-leb, eq-eqb, ne-eqb}
-use lib.Dec.{leb, eqb}
-use Rattle.timecode.specs.Formats.{member, table, lookUp, rowOf, known, interval, lastDay, lastHundredth, dayLength, onFormat}
-use Rattle.timecode.specs.Frames.{yearLengths, inYear, dayAfter, following, stepOf, Follows, sameTime, gives, any, nextAfter}
+use borrow.Author.Tests.{leb-true, ltb-true, eqb-true, eqb-false, le-leb, lt-ltb, eq-eqb, ne-eqb}
+use lib.Dec.{leb, ltb, eqb}
+use Rattle.timecode.specs.Formats.{member, table, lookUp, rowOf, known, interval, lastDay, dayLength, onFormat, carriesLeap, secondCarried}
+use Rattle.timecode.specs.Frames.{yearLengths, inYear, dayAfter, usual, secondAdded, secondTaken, kinds, dayLengthOf, dayEnd, onDay, sameDay, nextDay, following, stepOf, Follows, sameTime, gives, any, nextAfter}
 use Rattle.timecode.specs.Laws.Checks.{passed, next}
-use Rattle.timecode.specs.Laws.Table.{by-letter}
+use Rattle.timecode.specs.Laws.Table.{everyFormat, of-every}
 use Rattle.timecode.specs.Laws.Tests.{by-test, clash, and-left, and-right, or-other, or-first, or-second}
-use Rattle.timecode.specs.Laws.Times.{OnFormat, on-format, is-on-format}
+use Rattle.timecode.specs.Laws.Times.{OnFormat, on-format, is-on-format, is-carried}
 use Rattle.timecode.specs.declared.Format.{Format}
 use Rattle.timecode.specs.declared.Stepped.{Stepped}
 use Rattle.timecode.specs.declared.Stepped.the-variants.{Next}
@@ -35,32 +35,43 @@ same-self t = rw (eq-eqb (t .day) (t .day) refl, eq-eqb (t .hundredths) (t .hund
 
 -- ---- a step that was taken
 
-pub record Went (f : Format) (t : Time) (year : ℕ) (u : Time) : Type 0 where
+pub record Went (f : Format) (t : Time) (year kind : ℕ) (u : Time) : Type 0 where
   pub format : known f ≡ true
   pub from : OnFormat f t
   pub length-is : member year yearLengths ≡ true
   pub inside : t .day ≤ year
-  pub to : following f t year ≡ u
+  pub kind-is : member kind kinds ≡ true
+  pub before : t .hundredths < dayEnd f kind
+  pub to : following f t year kind ≡ u
 
-pub went : (f : Format) (t : Time) (year : ℕ) (u : Time) → stepOf f t year ≡ Next u → Went f t year u
-unfolding stepOf inYear
-went f t year u h =
+pub went : (f : Format) (t : Time) (year kind : ℕ) (u : Time) → stepOf f t year kind ≡ Next u → Went f t year kind u
+unfolding stepOf inYear onDay
+went f t year kind u h =
     let a = passed Stepped.Refused 1 (known f) _ (Next u) (next u) h in
     let b = passed Stepped.Refused 2 (onFormat f t) _ (Next u) (next u) (a .1) in
-    let c = passed Stepped.Refused 11 (member year yearLengths && leb (t .day) year) _ (Next u) (next u) (b .1) in
-    let last = c .1 in
+    let s = passed Stepped.Refused 14 (secondCarried f t) _ (Next u) (next u) (b .1) in
+    let c = passed Stepped.Refused 11 (member year yearLengths && leb (t .day) year) _ (Next u) (next u) (s .1) in
+    let d = passed Stepped.Refused 15 (member kind kinds && ltb (t .hundredths) (dayEnd f kind)) _ (Next u) (next u) (c .1) in
+    let last = d .1 in
     record {
       format = a .0;
-      from = on-format f t (b .0);
+      from = on-format f t (b .0) (s .0);
       length-is = and-left (member year yearLengths) (leb (t .day) year) (c .0);
       inside = leb-true (t .day) year (and-right (member year yearLengths) (leb (t .day) year) (c .0));
+      kind-is = and-left (member kind kinds) (ltb (t .hundredths) (dayEnd f kind)) (d .0);
+      before = ltb-true (t .hundredths) (dayEnd f kind) (and-right (member kind kinds) (ltb (t .hundredths) (dayEnd f kind)) (d .0));
       to = cc;
     }
 
--- Step takes a time on the format with 366 always
-pub goes : (f : Format) (t : Time) → known f ≡ true → OnFormat f t → stepOf f t 366 ≡ Next (following f t 366)
-unfolding stepOf inYear
-goes f t k o = rw (k, is-on-format f t o, le-leb (t .day) 366 (o .last))
+-- a day with a second added has room for every time that Write takes
+longest-day : (f : Format) (t : Time) → OnFormat f t → t .hundredths < dayEnd f secondAdded
+unfolding dayEnd dayLengthOf
+longest-day f t o = by-test (carriesLeap f) (λ y. rw y (omega (arith, o .below))) (λ m. rw m (o .carried m))
+
+-- Step takes a time on the format with 366 and a second added always
+pub goes : (f : Format) (t : Time) → known f ≡ true → OnFormat f t → stepOf f t 366 secondAdded ≡ Next (following f t 366 secondAdded)
+unfolding stepOf inYear onDay
+goes f t k o = rw (k, is-on-format f t o, is-carried f t o, le-leb (t .day) 366 (o .last), lt-ltb (t .hundredths) (dayEnd f secondAdded) (longest-day f t o))
 
 -- ---- next after is some step
 
@@ -85,12 +96,16 @@ one-any p (y ∷ ys) x m h =
 pub next-follows : (f : Format) (t u : Time) → nextAfter f t u ≡ true → Follows f t u
 unfolding nextAfter
 next-follows f t u h =
-    let y = any-one (λ year. gives (stepOf f t year) u) yearLengths h in
-    (y .0, gives-is (stepOf f t (y .0)) u (y .1))
+    let y = any-one (λ year. any (λ kind. gives (stepOf f t year kind) u) kinds) yearLengths h in
+    let k = any-one (λ kind. gives (stepOf f t (y .0) kind) u) kinds (y .1) in
+    (y .0, k .0, gives-is (stepOf f t (y .0) (k .0)) u (k .1))
 
 pub follows-next : (f : Format) (t u : Time) → Follows f t u → nextAfter f t u ≡ true
 unfolding nextAfter
-follows-next f t u s = one-any (λ year. gives (stepOf f t year) u) yearLengths (s .0) (went f t (s .0) u (s .1) .length-is) (is-given (stepOf f t (s .0)) u (s .1))
+follows-next f t u s =
+    let w = went f t (s .0) (s .1) u (s .2) in
+    one-any (λ year. any (λ kind. gives (stepOf f t year kind) u) kinds) yearLengths (s .0) (w .length-is)
+    (one-any (λ kind. gives (stepOf f t (s .0) kind) u) kinds (s .1) (w .kind-is) (is-given (stepOf f t (s .0) (s .1)) u (s .2)))
 
 -- ---- a step stays on the format
 
@@ -100,41 +115,126 @@ year-is year h =
     (λ y. inl (eqb-true year 365 y))
     (λ m. by-test (eqb year 366) (λ y. inr (eqb-true year 366 y)) (λ n. clash (rw (m, n) at h) refl))
 
-abbrev Carries : ℕ → Type 0
-Carries l = (e c : ℕ) → c ≤ lastHundredth → c % interval (record { letter = l; expression = e }) ≡ 0 → c + interval (record { letter = l; expression = e }) ≤ dayLength
+-- a test that every number of a list passes
+abbrev every : (ℕ → Bool) → List ℕ → Bool
+every p [] = true
+every p (x ∷ xs) = p x && every p xs
 
--- on the grid c + S does not pass 8,640,000 but reaches it
-pub carries : (f : Format) → known f ≡ true → (c : ℕ) → c ≤ lastHundredth → c % interval f ≡ 0 → c + interval f ≤ dayLength
-unfolding interval rowOf lookUp table
-carries f k = by-letter Carries (λ e c b g. omega arith) (λ e c b g. omega arith) (λ e c b g. omega arith) (λ e c b g. omega arith) (λ e c b g. omega arith) (λ e c b g. omega arith) f k (f .expression)
+one-of : (p : ℕ → Bool) (xs : List ℕ) → every p xs ≡ true → (x : ℕ) → member x xs ≡ true → p x ≡ true
+one-of p [] h x m = clash m refl
+one-of p (y ∷ ys) h x m =
+    by-test (eqb x y)
+    (λ e. rw (eqb-true x y e) (and-left (p y) (every p ys) h))
+    (λ n. one-of p ys (and-right (p y) (every p ys) h) x (or-other (eqb x y) (member x ys) n m))
+
+-- every interval divides every day's end
+all-whole : everyFormat (λ f. every (λ kind. eqb (dayEnd f kind % interval f) 0) kinds) ≡ true
+unfolding everyFormat table rowOf lookUp interval dayEnd dayLengthOf carriesLeap
+all-whole = refl
+
+next-multiple : (s x c : ℕ) → x % s ≡ 0 → c % s ≡ 0 → c < x → c + s ≤ x
+next-multiple s x c p q h =
+    let a = div-add-mod c s in
+    let b = div-add-mod x s in
+    let l : c / s < x / s = lt-of-mul-lt-mul-left s (omega arith) in
+    let m : s * suc (c / s) ≤ s * (x / s) = mul-le-mul-left s l in
+    omega arith
+
+-- on the grid c + S does not pass the day's end but reaches it
+pub carries : (f : Format) → known f ≡ true → (kind : ℕ) → member kind kinds ≡ true → (c : ℕ) → c < dayEnd f kind → c % interval f ≡ 0 → c + interval f ≤ dayEnd f kind
+carries f k kind m c h g =
+    let e = of-every (λ f. every (λ kind. eqb (dayEnd f kind % interval f) 0) kinds) all-whole f k in
+    next-multiple (interval f) (dayEnd f kind) c (eqb-true (dayEnd f kind % interval f) 0 (one-of (λ kind. eqb (dayEnd f kind % interval f) 0) kinds e kind m)) g h
+
+-- where a day may end
+abbrev Ends : ℕ → Type 0
+Ends x = (x ≡ dayLength) ⊎ ((x ≡ 8640100) ⊎ (x ≡ 8639900))
+
+ends : (kind : ℕ) → Ends (dayLengthOf kind)
+unfolding dayLengthOf
+ends kind =
+    by-test (eqb kind secondAdded)
+    (λ y. rw y (inr (inl refl)))
+    (λ m. by-test (eqb kind secondTaken) (λ y. rw (m, y) (inr (inr refl))) (λ n. rw (m, n) (inl refl)))
+
+end-small : (x : ℕ) → Ends x → x ≤ 8640100
+end-small x (inl p) = omega arith
+end-small x (inr (inl p)) = omega arith
+end-small x (inr (inr p)) = omega arith
+
+usual-end : (f : Format) (kind : ℕ) → carriesLeap f ≡ false → dayEnd f kind ≡ dayLength
+unfolding dayEnd
+usual-end f kind m = rw m
+
+leap-end : (f : Format) (kind : ℕ) → carriesLeap f ≡ true → dayEnd f kind ≡ dayLengthOf kind
+unfolding dayEnd
+leap-end f kind y = rw y
+
+day-end-small : (f : Format) (kind : ℕ) → dayEnd f kind ≤ 8640100
+day-end-small f kind =
+    by-test (carriesLeap f)
+    (λ y. omega (arith, leap-end f kind y, end-small (dayLengthOf kind) (ends kind)))
+    (λ m. omega (arith, usual-end f kind m))
 
 day-after-in : (day year : ℕ) → (year ≡ 365) ⊎ (year ≡ 366) → day ≤ year → (1 ≤ dayAfter day year) × (dayAfter day year ≤ lastDay)
 unfolding dayAfter
 day-after-in day year (inl p) h = by-test (eqb day year) (λ y. rw y (omega arith)) (λ m. let n = eqb-false day year m in rw m (omega arith))
 day-after-in day year (inr p) h = by-test (eqb day year) (λ y. rw y (omega arith)) (λ m. let n = eqb-false day year m in rw m (omega arith))
 
-following-on : (f : Format) (t : Time) (year : ℕ) → known f ≡ true → OnFormat f t → (year ≡ 365) ⊎ (year ≡ 366) → t .day ≤ year → OnFormat f (following f t year)
+-- a step goes to the next frame of the day, or from the day's last frame to the day after
+abbrev Lands : Format → Time → ℕ → ℕ → Time → Type 0
+Lands f t year kind u = ((sameDay f t ≡ u) × (t .hundredths + interval f < dayEnd f kind)) ⊎ ((nextDay t year ≡ u) × (t .hundredths + interval f ≡ dayEnd f kind))
+
+lands : (f : Format) (t : Time) (year kind : ℕ) (u : Time) → Went f t year kind u → Lands f t year kind u
 unfolding following
-following-on f t year k o y h =
-    let d = day-after-in (t .day) year y h in
-    by-test (eqb (t .hundredths + interval f) dayLength)
-    (λ e. rw e (record { first = d .0; last = d .1; below = omega arith; grid = zero-mod (interval f) }))
-    (λ m.
-    let n = eqb-false (t .hundredths + interval f) dayLength m in
-    rw m (record {
+lands f t year kind u w =
+    let to = w .to in
+    by-test (eqb (t .hundredths + interval f) (dayEnd f kind))
+    (λ y. inr (rw y at to, eqb-true (t .hundredths + interval f) (dayEnd f kind) y))
+    (λ m. inl (
+      rw m at to,
+      omega (arith, eqb-false (t .hundredths + interval f) (dayEnd f kind) m, carries f (w .format) kind (w .kind-is) (t .hundredths) (w .before) (w .from .grid)),
+    ))
+
+landed-on : (f : Format) (t : Time) (year kind : ℕ) (u : Time) → Went f t year kind u → Lands f t year kind u → OnFormat f u
+landed-on f t year kind u w (inl p) =
+    let o = w .from in
+    subst (OnFormat f) (p .0)
+    (record {
       first = o .first;
       last = o .last;
-      below = omega (arith, carries f k (t .hundredths) (o .below) (o .grid));
+      below = omega (arith, p .1, day-end-small f kind);
       grid = add-mod-right (t .hundredths) (interval f) ∙ o .grid;
-    }))
+      carried = λ m. omega (arith, p .1, usual-end f kind m);
+    })
+landed-on f t year kind u w (inr p) =
+    let d = day-after-in (t .day) year (year-is year (w .length-is)) (w .inside) in
+    subst (OnFormat f) (p .0) (record { first = d .0; last = d .1; below = omega arith; grid = zero-mod (interval f); carried = λ m. omega arith })
 
 -- a step of a time on the format is on the format
 pub step-on-format : (f : Format) (t u : Time) → Follows f t u → OnFormat f u
 step-on-format f t u s =
-    let w = went f t (s .0) u (s .1) in
-    subst (OnFormat f) (w .to) (following-on f t (s .0) (w .format) (w .from) (year-is (s .0) (w .length-is)) (w .inside))
+    let w = went f t (s .0) (s .1) u (s .2) in
+    landed-on f t (s .0) (s .1) u w (lands f t (s .0) (s .1) u w)
+
+-- D, E and H step as usual for every kind
+pub steps-usual : (f : Format) (t : Time) (year kind : ℕ) → carriesLeap f ≡ false → member kind kinds ≡ true → stepOf f t year kind ≡ stepOf f t year usual
+unfolding stepOf onDay following
+steps-usual f t year kind m h = rw (h, usual-end f kind m, usual-end f usual m)
 
 -- ---- the times that follow one
+
+-- the next frame of the day, or the first frame of the day after in a year of 365 or 366 days
+pub three : (f : Format) (t u : Time) → Follows f t u → (u ≡ sameDay f t) ⊎ ((u ≡ nextDay t 365) ⊎ (u ≡ nextDay t 366))
+three f t u s = go (lands f t (s .0) (s .1) u w) (year-is (s .0) (w .length-is))
+  where
+    w : Went f t (s .0) (s .1) u
+    w = went f t (s .0) (s .1) u (s .2)
+
+    go : Lands f t (s .0) (s .1) u → (s .0 ≡ 365) ⊎ (s .0 ≡ 366) → (u ≡ sameDay f t) ⊎ ((u ≡ nextDay t 365) ⊎ (u ≡ nextDay t 366))
+    go (inl p) y = inl (sym (p .0))
+    go (inr p) (inl y) = inr (inl (sym (p .0) ∙ ap (nextDay t) y))
+    go (inr p) (inr y) = inr (inr (sym (p .0) ∙ ap (nextDay t) y))
 
 -- u is day 1 and v is day 366, both at midnight
 pub record YearTurn (u v : Time) : Type 0 where
@@ -143,38 +243,70 @@ pub record YearTurn (u v : Time) : Type 0 where
   pub leap-day : v .day ≡ 366
   pub leap-midnight : v .hundredths ≡ 0
 
--- one time, or a year's turn in either order
-abbrev pub Alike : Time → Time → Type 0
-Alike u v = (u ≡ v) ⊎ (YearTurn u v ⊎ YearTurn v u)
+-- u is 23:59:59 or 23:59:60, where a day of another kind ends, and v is midnight
+pub record LeapTurn (f : Format) (u v : Time) : Type 0 where
+  pub carried : carriesLeap f ≡ true
+  pub late : (u .hundredths ≡ 8639900) ⊎ (u .hundredths ≡ dayLength)
+  pub midnight : v .hundredths ≡ 0
 
-alike-back : (u v : Time) → Alike u v → Alike v u
-alike-back u v (inl p) = inl (sym p)
-alike-back u v (inr (inl p)) = inr (inr p)
-alike-back u v (inr (inr p)) = inr (inl p)
+abbrev pub Turn : Format → Time → Time → Type 0
+Turn f u v = YearTurn u v ⊎ LeapTurn f u v
 
-both-lengths : (f : Format) (t : Time) → t .day ≤ 365 → Alike (following f t 365) (following f t 366)
-unfolding following dayAfter
+-- one time, or a turn in either order
+abbrev pub Alike : Format → Time → Time → Type 0
+Alike f u v = (u ≡ v) ⊎ (Turn f u v ⊎ Turn f v u)
+
+alike-back : (f : Format) (u v : Time) → Alike f u v → Alike f v u
+alike-back f u v (inl p) = inl (sym p)
+alike-back f u v (inr (inl p)) = inr (inr p)
+alike-back f u v (inr (inr p)) = inr (inl p)
+
+both-lengths : (f : Format) (t : Time) → t .day ≤ 365 → Alike f (nextDay t 365) (nextDay t 366)
+unfolding dayAfter
 both-lengths f t h =
-    by-test (eqb (t .hundredths + interval f) dayLength)
-    (λ e.
     by-test (eqb (t .day) 365)
     (λ y.
     let p = eqb-true (t .day) 365 y in
-    rw (e, y, ne-eqb (t .day) 366 (λ q. omega arith)) (inr (inl (record { new-year = refl; new-midnight = refl; leap-day = omega arith; leap-midnight = refl }))))
+    rw (y, ne-eqb (t .day) 366 (λ q. omega arith)) (inr (inl (inl (record { new-year = refl; new-midnight = refl; leap-day = omega arith; leap-midnight = refl })))))
     (λ m.
     let n = eqb-false (t .day) 365 m in
-    rw (e, m, ne-eqb (t .day) 366 (λ q. omega arith)) (inl refl)))
-    (λ m. inl (rw m))
+    rw (m, ne-eqb (t .day) 366 (λ q. omega arith)) (inl refl))
 
-lengths : (f : Format) (t : Time) (y z : ℕ) → (y ≡ 365) ⊎ (y ≡ 366) → (z ≡ 365) ⊎ (z ≡ 366) → t .day ≤ y → t .day ≤ z → Alike (following f t y) (following f t z)
-lengths f t y z (inl p) (inl q) h k = inl (ap (following f t) (p ∙ sym q))
+lengths : (f : Format) (t : Time) (y z : ℕ) → (y ≡ 365) ⊎ (y ≡ 366) → (z ≡ 365) ⊎ (z ≡ 366) → t .day ≤ y → t .day ≤ z → Alike f (nextDay t y) (nextDay t z)
+lengths f t y z (inl p) (inl q) h k = inl (ap (nextDay t) (p ∙ sym q))
 lengths f t y z (inl p) (inr q) h k = rw (p, q) (both-lengths f t (omega arith))
-lengths f t y z (inr p) (inl q) h k = rw (p, q) (alike-back (following f t 365) (following f t 366) (both-lengths f t (omega arith)))
-lengths f t y z (inr p) (inr q) h k = inl (ap (following f t) (p ∙ sym q))
+lengths f t y z (inr p) (inl q) h k = rw (p, q) (alike-back f (nextDay t 365) (nextDay t 366) (both-lengths f t (omega arith)))
+lengths f t y z (inr p) (inr q) h k = inl (ap (nextDay t) (p ∙ sym q))
 
--- two times that follow one are the same, or day 1 and day 366 at midnight
-pub successors : (f : Format) (t u v : Time) → Follows f t u → Follows f t v → Alike u v
-successors f t u v s r =
-    let a = went f t (s .0) u (s .1) in
-    let b = went f t (r .0) v (r .1) in
-    rw (← a .to, ← b .to) (lengths f t (s .0) (r .0) (year-is (s .0) (a .length-is)) (year-is (r .0) (b .length-is)) (a .inside) (b .inside))
+-- a day's end before another's is that of a taken second or the usual one
+sooner : (x y : ℕ) → Ends x → Ends y → x < y → (x ≡ 8639900) ⊎ (x ≡ dayLength)
+sooner x y (inl p) e l = inr p
+sooner x y (inr (inl p)) e l = let z : ⊥ = omega (arith, end-small y e) in absurd z
+sooner x y (inr (inr p)) e l = inl p
+
+sooner-end : (f : Format) (k j : ℕ) → dayEnd f k < dayEnd f j → (carriesLeap f ≡ true) × ((dayEnd f k ≡ 8639900) ⊎ (dayEnd f k ≡ dayLength))
+sooner-end f k j l =
+    by-test (carriesLeap f)
+    (λ y. (y, rw (leap-end f k y) (sooner (dayLengthOf k) (dayLengthOf j) (ends k) (ends j) (rw (leap-end f k y, leap-end f j y) at l))))
+    (λ m. let z : ⊥ = omega (arith, usual-end f k m, usual-end f j m) in absurd z)
+
+kinds-apart : (f : Format) (t : Time) (y k j : ℕ) → t .hundredths + interval f < dayEnd f j → t .hundredths + interval f ≡ dayEnd f k → LeapTurn f (sameDay f t) (nextDay t y)
+kinds-apart f t y k j a b =
+    let e = sooner-end f k j (omega arith) in
+    record { carried = e .0; late = rw (← b) at (e .1); midnight = refl }
+
+-- two times that follow one are the same, day 1 and day 366 at midnight, or the last second or the added one and midnight
+pub successors : (f : Format) (t u v : Time) → Follows f t u → Follows f t v → Alike f u v
+successors f t u v s r = go (lands f t (s .0) (s .1) u a) (lands f t (r .0) (r .1) v b)
+  where
+    a : Went f t (s .0) (s .1) u
+    a = went f t (s .0) (s .1) u (s .2)
+
+    b : Went f t (r .0) (r .1) v
+    b = went f t (r .0) (r .1) v (r .2)
+
+    go : Lands f t (s .0) (s .1) u → Lands f t (r .0) (r .1) v → Alike f u v
+    go (inl p) (inl q) = inl (sym (p .0) ∙ q .0)
+    go (inl p) (inr q) = rw (← p .0, ← q .0) (inr (inl (inr (kinds-apart f t (r .0) (r .1) (s .1) (p .1) (q .1)))))
+    go (inr p) (inl q) = rw (← p .0, ← q .0) (inr (inr (inr (kinds-apart f t (s .0) (s .1) (r .1) (q .1) (p .1)))))
+    go (inr p) (inr q) = rw (← p .0, ← q .0) (lengths f t (s .0) (r .0) (year-is (s .0) (a .length-is)) (year-is (r .0) (b .length-is)) (a .inside) (b .inside))

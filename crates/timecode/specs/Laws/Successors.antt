@@ -1,19 +1,19 @@
 -- Two times that follow one are the same, or are written at least seven elements apart, whatever the control words.
 use mathlib.Core.Path.{_≡_, refl, sym, _∙_}
-use mathlib.Core.Bool.{Bool, true, false, not, _&&_}
+use mathlib.Core.Bool.{Bool, true, false, cond, not, _&&_}
 use mathlib.Core.List.{List, [], _∷_}
 use mathlib.Core.Logic.{_⊎_, inl, inr}
-use Prim.Native.Nat.{ℕ, zero, suc, _<_}
+use Prim.Native.Nat.{ℕ, zero, suc, _<_, _≤_}
 use native.Mathlib.Nat.{not-suc-le-zero}
 use native.Mathlib.Omega.{arith}
 use borrow.Author.Tests.{ltb-true, not-true, eqb-false}
 use lib.Dec.{ltb, eqb}
 use lib.ListN.{length, getD}
-use Rattle.timecode.specs.Formats.{member, table, lookUp, rowOf, known, size, carriesControl, carriesSeconds}
+use Rattle.timecode.specs.Formats.{member, table, lookUp, rowOf, known, size, carriesControl, carriesSeconds, dayLength, carriesLeap}
 use Rattle.timecode.specs.Frames.{Follows, written}
 use Rattle.timecode.specs.Laws.Marks.{at-written}
-use Rattle.timecode.specs.Laws.Places.{spared}
-use Rattle.timecode.specs.Laws.Stepping.{time-path, went, YearTurn, Alike, successors}
+use Rattle.timecode.specs.Laws.Places.{distinct, spared}
+use Rattle.timecode.specs.Laws.Stepping.{time-path, went, YearTurn, LeapTurn, Turn, Alike, successors}
 use Rattle.timecode.specs.Laws.Table.{everyFormat, of-every}
 use Rattle.timecode.specs.Laws.Tests.{and-left, and-right}
 use Rattle.timecode.specs.Layout.{seconds, minutes, hours, days, tenths, hundredths, hasSeconds, straightSeconds, controlRange, control, timeFields, fields, runs, timeNumbers, numbers, spread, isMark, rest, symbolAt}
@@ -61,22 +61,61 @@ turn-differs : (a b : ℕ) → everyFormat (λ f. differ f newYear a leapDay b t
 unfolding everyFormat table size rowOf lookUp rest isMark symbolAt runs fields timeFields numbers timeNumbers seconds minutes hours days tenths hundredths straightSeconds hasSeconds carriesSeconds control controlRange carriesControl
 turn-differs a b = refl
 
-turn-apart : (f : Format) (u v : Time) → known f ≡ true → YearTurn u v → Apart f u v
-turn-apart f u v k t a b qs few same =
-    let d = of-every (λ f. differ f newYear a leapDay b turnPlaces) (turn-differs a b) f k in
-    let x = spared turnPlaces qs refl few in
-    let y = differ-at f newYear a leapDay b turnPlaces d (x .0) (x .1) in
+differ-apart : (f : Format) (u v : Time) (ps : List ℕ) → distinct ps ≡ true → 7 ≤ length ps → ((a b : ℕ) → differ f u a v b ps ≡ true) → Apart f u v
+differ-apart f u v ps d long h a b qs few same =
+    let x = spared ps qs d (omega arith) in
+    let y = differ-at f u a v b ps (h a b) (x .0) (x .1) in
+    y .1 (same (getD ps (x .0) 0) (y .0) (x .2))
+
+year-apart : (f : Format) (u v : Time) → known f ≡ true → YearTurn u v → Apart f u v
+year-apart f u v k t =
     let p = time-path u newYear (t .new-year) (t .new-midnight) in
     let q = time-path v leapDay (t .leap-day) (t .leap-midnight) in
-    y .1 (rw (p, q) at (same (getD turnPlaces (x .0) 0) (y .0) (x .2)))
+    rw (p, q) (differ-apart f newYear leapDay turnPlaces refl (omega arith) (λ a b. of-every (λ f. differ f newYear a leapDay b turnPlaces) (turn-differs a b) f k))
+
+-- 23:59:59 and 23:59:60 differ from 00:00:00 in seven elements of the minutes and hours, whatever the days
+abbrev midnightPlaces : List ℕ
+midnightPlaces = 10 ∷ 13 ∷ 15 ∷ 17 ∷ 20 ∷ 21 ∷ 26 ∷ []
+
+abbrev on : ℕ → ℕ → Time
+on day hundredths = record { day = day; hundredths = hundredths }
+
+-- the format does not carry the added second, or the frame at c and that of midnight differ at the places
+abbrev differsAt : ℕ → ℕ → ℕ → ℕ → ℕ → Format → Bool
+differsAt c d e a b f = cond (carriesLeap f) (differ f (on d c) a (on e 0) b midnightPlaces) true
+
+last-differs : (d e a b : ℕ) → everyFormat (differsAt 8639900 d e a b) ≡ true
+unfolding everyFormat table size rowOf lookUp rest isMark symbolAt runs fields timeFields numbers timeNumbers seconds minutes hours days tenths hundredths straightSeconds hasSeconds carriesSeconds control controlRange carriesControl carriesLeap
+last-differs d e a b = refl
+
+added-differs : (d e a b : ℕ) → everyFormat (differsAt dayLength d e a b) ≡ true
+unfolding everyFormat table size rowOf lookUp rest isMark symbolAt runs fields timeFields numbers timeNumbers seconds minutes hours days tenths hundredths straightSeconds hasSeconds carriesSeconds control controlRange carriesControl carriesLeap
+added-differs d e a b = refl
+
+midnight-apart : (f : Format) (c : ℕ) → ((d e a b : ℕ) → everyFormat (differsAt c d e a b) ≡ true) → (u v : Time) → known f ≡ true → carriesLeap f ≡ true → u .hundredths ≡ c → v .hundredths ≡ 0 → Apart f u v
+midnight-apart f c h u v k y l z =
+    let p = time-path u (on (u .day) c) refl l in
+    let q = time-path v (on (v .day) 0) refl z in
+    rw (p, q) (differ-apart f (on (u .day) c) (on (v .day) 0) midnightPlaces refl (omega arith) (λ a b. rw y at (of-every (differsAt c (u .day) (v .day) a b) (h (u .day) (v .day) a b) f k)))
+
+leap-apart : (f : Format) (u v : Time) → known f ≡ true → LeapTurn f u v → Apart f u v
+leap-apart f u v k t = go (t .late)
+  where
+    go : (u .hundredths ≡ 8639900) ⊎ (u .hundredths ≡ dayLength) → Apart f u v
+    go (inl p) = midnight-apart f 8639900 last-differs u v k (t .carried) p (t .midnight)
+    go (inr p) = midnight-apart f dayLength added-differs u v k (t .carried) p (t .midnight)
+
+turn-apart : (f : Format) (u v : Time) → known f ≡ true → Turn f u v → Apart f u v
+turn-apart f u v k (inl t) = year-apart f u v k t
+turn-apart f u v k (inr t) = leap-apart f u v k t
 
 pub apart : (f : Format) (t u v : Time) → Follows f t u → Follows f t v → (u ≡ v) ⊎ Apart f u v
 apart f t u v s r = go (successors f t u v s r)
   where
     known-format : known f ≡ true
-    known-format = went f t (s .0) u (s .1) .format
+    known-format = went f t (s .0) (s .1) u (s .2) .format
 
-    go : Alike u v → (u ≡ v) ⊎ Apart f u v
+    go : Alike f u v → (u ≡ v) ⊎ Apart f u v
     go (inl p) = inl p
     go (inr (inl p)) = inr (turn-apart f u v known-format p)
     go (inr (inr p)) = inr (λ a b qs few same. turn-apart f v u known-format p b a qs few (λ i h m. sym (same i h m)))

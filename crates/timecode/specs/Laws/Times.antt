@@ -1,30 +1,36 @@
--- A time on a format has digits that fit the format's runs, and the digits that stand in those runs say a time on the format.
-use mathlib.Core.Path.{_≡_}
-use mathlib.Core.Bool.{true, _&&_}
+-- A time that Write takes has digits that fit the format's runs, and the digits that stand in those runs say a time on the format's grid.
+use mathlib.Core.Path.{_≡_, refl}
+use mathlib.Core.Bool.{true, false, _&&_}
 use mathlib.Core.List.{List}
-use Prim.Native.Nat.{ℕ, _%_, _≤_}
+use Prim.Native.Nat.{ℕ, _/_, _%_, _≤_, _<_}
 use native.Mathlib.Omega.{arith}
-use borrow.Author.Tests.{leb-true, eqb-true, le-leb, eq-eqb}
+use borrow.Author.Tests.{leb-true, ltb-true, eqb-true, le-leb, lt-ltb, eq-eqb}
 use lib.Dec.{leb, eqb}
-use Rattle.timecode.specs.Formats.{table, lookUp, rowOf, known, interval, lastDay, lastHundredth, inRange, onFormat}
+use Rattle.timecode.specs.Formats.{table, lookUp, rowOf, known, interval, lastDay, lastHundredth, dayLength, inRange, onFormat, carriesLeap, secondCarried}
 use Rattle.timecode.specs.Frames.{timeIn}
 use Rattle.timecode.specs.Laws.Digits.{decode}
 use Rattle.timecode.specs.Laws.Runs.{Small}
 use Rattle.timecode.specs.Laws.Table.{by-letter}
-use Rattle.timecode.specs.Laws.Tests.{and-left, and-right}
-use Rattle.timecode.specs.Layout.{seconds, minutes, hours, days, tenths, hundredths, timeFields, flatten, timeNumbers, spread}
+use Rattle.timecode.specs.Laws.Tests.{by-test, and-left, and-right}
+use Rattle.timecode.specs.Layout.{seconds, minutes, hours, days, tenths, hundredths, timeFields, flatten, addedIn, second, minute, hour, timeNumbers, spread}
 use Rattle.timecode.specs.declared.Format.{Format}
 use Rattle.timecode.specs.declared.Time.{Time}
 
+-- numbers 2 and 14 are passed
 pub record OnFormat (f : Format) (t : Time) : Type 0 where
   pub first : 1 ≤ t .day
   pub last : t .day ≤ lastDay
   pub below : t .hundredths ≤ lastHundredth
   pub grid : t .hundredths % interval f ≡ 0
+  pub carried : carriesLeap f ≡ false → t .hundredths < dayLength
 
-pub on-format : (f : Format) (t : Time) → onFormat f t ≡ true → OnFormat f t
+second-carried : (f : Format) (t : Time) → secondCarried f t ≡ true → carriesLeap f ≡ false → t .hundredths < dayLength
+unfolding secondCarried
+second-carried f t h m = ltb-true (t .hundredths) dayLength (rw m at h)
+
+pub on-format : (f : Format) (t : Time) → onFormat f t ≡ true → secondCarried f t ≡ true → OnFormat f t
 unfolding onFormat inRange
-on-format f t h =
+on-format f t h s =
     let range = and-left (leb 1 (t .day) && (leb (t .day) lastDay && leb (t .hundredths) lastHundredth)) (eqb (t .hundredths % interval f) 0) h in
     let ends = and-right (leb 1 (t .day)) (leb (t .day) lastDay && leb (t .hundredths) lastHundredth) range in
     record {
@@ -32,21 +38,42 @@ on-format f t h =
       last = leb-true (t .day) lastDay (and-left (leb (t .day) lastDay) (leb (t .hundredths) lastHundredth) ends);
       below = leb-true (t .hundredths) lastHundredth (and-right (leb (t .day) lastDay) (leb (t .hundredths) lastHundredth) ends);
       grid = eqb-true (t .hundredths % interval f) 0 (and-right (leb 1 (t .day) && (leb (t .day) lastDay && leb (t .hundredths) lastHundredth)) (eqb (t .hundredths % interval f) 0) h);
+      carried = second-carried f t s;
     }
 
 pub is-on-format : (f : Format) (t : Time) → OnFormat f t → onFormat f t ≡ true
 unfolding onFormat inRange
 is-on-format f t o = rw (le-leb 1 (t .day) (o .first), le-leb (t .day) lastDay (o .last), le-leb (t .hundredths) lastHundredth (o .below), eq-eqb (t .hundredths % interval f) 0 (o .grid))
 
+pub is-carried : (f : Format) (t : Time) → OnFormat f t → secondCarried f t ≡ true
+unfolding secondCarried
+is-carried f t o = by-test (carriesLeap f) (λ y. rw y) (λ m. rw m (lt-ltb (t .hundredths) dayLength (o .carried m)))
+
 abbrev at : ℕ → ℕ → Format
 at l e = record { letter = l; expression = e }
+
+-- seconds, minutes and hours before the added second
+pub none-added : (c : ℕ) → c < dayLength → (second c ≡ c / 100 % 60) × (minute c ≡ c / 100 / 60 % 60) × (hour c ≡ c / 100 / 60 / 60)
+none-added c h = let z : addedIn c ≡ 0 = omega arith in rw z (omega arith)
+
+-- the added second is 23:59:60
+pub one-added : (c : ℕ) → dayLength ≤ c → c ≤ lastHundredth → (second c ≡ 60) × (minute c ≡ 59) × (hour c ≡ 23)
+one-added c a b =
+    let z : addedIn c ≡ 1 = omega arith in
+    let q : c / 100 ≡ 86400 = omega arith in
+    rw (z, q) (refl, refl, refl)
 
 abbrev Fits : ℕ → Type 0
 Fits l = (e : ℕ) (t : Time) → OnFormat (at l e) t → Small (flatten (timeFields (at l e))) (spread (timeFields (at l e)) (timeNumbers t))
 
 fits : (f : Format) → known f ≡ true → Fits (f .letter)
-unfolding timeFields seconds minutes hours days tenths hundredths timeNumbers interval rowOf lookUp table
-fits = by-letter Fits (λ e t o. omega arith) (λ e t o. omega arith) (λ e t o. omega arith) (λ e t o. omega arith) (λ e t o. omega arith) (λ e t o. omega arith)
+unfolding timeFields seconds minutes hours days tenths hundredths timeNumbers interval rowOf lookUp table carriesLeap
+fits =
+    by-letter Fits (λ e t o. omega arith) (λ e t o. omega arith)
+    (λ e t o. rw (none-added (t .hundredths) (o .carried refl) .0, none-added (t .hundredths) (o .carried refl) .1, none-added (t .hundredths) (o .carried refl) .2) (omega arith))
+    (λ e t o. rw (none-added (t .hundredths) (o .carried refl) .0, none-added (t .hundredths) (o .carried refl) .1, none-added (t .hundredths) (o .carried refl) .2) (omega arith))
+    (λ e t o. omega arith)
+    (λ e t o. rw (none-added (t .hundredths) (o .carried refl) .0, none-added (t .hundredths) (o .carried refl) .1, none-added (t .hundredths) (o .carried refl) .2) (omega arith))
 
 -- the digits of a time on the format fit their runs
 pub time-small : (f : Format) (t : Time) → known f ≡ true → OnFormat f t → Small (flatten (timeFields f)) (spread (timeFields f) (timeNumbers t))

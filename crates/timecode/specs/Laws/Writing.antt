@@ -1,15 +1,16 @@
 -- What is written is accepted, and read as it was written. Demand 2 follows, and Write's answer taken apart.
 use mathlib.Core.Path.{_≡_, refl, sym, ap₂, _∙_, subst}
-use mathlib.Core.Bool.{true}
+use mathlib.Core.Bool.{true, false, _&&_}
 use mathlib.Core.List.{List, [], _∷_, _++_}
-use Prim.Native.Nat.{ℕ, zero, suc, _+_, _*_, _/_, _%_, _^_, _≤_}
+use Prim.Native.Nat.{ℕ, zero, suc, _+_, _*_, _/_, _%_, _^_, _≤_, _<_}
 use native.Mathlib.Nat.{zero-add}
 use native.Mathlib.Omega.{arith}
+use native.Mathlib.Decide.{decLt}
 use borrow.Author.Tests.{ltb-true, eqb-true, lt-ltb, le-leb, eq-eqb}
-use lib.Dec.{ltb, eqb}
+use lib.Dec.{leb, ltb, eqb}
 use lib.ListN.{length}
-use Rattle.timecode.specs.Formats.{known, size, lastDay, onFormat}
-use Rattle.timecode.specs.Frames.{totalWidth, controlFits, written, writeOf, writeLeaves, areSymbols, areDigits, isTime, timeIn, secondsAgree, readOf}
+use Rattle.timecode.specs.Formats.{known, size, lastDay, lastHundredth, dayLength, onFormat, carriesLeap, secondCarried}
+use Rattle.timecode.specs.Frames.{totalWidth, controlFits, written, writeOf, writeLeaves, areSymbols, areDigits, lastSecond, isTime, timeIn, secondsAgree, readOf}
 use Rattle.timecode.specs.Laws.Checks.{passed, passes, done}
 use Rattle.timecode.specs.Laws.Digits.{decode}
 use Rattle.timecode.specs.Laws.Fields.{Each, fields-apart, fields-together, number-back, AreDigits, digits-are, binary-positive, binary-capacity, binary-small}
@@ -17,7 +18,7 @@ use Rattle.timecode.specs.Laws.Reading.{Valid, elements-pass, straight-b
 use Rattle.timecode.specs.Laws.Runs.{length-encode, Small, small-length, small-append, decode-encode, encode-clean}
 use Rattle.timecode.specs.Laws.Table.{layout-proper}
 use Rattle.timecode.specs.Laws.Tests.{by-test}
-use Rattle.timecode.specs.Laws.Times.{on-format, is-on-format, time-small}
+use Rattle.timecode.specs.Laws.Times.{on-format, is-on-format, is-carried, one-added, time-small}
 use Rattle.timecode.specs.Layout.{Run, seconds, minutes, hours, days, tenths, hundredths, hasSeconds, straightSeconds, control, timeFields, fields, flatten, runs, second, minute, hour, timeNumbers, numbers, digitsOf, spread, inRun, isMark, rest, symbolAt, tabulate, encode, numberIn}
 use Rattle.timecode.specs.declared.Format.{Format}
 use Rattle.timecode.specs.declared.Reading.{Reading}
@@ -54,6 +55,22 @@ time-digits : (f : Format) (t : Time) → AreDigits (spread (timeFields f) (time
 unfolding timeFields timeNumbers seconds minutes hours days tenths hundredths
 time-digits f t = omega arith
 
+least-last : (f : Format) (h m : ℕ) → 59 ≤ lastSecond f h m
+unfolding lastSecond
+least-last f h m = by-test (carriesLeap f && (eqb h 23 && eqb m 59)) (λ y. rw y (omega arith)) (λ n. rw n (omega arith))
+
+-- the second of c is at most the last of its minute
+second-last : (f : Format) (c : ℕ) → c ≤ lastHundredth → (carriesLeap f ≡ false → c < dayLength) → leb (second c) (lastSecond f (hour c) (minute c)) ≡ true
+unfolding lastSecond
+second-last f c b carried = go (decLt c dayLength)
+  where
+    go : Dec (c < dayLength) → leb (second c) (lastSecond f (hour c) (minute c)) ≡ true
+    go (yes l) = le-leb (second c) (lastSecond f (hour c) (minute c)) (omega (arith, least-last f (hour c) (minute c)))
+    go (no l) =
+        let y : carriesLeap f ≡ true = by-test (carriesLeap f) (λ y. y) (λ n. let z : ⊥ = omega (arith, carried n) in absurd z) in
+        let a : dayLength ≤ c = omega arith in
+        rw (y, one-added c a b .0, one-added c a b .1, one-added c a b .2) refl
+
 module _ (f : Format) (t : Time) (w : ℕ) (v : Valid f t w) where
   abbrev frame : List ℕ
   frame = written f t w
@@ -72,7 +89,7 @@ module _ (f : Format) (t : Time) (w : ℕ) (v : Valid f t w) where
 
   second-back : numberIn frame (seconds f) ≡ second (t .hundredths)
   unfolding fields timeFields numbers timeNumbers seconds
-  second-back = number-back frame (seconds f) (second (t .hundredths)) (omega arith) (omega arith) (decoded .0)
+  second-back = number-back frame (seconds f) (second (t .hundredths)) (omega arith) (omega (arith, v .time .below)) (decoded .0)
 
   minute-back : numberIn frame (minutes f) ≡ minute (t .hundredths)
   unfolding fields timeFields numbers timeNumbers minutes
@@ -109,7 +126,7 @@ module _ (f : Format) (t : Time) (w : ℕ) (v : Valid f t w) where
   time-back = λ i. record { day = day-back i; hundredths = clock-back i }
     where
       clock-back : ((numberIn frame (hours f) * 60 + numberIn frame (minutes f)) * 60 + numberIn frame (seconds f)) * 100 + numberIn frame (tenths f) * 10 + numberIn frame (hundredths f) ≡ t .hundredths
-      clock-back = rw (hour-back, minute-back, second-back, tenth-back, hundredth-back) (omega arith)
+      clock-back = rw (hour-back, minute-back, second-back, tenth-back, hundredth-back) (omega (arith, v .time .below))
 
   time-decoded : spread (timeFields f) (timeNumbers t) ≡ decode (flatten (timeFields f)) frame
   unfolding fields timeFields numbers timeNumbers
@@ -131,7 +148,7 @@ module _ (f : Format) (t : Time) (w : ℕ) (v : Valid f t w) where
         day-back,
         le-leb (hour (t .hundredths)) 23 (omega (arith, v .time .below)),
         le-leb (minute (t .hundredths)) 59 (omega arith),
-        le-leb (second (t .hundredths)) 59 (omega arith),
+        second-last f (t .hundredths) (v .time .below) (v .time .carried),
         le-leb 1 (t .day) (v .time .first),
         le-leb (t .day) lastDay (v .time .last),
       )
@@ -161,16 +178,17 @@ unfolding writeOf controlFits
 taken f t w lent h =
     let a = passed Written.Refused 1 (known f) _ Done done h in
     let b = passed Written.Refused 2 (onFormat f t) _ Done done (a .1) in
-    let c = passed Written.Refused 9 (ltb w (2 ^ totalWidth (control f))) _ Done done (b .1) in
+    let s = passed Written.Refused 14 (secondCarried f t) _ Done done (b .1) in
+    let c = passed Written.Refused 9 (ltb w (2 ^ totalWidth (control f))) _ Done done (s .1) in
     let d = passed Written.Refused 3 (eqb (length lent) (size f)) _ Done done (c .1) in (
-      record { format = a .0; time = on-format f t (b .0); room = ltb-true w (2 ^ totalWidth (control f)) (c .0) },
+      record { format = a .0; time = on-format f t (b .0) (s .0); room = ltb-true w (2 ^ totalWidth (control f)) (c .0) },
       eqb-true (length lent) (size f) (d .0),
     )
 
 pub takes : (f : Format) (t : Time) (w : ℕ) (lent : List ℕ) → Valid f t w → length lent ≡ size f → writeOf f t w lent ≡ Done
 unfolding writeOf controlFits
 takes f t w lent v n =
-    rw (v .format, is-on-format f t (v .time), lt-ltb w (2 ^ totalWidth (control f)) (v .room), eq-eqb (length lent) (size f) n)
+    rw (v .format, is-on-format f t (v .time), is-carried f t (v .time), lt-ltb w (2 ^ totalWidth (control f)) (v .room), eq-eqb (length lent) (size f) n)
 
 pub leaves : (f : Format) (t : Time) (w : ℕ) (lent : List ℕ) → writeOf f t w lent ≡ Done → writeLeaves f t w lent ≡ written f t w
 unfolding writeLeaves

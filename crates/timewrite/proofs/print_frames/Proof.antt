@@ -1,10 +1,11 @@
--- `print_frames` meets its contract: the time is that of the first frame left.
+-- `print_frames` meets its contract: the next frame is the first one left.
 use borrow.Author.Needs.{needs}
 use native.Mathlib.Omega.{arith}
 use mathlib.Core.Path.{_≡_}
 use Prim.Native.Nat.{_-_, _≤_}
-use Rattle.generator.specs.Sending.{timeOf}
-use Rattle.generator.specs.Whole.{times-start, times-turn}
+use Rattle.generator.specs.Sending.{startOf}
+use Rattle.generator.specs.Turns.{starts-first}
+use Rattle.generator.specs.Whole.{starts-turn}
 use Rattle.timewrite.proofs.print_frames.Statement.{statement}
 use Rattle.timewrite.proofs.print_frames.Tie as tie
 use Rattle.timewrite.proofs.print_frames.Reads as reads
@@ -14,40 +15,40 @@ use Rattle.io.proofs.large_buffer.Reads as large-buffer-reads
 use Rattle.printing.proofs.write_first.Reads as write-first-reads
 
 abbrev Inv-loop : tie.InvT-loop
-Inv-loop format control year out₀ time₀ left₀ more₀ out time left more = (left ≤ left₀) × (time ≡ timeOf format time₀ year (left₀ - left))
+Inv-loop format control year out₀ next₀ left₀ more₀ out next left more = (left ≤ left₀) × (next ≡ startOf format next₀ year (left₀ - left))
 
 abbrev μ-loop : tie.MeasureT-loop
-μ-loop format control year out₀ time₀ left₀ more₀ out time left more = left
+μ-loop format control year out₀ next₀ left₀ more₀ out next left more = left
 
--- src/main.rt:151:19
+-- src/main.rt:185:19
 large-buffer-requires : tie.Need-large-buffer-requires Inv-loop μ-loop
 large-buffer-requires c κs = search needs
 
--- src/main.rt:155:5
+-- src/main.rt:189:5
 loop-holds : tie.Need-loop-holds Inv-loop μ-loop
-loop-holds c = (omega arith, times-start _ _ _ _)
+loop-holds c = (omega arith, starts-first _ _ _ _)
 
--- src/main.rt:156:13
+-- src/main.rt:190:13
 generate-requires : tie.Need-generate-requires Inv-loop μ-loop
 generate-requires c κs = search needs
 
--- src/main.rt:159:9
+-- src/main.rt:193:9
 write-first-requires : tie.Need-write-first-requires Inv-loop μ-loop
 write-first-requires c κs = search needs
 
--- src/main.rt:155:5
+-- src/main.rt:189:5
 loop-less : tie.Need-loop-less Inv-loop μ-loop
-loop-less c = omega (arith, c .before .before .before .generate .ensures .5 (omega arith))
+loop-less c = omega (arith, c .before .before .before .generate .ensures .4 (omega arith))
 
--- src/main.rt:155:5
+-- src/main.rt:189:5
 loop-again : tie.Need-loop-again Inv-loop μ-loop
-loop-again c = (omega (arith, c .before .before .before .generate .ensures .2, c .before .before .before .before .before .before .before .loop .inv .0), times-turn _ _ (c .before .before .before .before .before .before .before .loop .time) _ _ _ (c .before .before .before .before .before .before .before .loop .left) _ (c .before .before .before .before .before .before .before .loop .inv .0) (c .before .before .before .generate .ensures .2) (c .before .before .before .before .before .before .before .loop .inv .1) (c .before .before .before .generate .ensures .3))
+loop-again c = (omega (arith, c .before .before .before .generate .ensures .1, c .before .before .before .before .before .before .before .loop .inv .0), starts-turn _ _ (c .before .before .before .before .before .before .before .loop .next) _ _ _ (c .before .before .before .before .before .before .before .loop .left) _ (c .before .before .before .before .before .before .before .loop .inv .0) (c .before .before .before .generate .ensures .1) (c .before .before .before .before .before .before .before .loop .inv .1) (c .before .before .before .generate .ensures .2))
 
--- src/main.rt:145:1
+-- src/main.rt:179:1
 returns : tie.Need-returns Inv-loop μ-loop
 returns c = c .before .before .loop .inv
 
--- src/main.rt:145:1
+-- src/main.rt:179:1
 returns-2 : tie.Need-returns-2 Inv-loop μ-loop
 returns-2 c = c .before .loop .inv
 
