@@ -91,6 +91,13 @@ uint8_t duskveyra_read(uint8_t letter, uint8_t expression, const uint8_t *frame,
 uint8_t duskveyra_step(uint8_t letter, uint8_t expression, uint16_t day, uint32_t hundredths, uint16_t year_length,
                        uint8_t kind, uint16_t *next_day, uint32_t *next_hundredths);
 
+/* The time of the frame before the one with this time: sets *earlier_day and *earlier_hundredths. The length of the year
+ * and the kind are those of the year and the day that the earlier time belongs to; day 1 at 0 hundredths goes to that
+ * year's last frame. It undoes duskveyra_step with the same year_length and kind, and duskveyra_step undoes it.
+ * Refuses as duskveyra_step does, by the time that is given: 1; 2; 14; 11; 15; in this order, and then leaves both. */
+uint8_t duskveyra_step_back(uint8_t letter, uint8_t expression, uint16_t day, uint32_t hundredths,
+                            uint16_t year_length, uint8_t kind, uint16_t *earlier_day, uint32_t *earlier_hundredths);
+
 /* The first time less the second, within one year: sets *difference to signed hundredths of a second. A day counts
  * 8,640,000 of them, whatever its kind.
  * Refuses with 2 where a day or hundredths are out of range, and then leaves it. */

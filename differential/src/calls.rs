@@ -14,10 +14,10 @@ pub fn run_calls(random: &mut Random, counts: &mut Counts) -> Result<(), String>
     for _ in 0..TURNS {
         write(random)?;
         read(random)?;
-        step(random)?;
+        steps(random)?;
         difference(random)?;
         classify(random)?;
-        counts.calls += 5;
+        counts.calls += 6;
     }
     for _ in 0..TURNS / 6 {
         classify_list(random)?;
@@ -227,7 +227,8 @@ fn read(random: &mut Random) -> Result<(), String> {
     )
 }
 
-fn step(random: &mut Random) -> Result<(), String> {
+/// The step and the step back from one time.
+fn steps(random: &mut Random) -> Result<(), String> {
     let format = any_format(random);
     let at = any_time(random, format);
     let length = match random.below(6) {
@@ -240,16 +241,23 @@ fn step(random: &mut Random) -> Result<(), String> {
         1 => random.next() as u8,
         _ => random.below(3) as u8,
     };
-    let answer = duskveyra::step(library_format(format), library_time(at), length, kind);
-    let expected = reference::step(format, at, length, kind);
+    let (from, time) = (library_format(format), library_time(at));
+    let answers = [
+        duskveyra::step(from, time, length, kind),
+        duskveyra::step_back(from, time, length, kind),
+    ];
+    let expected = [
+        reference::step(format, at, length, kind),
+        reference::step_back(format, at, length, kind),
+    ];
     agree(
-        || format!("step {format:?} {at:?} year length {length} kind {kind}"),
-        answer
-            .map(|next| (next.day, next.hundredths))
-            .map_err(refused),
-        expected
-            .map(|next| (next.day, next.hundredths))
-            .map_err(plain_refused),
+        || format!("step, step back {format:?} {at:?} year length {length} kind {kind}"),
+        answers.map(|answer| answer.map(|to| (to.day, to.hundredths)).map_err(refused)),
+        expected.map(|answer| {
+            answer
+                .map(|to| (to.day, to.hundredths))
+                .map_err(plain_refused)
+        }),
     )
 }
 

@@ -16,6 +16,25 @@ pub(crate) fn check_on_format(layout: &Layout, time: Time) -> Result<(), Refusal
     }
 }
 
+/// The hundredths of a day of that kind as the format counts them, or refusal
+/// 11 or 15 for a time that no such day of such a year has.
+fn day_length(layout: &Layout, time: Time, year_length: u16, kind: u8) -> Result<u32, Refusal> {
+    if !matches!(year_length, 365 | 366) || time.day > year_length {
+        return Err(Refusal::YearLength);
+    }
+    let length = match kind {
+        SECOND_ADDED if layout.leap_second => Time::HUNDREDTHS_PER_DAY + 100,
+        SECOND_TAKEN if layout.leap_second => Time::HUNDREDTHS_PER_DAY - 100,
+        USUAL_DAY | SECOND_ADDED | SECOND_TAKEN => Time::HUNDREDTHS_PER_DAY,
+        _ => return Err(Refusal::DayKind),
+    };
+    if time.hundredths < length {
+        Ok(length)
+    } else {
+        Err(Refusal::DayKind)
+    }
+}
+
 /// The time one frame later in a year of 365 or 366 days; the kind is that of
 /// the given time's day.
 pub fn step(format: Format, time: Time, year_length: u16, kind: u8) -> Result<Time, Refusal> {
@@ -24,26 +43,33 @@ pub fn step(format: Format, time: Time, year_length: u16, kind: u8) -> Result<Ti
     advance(layout, time, year_length, kind)
 }
 
-/// The hundredths of a day of that kind as the format counts them, or refusal
-/// 15.
-fn day_length(layout: &Layout, kind: u8) -> Result<u32, Refusal> {
-    match kind {
-        SECOND_ADDED if layout.leap_second => Ok(Time::HUNDREDTHS_PER_DAY + 100),
-        SECOND_TAKEN if layout.leap_second => Ok(Time::HUNDREDTHS_PER_DAY - 100),
-        USUAL_DAY | SECOND_ADDED | SECOND_TAKEN => Ok(Time::HUNDREDTHS_PER_DAY),
-        _ => Err(Refusal::DayKind),
-    }
+/// The time one frame earlier; the year length and the kind are those of that
+/// time's year and day. The checks look at the given time, as those of `step`.
+pub fn step_back(format: Format, time: Time, year_length: u16, kind: u8) -> Result<Time, Refusal> {
+    let layout = Layout::of(format)?;
+    check_on_format(layout, time)?;
+    let day_length = day_length(layout, time, year_length, kind)?;
+    Ok(if time.hundredths > 0 {
+        Time {
+            hundredths: time.hundredths - layout.interval,
+            ..time
+        }
+    } else if time.day > 1 {
+        Time {
+            day: time.day - 1,
+            hundredths: day_length - layout.interval,
+        }
+    } else {
+        Time {
+            day: year_length,
+            hundredths: day_length - layout.interval,
+        }
+    })
 }
 
 /// `step` for a time already known to lie on the format.
 fn advance(layout: &Layout, time: Time, year_length: u16, kind: u8) -> Result<Time, Refusal> {
-    if !matches!(year_length, 365 | 366) || time.day > year_length {
-        return Err(Refusal::YearLength);
-    }
-    let day_length = day_length(layout, kind)?;
-    if time.hundredths >= day_length {
-        return Err(Refusal::DayKind);
-    }
+    let day_length = day_length(layout, time, year_length, kind)?;
     let hundredths = time.hundredths + layout.interval;
     Ok(if hundredths < day_length {
         Time { hundredths, ..time }

@@ -16,7 +16,7 @@ mod scan;
 mod stream;
 mod timeread;
 
-pub use clock::{difference, next_after, step};
+pub use clock::{difference, next_after, step, step_back};
 pub use formats::{Format, Time, MARK, ONE, SECOND_ADDED, SECOND_TAKEN, SPOILED, USUAL_DAY, ZERO};
 pub use frame::{read, write};
 pub use pulse::{classify, classify_and_feed, classify_list};

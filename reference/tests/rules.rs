@@ -1,10 +1,11 @@
 //! What documents 01 and 02 themselves give: the examples, the order of the
-//! refusals, the leap second, and the stream reader held against the plain
-//! machine.
+//! refusals, the step back, the leap second, and the stream reader held against
+//! the plain machine.
 
 use reference::{
-    classify, classify_and_feed, classify_list, difference, next_after, read, scan, step, timeread,
-    write, Answer, Format, Reader, Refusal, Time, MARK, SECOND_ADDED, SECOND_TAKEN, USUAL_DAY,
+    classify, classify_and_feed, classify_list, difference, next_after, read, scan, step,
+    step_back, timeread, write, Answer, Format, Reader, Refusal, Time, MARK, SECOND_ADDED,
+    SECOND_TAKEN, USUAL_DAY,
 };
 
 const FORMATS: [&str; 16] = [
@@ -44,6 +45,15 @@ fn table(format: Format) -> (usize, u32, u32) {
 /// Whether the format carries the leap second.
 fn leaps(format: Format) -> bool {
     b"ABG".contains(&format.letter)
+}
+
+/// Where days of the kinds 0, 1 and 2 end in the format's frames.
+fn day_ends(format: Format) -> [u32; 3] {
+    if leaps(format) {
+        [8_640_000, 8_640_100, 8_639_900]
+    } else {
+        [8_640_000; 3]
+    }
 }
 
 fn frame(format: Format, time: Time, control: u64) -> Vec<u8> {
@@ -226,20 +236,24 @@ fn order_of_refusals() {
         letter: b'D',
         expression: 0,
     };
-    assert_eq!(step(d0, time(0, 0), 364, 3), Err(Refusal::Format));
-    assert_eq!(step(b0, time(367, 0), 364, 3), Err(Refusal::Time));
-    assert_eq!(step(b0, time(1, 0), 364, 3), Err(Refusal::YearLength));
-    assert_eq!(step(b0, time(366, 0), 365, 3), Err(Refusal::YearLength));
-    assert_eq!(step(b0, time(366, 0), 366, 3), Err(Refusal::DayKind));
-
     let d1 = format("D1");
     let mut lent = [9; 59];
     let added = time(1, 8_640_000);
-    assert_eq!(step(d0, added, 364, 3), Err(Refusal::Format));
-    assert_eq!(step(d1, time(367, 8_640_000), 364, 3), Err(Refusal::Time));
-    assert_eq!(step(d1, added, 364, 3), Err(Refusal::AddedSecond));
-    assert_eq!(step(d1, time(1, 0), 364, 3), Err(Refusal::YearLength));
-    assert_eq!(step(d1, time(1, 0), 365, 3), Err(Refusal::DayKind));
+    for step in [step, step_back] {
+        assert_eq!(step(d0, time(0, 0), 364, 3), Err(Refusal::Format));
+        assert_eq!(step(b0, time(367, 0), 364, 3), Err(Refusal::Time));
+        assert_eq!(step(b0, time(1, 0), 364, 3), Err(Refusal::YearLength));
+        assert_eq!(step(b0, time(366, 0), 365, 3), Err(Refusal::YearLength));
+        assert_eq!(step(b0, time(366, 0), 366, 3), Err(Refusal::DayKind));
+        assert_eq!(step(b0, added, 364, 0), Err(Refusal::YearLength));
+        assert_eq!(step(b0, added, 365, 0), Err(Refusal::DayKind));
+
+        assert_eq!(step(d0, added, 364, 3), Err(Refusal::Format));
+        assert_eq!(step(d1, time(367, 8_640_000), 364, 3), Err(Refusal::Time));
+        assert_eq!(step(d1, added, 364, 3), Err(Refusal::AddedSecond));
+        assert_eq!(step(d1, time(1, 0), 364, 3), Err(Refusal::YearLength));
+        assert_eq!(step(d1, time(1, 0), 365, 3), Err(Refusal::DayKind));
+    }
     assert_eq!(
         write(d1, time(0, 8_640_000), 512, &mut lent),
         Err(Refusal::Time)
@@ -293,12 +307,7 @@ fn stepping() {
 fn stepping_by_kind() {
     for name in FORMATS {
         let (format, s) = (format(name), table(format(name)).1);
-        let ends = if leaps(format) {
-            [8_640_000, 8_640_100, 8_639_900]
-        } else {
-            [8_640_000; 3]
-        };
-        for (kind, end) in (0..3).zip(ends) {
+        for (kind, end) in (0..3).zip(day_ends(format)) {
             let last = |day| step(format, time(day, end - s), 366, kind);
             assert_eq!(last(181), Ok(time(182, 0)), "{name} {kind}");
             assert_eq!(last(366), Ok(time(1, 0)), "{name} {kind}");
@@ -307,25 +316,99 @@ fn stepping_by_kind() {
                 Ok(time(181, end - s)),
                 "{name} {kind}"
             );
-            if end < 8_640_100 && leaps(format) {
-                let past = step(format, time(181, end), 365, kind);
-                assert_eq!(past, Err(Refusal::DayKind), "{name} {kind}");
+        }
+        for step in [step, step_back] {
+            refused_by_kind(step, name);
+        }
+    }
+}
+
+/// What lies past the end of a day of each kind, and the kinds above 2.
+fn refused_by_kind(step: fn(Format, Time, u16, u8) -> Result<Time, Refusal>, name: &str) {
+    let format = format(name);
+    for (kind, end) in (0..3).zip(day_ends(format)) {
+        if end < 8_640_100 && leaps(format) {
+            let past = step(format, time(181, end), 365, kind);
+            assert_eq!(past, Err(Refusal::DayKind), "{name} {kind}");
+        }
+    }
+    for kind in 3..=255 {
+        let refused = step(format, time(181, 0), 365, kind);
+        assert_eq!(refused, Err(Refusal::DayKind), "{name} {kind}");
+    }
+    let past = step(format, time(181, 8_640_100), 365, SECOND_ADDED);
+    assert_eq!(past, Err(Refusal::Time), "{name}");
+    let added = step(format, time(181, 8_640_000), 365, USUAL_DAY);
+    let expected = if leaps(format) {
+        Refusal::DayKind
+    } else {
+        Refusal::AddedSecond
+    };
+    assert_eq!(added, Err(expected), "{name}");
+}
+
+/// The year and the kind are the earlier time's; 11 and 15 look at the time
+/// that is given.
+#[test]
+fn stepping_back() {
+    for name in FORMATS {
+        let (format, s) = (format(name), table(format(name)).1);
+        for (kind, end) in (0..3).zip(day_ends(format)) {
+            let back = |day, hundredths, length| {
+                step_back(format, time(day, hundredths), length, kind)
+                    .map(|before| (before.day, before.hundredths))
+            };
+            let last = end - s;
+            assert_eq!(back(1, 0, 365), Ok((365, last)), "{name} {kind}");
+            assert_eq!(back(1, 0, 366), Ok((366, last)), "{name} {kind}");
+            assert_eq!(back(2, 0, 365), Ok((1, last)), "{name} {kind}");
+            assert_eq!(back(366, 0, 366), Ok((365, last)), "{name} {kind}");
+            assert_eq!(back(1, s, 365), Ok((1, 0)), "{name} {kind}");
+            assert_eq!(back(366, last, 366), Ok((366, last - s)), "{name} {kind}");
+            // With day 365 in its place, the step would lead to day 1.
+            assert_eq!(back(366, 0, 365), Err(Refusal::YearLength), "{name}");
+        }
+    }
+    let b0 = format("B0");
+    // A step of that kind from 8,639,800 leads to midnight.
+    let past = step_back(b0, time(181, 8_639_900), 365, SECOND_TAKEN);
+    assert_eq!(past, Err(Refusal::DayKind));
+    assert_eq!(
+        step_back(b0, time(181, 8_640_000), 365, SECOND_ADDED),
+        Ok(time(181, 8_639_900))
+    );
+}
+
+/// Each step returns the other's time, and so takes it: over days of every kind
+/// and years of both lengths, at their borders and anywhere.
+#[test]
+fn step_and_step_back_are_inverse() {
+    let mut random = Random(6);
+    let mut taken = 0;
+    for name in FORMATS {
+        let (format, s) = (format(name), table(format(name)).1);
+        let mut times: Vec<Time> = (0..5_000).map(|_| random.time(format)).collect();
+        for day in [1, 2, 59, 60, 181, 364, 365, 366] {
+            let frames = [0, 1, 2].map(|frame| frame * s);
+            let ends = day_ends(format).map(|end| [end - s, end - 2 * s]);
+            let borders = frames.into_iter().chain(ends.into_iter().flatten());
+            times.extend(borders.map(|hundredths| time(day, hundredths)));
+        }
+        for from in times {
+            for (length, kind) in [(365, 0), (365, 1), (365, 2), (366, 0), (366, 1), (366, 2)] {
+                let next = step(format, from, length, kind);
+                let before = step_back(format, from, length, kind);
+                assert_eq!(next.err(), before.err());
+                if let (Ok(next), Ok(before)) = (next, before) {
+                    assert_eq!(step_back(format, next, length, kind), Ok(from));
+                    assert_eq!(step(format, before, length, kind), Ok(from));
+                    assert!(next_after(format, before, from));
+                    taken += 1;
+                }
             }
         }
-        for kind in 3..=255 {
-            let refused = step(format, time(181, 0), 365, kind);
-            assert_eq!(refused, Err(Refusal::DayKind), "{name} {kind}");
-        }
-        let past = step(format, time(181, 8_640_100), 365, SECOND_ADDED);
-        assert_eq!(past, Err(Refusal::Time), "{name}");
-        let added = step(format, time(181, 8_640_000), 365, USUAL_DAY);
-        let expected = if leaps(format) {
-            Refusal::DayKind
-        } else {
-            Refusal::AddedSecond
-        };
-        assert_eq!(added, Err(expected), "{name}");
     }
+    assert!(taken > 200_000);
 }
 
 /// Up to three times follow one.

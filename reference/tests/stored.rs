@@ -59,9 +59,10 @@ fn answer(line: &str) -> String {
     };
     let number = |i: usize| words[i].parse().unwrap();
     let said = match words[0] {
-        "step" => {
+        "step" | "back" => {
+            let call = if words[0] == "step" { step } else { step_back };
             let (year, kind) = (words[5].parse().unwrap(), words[6].parse().unwrap());
-            step(format(), time(3), year, kind).map(|t| format!("{} {}", t.day, t.hundredths))
+            call(format(), time(3), year, kind).map(|t| format!("{} {}", t.day, t.hundredths))
         }
         "write" => {
             let mut frame = vec![7u8; words[6].parse().unwrap()];

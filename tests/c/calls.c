@@ -65,10 +65,15 @@ static int same(void)
     return memcmp(&got, &want, sizeof got) == 0;
 }
 
-static void set_values(uint16_t day, uint32_t hundredths, uint64_t control)
+static void set_time(uint16_t day, uint32_t hundredths)
 {
     SET(uint16_t, day, day);
     SET(uint32_t, hundredths, hundredths);
+}
+
+static void set_values(uint16_t day, uint32_t hundredths, uint64_t control)
+{
+    set_time(day, hundredths);
     SET(uint64_t, control, control);
 }
 
@@ -268,6 +273,18 @@ static uint8_t call_step(uint8_t letter, uint8_t expression, uint16_t day, uint3
     return duskveyra_step(letter, expression, day, hundredths, year_length, day_kind, &got.day, &got.hundredths);
 }
 
+static uint8_t call_step_back(uint8_t letter, uint8_t expression, uint16_t day, uint32_t hundredths,
+                              uint16_t year_length, uint8_t day_kind)
+{
+    reset();
+    return duskveyra_step_back(letter, expression, day, hundredths, year_length, day_kind, &got.day, &got.hundredths);
+}
+
+/* Both steps, for what holds of either. */
+typedef uint8_t step_call(uint8_t, uint8_t, uint16_t, uint32_t, uint16_t, uint8_t);
+static step_call *const both_steps[] = {call_step, call_step_back};
+#define STEPS 2
+
 static uint8_t call_scan(uint8_t letter, uint8_t expression, const uint8_t *recording, size_t length, size_t start)
 {
     reset();
@@ -325,6 +342,7 @@ static void unknown_formats(void)
             CHECK(call_write(l, e, 1, 0, 0, frame, 100) == 1 && all_bytes(frame, 100, FILL));
             CHECK(call_read(l, e, frame, 100) == 1 && same());
             CHECK(call_step(l, e, 1, 0, 365, 0) == 1 && same());
+            CHECK(call_step_back(l, e, 1, 0, 365, 0) == 1 && same());
             CHECK(call_scan(l, e, frame, 100, 0) == 1 && same());
         }
     free(frame);
@@ -372,16 +390,27 @@ static void examples(void)
     CHECK(same());
 
     CHECK(call_step('B', 0, 365, 8639900, 365, 0) == 0);
-    SET(uint16_t, day, 1);
-    SET(uint32_t, hundredths, 0);
+    set_time(1, 0);
     CHECK(same());
     CHECK(call_step('B', 0, 365, 8639900, 366, 0) == 0);
-    SET(uint16_t, day, 366);
-    SET(uint32_t, hundredths, 0);
+    set_time(366, 0);
     CHECK(same());
-    CHECK(call_step('B', 0, 1, 0, 364, 0) == 11 && same());
-    CHECK(call_step('B', 0, 366, 0, 365, 0) == 11 && same());
-    CHECK(call_step('B', 0, 367, 0, 366, 0) == 2 && same());
+    for (i = 0; i < STEPS; i++) {
+        CHECK(both_steps[i]('B', 0, 1, 0, 364, 0) == 11 && same());
+        CHECK(both_steps[i]('B', 0, 366, 0, 365, 0) == 11 && same());
+        CHECK(both_steps[i]('B', 0, 367, 0, 366, 0) == 2 && same());
+    }
+    CHECK(call_step_back('B', 0, 1, 0, 365, 0) == 0);
+    set_time(365, 8639900);
+    CHECK(same());
+    CHECK(call_step_back('B', 0, 1, 0, 366, 0) == 0);
+    set_time(366, 8639900);
+    CHECK(same());
+    /* 11 and 15 look at the time that is given, not at the one before. */
+    CHECK(call_step_back('B', 0, 366, 0, 366, 0) == 0);
+    set_time(365, 8639900);
+    CHECK(same());
+    CHECK(call_step_back('B', 0, 181, 8639900, 365, DUSKVEYRA_SECOND_TAKEN) == 15 && same());
 
     CHECK(call_difference(2, 0, 1, 8639999) == 0);
     SET(int64_t, difference, 1);
@@ -440,6 +469,7 @@ static void examples(void)
 static void orders(void)
 {
     unsigned bad;
+    size_t i;
     uint8_t *frame = bytes(100, FILL);
     for (bad = 0; bad < 16; bad++) {
         uint8_t number = bad & 1 ? 1 : bad & 2 ? 2 : bad & 4 ? 9 : bad & 8 ? 3 : 0;
@@ -459,16 +489,20 @@ static void orders(void)
         CHECK(answer == number);
         CHECK(number == 0 || all_bytes(frame, 100, FILL));
         number = bad & 1 ? 1 : bad & 2 ? 2 : bad & 4 ? 14 : bad & 8 ? 11 : bad & 16 ? 15 : 0;
-        answer = call_step('E', bad & 1 ? 3 : 1, bad & 2 ? 0 : 1, bad & 4 ? 8640000 : 0, bad & 8 ? 367 : 366,
-                           bad & 16 ? 3 : 2);
-        CHECK(answer == number);
-        CHECK(number == 0 || same());
+        for (i = 0; i < STEPS; i++) {
+            answer = both_steps[i]('E', bad & 1 ? 3 : 1, bad & 2 ? 0 : 1, bad & 4 ? 8640000 : 0, bad & 8 ? 367 : 366,
+                                   bad & 16 ? 3 : 2);
+            CHECK(answer == number);
+            CHECK(number == 0 || same());
+        }
     }
     for (bad = 0; bad < 16; bad++) {
         uint8_t number = bad & 1 ? 1 : bad & 2 ? 2 : bad & 4 ? 11 : bad & 8 ? 15 : 0;
         uint32_t c = (bad & 2 ? 50 : 0) + (bad & 8 ? 8639900 : 0);
-        CHECK(call_step('B', bad & 1 ? 4 : 1, 1, c, bad & 4 ? 367 : 366, 2) == number);
-        CHECK(number == 0 || same());
+        for (i = 0; i < STEPS; i++) {
+            CHECK(both_steps[i]('B', bad & 1 ? 4 : 1, 1, c, bad & 4 ? 367 : 366, 2) == number);
+            CHECK(number == 0 || same());
+        }
     }
     for (bad = 0; bad < 64; bad++) {
         uint8_t number = bad & 1 ? 1 : bad & 2 ? 3 : bad & 4 ? 4 : bad & 8 ? 6 : bad & 16 ? 7 : bad & 32 ? 8 : 0;
@@ -624,37 +658,46 @@ static void steps(void)
 {
     int f;
     unsigned year_length;
+    size_t i;
     for (f = 0; f < FORMATS; f++) {
         uint8_t letter = (uint8_t)letters[f], expression = expressions[f];
         uint32_t interval = interval_of(letter), last = 8640000 - interval;
         for (year_length = 0; year_length < 1000; year_length++) {
             int taken = year_length == 365 || year_length == 366;
-            CHECK(call_step(letter, expression, 365, 0, (uint16_t)year_length, 0) == (taken ? 0 : 11));
-            if (taken) {
-                SET(uint16_t, day, 365);
-                SET(uint32_t, hundredths, interval);
+            for (i = 0; i < STEPS; i++) {
+                uint16_t year = (uint16_t)year_length;
+                CHECK(both_steps[i](letter, expression, 365, interval, year, 0) == (taken ? 0 : 11));
+                if (taken)
+                    set_time(365, i == 0 ? 2 * interval : 0);
+                CHECK(same());
             }
-            CHECK(same());
         }
         CHECK(call_step(letter, expression, 366, last, 366, 0) == 0);
-        SET(uint16_t, day, 1);
-        SET(uint32_t, hundredths, 0);
+        set_time(1, 0);
         CHECK(same());
         CHECK(call_step(letter, expression, 59, last, 365, 0) == 0);
-        SET(uint16_t, day, 60);
-        SET(uint32_t, hundredths, 0);
+        set_time(60, 0);
         CHECK(same());
-        CHECK(call_step(letter, expression, 366, last, 365, 0) == 11 && same());
-        CHECK(call_step(letter, expression, 0, 0, 365, 0) == 2 && same());
-        CHECK(call_step(letter, expression, 1, 8640000, 365, 0) == (leaps(letter) ? 15 : 14) && same());
-        CHECK(call_step(letter, expression, 1, 8640100, 365, 1) == 2 && same());
-        CHECK(interval == 1 || (call_step(letter, expression, 1, interval - 1, 365, 0) == 2 && same()));
+        CHECK(call_step_back(letter, expression, 1, 0, 366, 0) == 0);
+        set_time(366, last);
+        CHECK(same());
+        CHECK(call_step_back(letter, expression, 60, 0, 365, 0) == 0);
+        set_time(59, last);
+        CHECK(same());
+        for (i = 0; i < STEPS; i++) {
+            step_call *step = both_steps[i];
+            CHECK(step(letter, expression, 366, last, 365, 0) == 11 && same());
+            CHECK(step(letter, expression, 366, 0, 365, 0) == 11 && same());
+            CHECK(step(letter, expression, 0, 0, 365, 0) == 2 && same());
+            CHECK(step(letter, expression, 1, 8640000, 365, 0) == (leaps(letter) ? 15 : 14) && same());
+            CHECK(step(letter, expression, 1, 8640100, 365, 1) == 2 && same());
+            CHECK(interval == 1 || (step(letter, expression, 1, interval - 1, 365, 0) == 2 && same()));
+        }
     }
 }
 
-/* Step by the rules, without the library: the number, and the next time where it is 0. */
-static uint8_t plain_step(uint8_t letter, uint16_t day, uint32_t c, uint16_t year_length, unsigned day_kind,
-                          uint16_t *next_day, uint32_t *next_c)
+/* The number by which either step refuses, by the rules and without the library. */
+static uint8_t step_number(uint8_t letter, uint16_t day, uint32_t c, uint16_t year_length, unsigned day_kind)
 {
     if (day == 0 || day > 366 || c > 8640099 || c % interval_of(letter) != 0)
         return 2;
@@ -664,36 +707,44 @@ static uint8_t plain_step(uint8_t letter, uint16_t day, uint32_t c, uint16_t yea
         return 11;
     if (day_kind > 2 || c >= day_end(letter, day_kind))
         return 15;
-    *next_c = c + interval_of(letter);
-    *next_day = day;
-    if (*next_c == day_end(letter, day_kind)) {
-        *next_c = 0;
-        *next_day = day == year_length ? 1 : (uint16_t)(day + 1);
-    }
     return 0;
+}
+
+/* The time after or before one that the steps take, by the rules and without the library. */
+static void set_step(int back, uint8_t letter, uint16_t day, uint32_t c, uint16_t year_length, unsigned day_kind)
+{
+    uint32_t interval = interval_of(letter), last = day_end(letter, day_kind) - interval;
+    if (back && c == 0)
+        set_time(day == 1 ? year_length : (uint16_t)(day - 1), last);
+    else if (back)
+        set_time(day, c - interval);
+    else if (c == last)
+        set_time(day == year_length ? 1 : (uint16_t)(day + 1), 0);
+    else
+        set_time(day, c + interval);
 }
 
 /* Days of every kind, at their ends and past them. */
 static void kinds(void)
 {
-    static const uint32_t ends[] = {8639900, 8640000, 8640100};
-    static const uint16_t days[] = {0, 1, 181, 365, 366, 367};
+    static const uint32_t ends[] = {0, 8639900, 8640000, 8640100};
+    static const uint16_t days[] = {0, 1, 2, 181, 365, 366, 367};
     int f;
-    size_t i, j;
+    size_t i, j, back;
     unsigned day_kind, year_length;
     int by;
     for (f = 0; f < FORMATS; f++) {
         uint8_t letter = (uint8_t)letters[f], expression = expressions[f];
         uint32_t interval = interval_of(letter);
-        for (day_kind = 0; day_kind < 256; day_kind++) {
-            CHECK(call_step(letter, expression, 181, 0, 365, (uint8_t)day_kind) == (day_kind > 2 ? 15 : 0));
-            if (day_kind <= 2) {
-                SET(uint16_t, day, 181);
-                SET(uint32_t, hundredths, interval);
+        for (day_kind = 0; day_kind < 256; day_kind++)
+            for (back = 0; back < STEPS; back++) {
+                uint8_t number = day_kind > 2 ? 15 : 0;
+                CHECK(both_steps[back](letter, expression, 181, 0, 365, (uint8_t)day_kind) == number);
+                if (number == 0)
+                    set_step(back == 1, letter, 181, 0, 365, day_kind);
+                CHECK(same());
             }
-            CHECK(same());
-        }
-        for (i = 0; i < 3; i++)
+        for (i = 0; i < sizeof ends / sizeof ends[0]; i++)
             for (by = -3; by <= 1; by++)
                 for (j = 0; j < sizeof days / sizeof days[0]; j++)
                     for (year_length = 364; year_length <= 367; year_length++)
@@ -701,18 +752,58 @@ static void kinds(void)
                             uint32_t grid = ends[i] - ends[i] % interval + (uint32_t)(by * (int)interval);
                             uint32_t beside = ends[i] + (uint32_t)by;
                             int turn;
-                            for (turn = 0; turn < 2; turn++) {
-                                uint32_t c = turn == 0 ? grid : beside, next_c = 0;
-                                uint16_t next_day = 0, year = (uint16_t)year_length;
-                                uint8_t number = plain_step(letter, days[j], c, year, day_kind, &next_day, &next_c);
-                                CHECK(call_step(letter, expression, days[j], c, year, (uint8_t)day_kind) == number);
-                                if (number == 0) {
-                                    SET(uint16_t, day, next_day);
-                                    SET(uint32_t, hundredths, next_c);
-                                }
+                            for (turn = 0; turn < 2 * STEPS; turn++) {
+                                uint32_t c = turn % 2 == 0 ? grid : beside;
+                                uint16_t year = (uint16_t)year_length;
+                                uint8_t number = step_number(letter, days[j], c, year, day_kind);
+                                step_call *step = both_steps[turn / 2];
+                                CHECK(step(letter, expression, days[j], c, year, (uint8_t)day_kind) == number);
+                                if (number == 0)
+                                    set_step(turn / 2 == 1, letter, days[j], c, year, day_kind);
                                 CHECK(same());
                             }
                         }
+    }
+}
+
+/* A time that one step gives goes back by the other, with the same year length and kind. */
+static void back_again(int f, uint16_t day, uint32_t c)
+{
+    uint8_t letter = (uint8_t)letters[f], expression = expressions[f];
+    uint16_t year_length;
+    uint8_t day_kind;
+    size_t i;
+    for (year_length = 365; year_length <= 366; year_length++)
+        for (day_kind = 0; day_kind < 3; day_kind++)
+            for (i = 0; i < STEPS; i++) {
+                uint8_t number = step_number(letter, day, c, year_length, day_kind);
+                CHECK(both_steps[i](letter, expression, day, c, year_length, day_kind) == number);
+                if (number != 0)
+                    continue;
+                CHECK(got.day != day || got.hundredths != c);
+                CHECK(both_steps[1 - i](letter, expression, got.day, got.hundredths, year_length, day_kind) == 0);
+                set_time(day, c);
+                CHECK(same());
+            }
+}
+
+/* Each step undoes the other, at the ends of days and years and anywhere. */
+static void inverses(void)
+{
+    static const uint16_t days[] = {1, 2, 181, 364, 365, 366};
+    int f;
+    size_t j;
+    unsigned turn, day_kind;
+    for (f = 0; f < FORMATS; f++) {
+        uint32_t interval = interval_of((uint8_t)letters[f]);
+        for (j = 0; j < sizeof days / sizeof days[0]; j++)
+            for (turn = 0; turn < 3; turn++) {
+                back_again(f, days[j], turn * interval);
+                for (day_kind = 0; day_kind < 3; day_kind++)
+                    back_again(f, days[j], day_end((uint8_t)letters[f], day_kind) - (turn + 1) * interval);
+            }
+        for (turn = 0; turn < 500; turn++)
+            back_again(f, (uint16_t)(1 + below(366)), random_time((uint8_t)letters[f]));
     }
 }
 
@@ -1164,6 +1255,7 @@ int main(void)
     frames();
     steps();
     kinds();
+    inverses();
     added_second();
     classifier();
     listing();

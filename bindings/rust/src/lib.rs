@@ -23,10 +23,11 @@
 //! # Ok::<(), duskveyra::Refusal>(())
 //! ```
 //!
-//! A day may have a second more, 23:59:60, or a second less; [`step`] is told which. Formats A, B and G carry it:
+//! A day may have a second more, 23:59:60, or a second less; [`step`] and [`step_back`], its inverse, are told which.
+//! Formats A, B and G carry it:
 //!
 //! ```
-//! use duskveyra::{step, Format, Refusal, Time, SECOND_ADDED, SECOND_TAKEN, USUAL_DAY};
+//! use duskveyra::{step, step_back, Format, Refusal, Time, SECOND_ADDED, SECOND_TAKEN, USUAL_DAY};
 //!
 //! let format = Format { letter: b'B', expression: 0 };
 //! let last = Time { day: 181, hundredths: 8_639_900 };
@@ -35,6 +36,8 @@
 //! assert_eq!(step(format, last, 365, USUAL_DAY), Ok(midnight));
 //! assert_eq!(step(format, last, 365, SECOND_ADDED), Ok(added));
 //! assert_eq!(step(format, added, 365, SECOND_ADDED), Ok(midnight));
+//! assert_eq!(step_back(format, midnight, 365, USUAL_DAY), Ok(last));
+//! assert_eq!(step_back(format, midnight, 365, SECOND_ADDED), Ok(added));
 //! assert_eq!(step(format, last, 365, SECOND_TAKEN), Err(Refusal::InvalidKind));
 //! ```
 
@@ -86,8 +89,8 @@ pub struct Format {
 
 /// A day of the year and the hundredths of a second since midnight. Any two numbers make a value of this type; a call
 /// refuses one that is out of range, or not on the format, with [`Refusal::InvalidTime`]. From hundredth 8,640,000 on
-/// it lies in a second that was added to its day, 23:59:60; D, E and H do not carry that second, and [`write`] and
-/// [`step`] refuse it there with [`Refusal::SecondNotCarried`].
+/// it lies in a second that was added to its day, 23:59:60; D, E and H do not carry that second, and
+/// [`write`](fn@write), [`step`] and [`step_back`] refuse it there with [`Refusal::SecondNotCarried`].
 #[derive(Clone, Copy, Debug, PartialEq, Eq, Hash)]
 pub struct Time {
     /// The day, 1 to 366.
@@ -168,6 +171,31 @@ pub fn step(format: Format, time: Time, year_length: u16, kind: u8) -> Result<Ti
     // SAFETY: both pointers point to locals.
     let number = unsafe {
         sys::duskveyra_step(
+            format.letter,
+            format.expression,
+            time.day,
+            time.hundredths,
+            year_length,
+            kind,
+            &mut day,
+            &mut hundredths,
+        )
+    };
+    Refusal::check(number, 0)?;
+    Ok(Time { day, hundredths })
+}
+
+/// The time of the frame before the one with this time. The year length and the kind are those of the year and the day
+/// that the earlier time belongs to; day 1 at 0 hundredths goes to that year's last frame. With the same length and kind
+/// it undoes [`step`], and [`step`] undoes it.
+///
+/// Refuses as [`step`] does, by the time that is given: 1; 2; 14; 11; 15; in this order.
+#[inline]
+pub fn step_back(format: Format, time: Time, year_length: u16, kind: u8) -> Result<Time, Refusal> {
+    let (mut day, mut hundredths) = (0, 0);
+    // SAFETY: both pointers point to locals.
+    let number = unsafe {
+        sys::duskveyra_step_back(
             format.letter,
             format.expression,
             time.day,

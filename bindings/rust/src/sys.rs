@@ -36,6 +36,17 @@ extern "C" {
         next_hundredths: *mut u32,
     ) -> u8;
 
+    pub fn duskveyra_step_back(
+        letter: u8,
+        expression: u8,
+        day: u16,
+        hundredths: u32,
+        year_length: u16,
+        kind: u8,
+        earlier_day: *mut u16,
+        earlier_hundredths: *mut u32,
+    ) -> u8;
+
     pub fn duskveyra_difference(
         first_day: u16,
         first_hundredths: u32,

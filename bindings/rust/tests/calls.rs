@@ -1,9 +1,10 @@
-//! Every call through the safe types: document 01's examples, each refusal and the order of refusals, the leap second,
-//! lent memory left as it was, and readers stored and made again.
+//! Every call through the safe types: document 01's examples, each refusal and the order of refusals, the step back, the
+//! leap second, lent memory left as it was, and readers stored and made again.
 
 use duskveyra::{
-    classify, classify_list, difference, read, scan, step, write, Format, Found, Reader, Refusal,
-    Report, Time, LONGEST_FRAME, MARK, ONE, SECOND_ADDED, SECOND_TAKEN, SPOILED, USUAL_DAY, ZERO,
+    classify, classify_list, difference, read, scan, step, step_back, write, Format, Found, Reader,
+    Refusal, Report, Time, LONGEST_FRAME, MARK, ONE, SECOND_ADDED, SECOND_TAKEN, SPOILED,
+    USUAL_DAY, ZERO,
 };
 
 const FORMATS: [&str; 16] = [
@@ -124,12 +125,6 @@ fn an_added_second_is_refused_in_order_where_it_is_not_carried() {
         assert_eq!(answer.err(), expected);
         assert!(expected.is_none() || lent == [0xa5; LONGEST_FRAME]);
         lent = [0xa5; LONGEST_FRAME];
-        let answer = step(
-            format,
-            at,
-            if bad & 8 != 0 { 364 } else { 365 },
-            if bad & 16 != 0 { 3 } else { SECOND_ADDED },
-        );
         let expected = first([
             Refusal::UnknownFormat,
             Refusal::InvalidTime,
@@ -137,7 +132,15 @@ fn an_added_second_is_refused_in_order_where_it_is_not_carried() {
             Refusal::InvalidYearLength,
             Refusal::InvalidKind,
         ]);
-        assert_eq!(answer.err(), expected);
+        for step in [step, step_back] {
+            let answer = step(
+                format,
+                at,
+                if bad & 8 != 0 { 364 } else { 365 },
+                if bad & 16 != 0 { 3 } else { SECOND_ADDED },
+            );
+            assert_eq!(answer.err(), expected);
+        }
     }
 }
 
@@ -197,17 +200,25 @@ fn step_and_difference() {
     let last = time(365, 8_639_900);
     assert_eq!(step(b, last, 365, USUAL_DAY), Ok(time(1, 0)));
     assert_eq!(step(b, last, 366, USUAL_DAY), Ok(time(366, 0)));
-    assert_eq!(step(b, last, 364, 3), Err(Refusal::InvalidYearLength));
+    assert_eq!(step_back(b, time(1, 0), 365, USUAL_DAY), Ok(last));
+    assert_eq!(step_back(b, time(366, 0), 366, USUAL_DAY), Ok(last));
     assert_eq!(
-        step(b, time(366, 0), 365, 3),
-        Err(Refusal::InvalidYearLength)
+        step_back(b, time(1, 0), 366, USUAL_DAY),
+        Ok(time(366, 8_639_900))
     );
-    assert_eq!(step(b, time(1, 50), 364, 3), Err(Refusal::InvalidTime));
-    assert_eq!(
-        step(format("D0"), time(0, 50), 364, 3),
-        Err(Refusal::UnknownFormat)
-    );
-    assert_eq!(step(b, last, 366, SECOND_TAKEN), Err(Refusal::InvalidKind));
+    for step in [step, step_back] {
+        assert_eq!(step(b, last, 364, 3), Err(Refusal::InvalidYearLength));
+        assert_eq!(
+            step(b, time(366, 0), 365, 3),
+            Err(Refusal::InvalidYearLength)
+        );
+        assert_eq!(step(b, time(1, 50), 364, 3), Err(Refusal::InvalidTime));
+        assert_eq!(
+            step(format("D0"), time(0, 50), 364, 3),
+            Err(Refusal::UnknownFormat)
+        );
+        assert_eq!(step(b, last, 366, SECOND_TAKEN), Err(Refusal::InvalidKind));
+    }
 
     assert_eq!(difference(time(2, 0), time(1, 8_639_999)), Ok(1));
     assert_eq!(difference(time(1, 8_639_999), time(2, 0)), Ok(-1));
@@ -231,23 +242,86 @@ fn days_of_every_kind() {
         for (kind, end) in (USUAL_DAY..=SECOND_TAKEN).zip(day_ends(format)) {
             let last = time(181, end - interval);
             let before = time(181, end - 2 * interval);
-            assert_eq!(step(format, before, 365, kind), Ok(last), "{name} {kind}");
-            assert_eq!(
-                step(format, last, 365, kind),
-                Ok(time(182, 0)),
-                "{name} {kind}"
-            );
+            for (first, second) in [(before, last), (last, time(182, 0))] {
+                let next = step(format, first, 365, kind);
+                assert_eq!(next, Ok(second), "{name} {kind}");
+                let back = step_back(format, second, 365, kind);
+                assert_eq!(back, Ok(first), "{name} {kind}");
+            }
             let expected = match end {
                 8_640_100 => Refusal::InvalidTime,
                 _ if day_ends(format)[1] == end => Refusal::SecondNotCarried,
                 _ => Refusal::InvalidKind,
             };
-            let past = step(format, time(181, end), 365, kind);
-            assert_eq!(past, Err(expected), "{name} {kind}");
+            for step in [step, step_back] {
+                let past = step(format, time(181, end), 365, kind);
+                assert_eq!(past, Err(expected), "{name} {kind}");
+            }
         }
         for kind in 3..=255 {
-            let refused = step(format, time(181, 0), 365, kind);
-            assert_eq!(refused, Err(Refusal::InvalidKind), "{name} {kind}");
+            for step in [step, step_back] {
+                let refused = step(format, time(181, 0), 365, kind);
+                assert_eq!(refused, Err(Refusal::InvalidKind), "{name} {kind}");
+            }
+        }
+    }
+}
+
+/// The control word of a frame of the recordings below, as far as the format carries one.
+fn control_of(format: Format, frame: u64) -> u64 {
+    match format.expression {
+        0 | 1 => frame * 37 % 512,
+        _ => 0,
+    }
+}
+
+/// Plays eight frames from `first` on and replays them from the last one's time, each step back told the year length and
+/// the kind of the earlier time's day: the same frames from the last to the first, and the same elements turned round.
+fn replay(name: &str, first: Time, year_length: u16, kind: u8) -> Vec<Time> {
+    let format = format(name);
+    let kind_of = |day| if day == first.day { kind } else { USUAL_DAY };
+    let mut at = first;
+    let (mut times, mut played) = (vec![first], frame(name, first, control_of(format, 0)));
+    for number in 1..8 {
+        at = step(format, at, year_length, kind_of(at.day)).expect("a step");
+        times.push(at);
+        played.extend(frame(name, at, control_of(format, number)));
+    }
+    let mut turned: Vec<u8> = Vec::new();
+    for number in (0..8).rev() {
+        assert_eq!(at, times[number], "{name} {year_length} {kind}");
+        let mut replayed = frame(name, at, control_of(format, number as u64));
+        let n = replayed.len();
+        assert_eq!(replayed, played[number * n..][..n]);
+        replayed.reverse();
+        turned.extend(replayed);
+        if number > 0 {
+            let kind = kind_of(times[number - 1].day);
+            at = step_back(format, at, year_length, kind).expect("a step back");
+        }
+    }
+    assert!(turned.iter().eq(played.iter().rev()));
+    times
+}
+
+#[test]
+fn a_recording_replayed_backwards_is_the_recording_turned_round() {
+    for name in FORMATS {
+        let (format, interval) = (format(name), table(format(name)).1);
+        for (kind, end) in (USUAL_DAY..=SECOND_TAKEN).zip(day_ends(format)) {
+            for (day, year_length, next_day) in [
+                (1, 365, 2),
+                (181, 365, 182),
+                (181, 366, 182),
+                (365, 365, 1),
+                (365, 366, 366),
+                (366, 366, 1),
+            ] {
+                let first = time(day, end - 4 * interval);
+                let times = replay(name, first, year_length, kind);
+                assert_eq!(times[3], time(day, end - interval));
+                assert_eq!(times[4], time(next_day, 0));
+            }
         }
     }
 }

@@ -3,6 +3,7 @@
 ghost use Prim.Native.Nat.{_≤_, _<_};
 use clock::difference;
 use clock::step;
+use clock::step_back;
 use frame::read;
 use frame::write;
 use pulse::classify;
@@ -272,15 +273,41 @@ fn elements_in(line: &[u8], word: usize, frame: &mut [u8; 512]) -> usize {
     n
 }
 
-fn put_step(line: &[u8], text: &mut [u8; 4096]) -> usize {
-    let year = (decimal(line, 5) % 65_536) as u16;
-    // a line without it asks for a usual day
-    let kind = (decimal(line, 6) % 256) as u8;
-    let stepped = step(format_in(line), time_in(line, 3), year, kind);
+fn put_stepped(text: &mut [u8; 4096], stepped: Stepped) -> usize {
     match stepped {
         Stepped::Next(time) => put_time(text, 0, time),
         Stepped::Refused(refusal) => put_refusal(text, 0, refusal),
     }
+}
+
+// Word 5 of a step, either way: the year's length.
+fn year_in(line: &[u8]) -> u16 {
+    (decimal(line, 5) % 65_536) as u16
+}
+
+// Word 6: the kind of the day. A line without it asks for a usual day.
+fn kind_in(line: &[u8]) -> u8 {
+    (decimal(line, 6) % 256) as u8
+}
+
+fn put_step(line: &[u8], text: &mut [u8; 4096]) -> usize {
+    let stepped = step(
+        format_in(line),
+        time_in(line, 3),
+        year_in(line),
+        kind_in(line),
+    );
+    put_stepped(text, stepped)
+}
+
+fn put_step_back(line: &[u8], text: &mut [u8; 4096]) -> usize {
+    let stepped = step_back(
+        format_in(line),
+        time_in(line, 3),
+        year_in(line),
+        kind_in(line),
+    );
+    put_stepped(text, stepped)
 }
 
 // Write, lent the first bytes of the slice: all of it, where more are asked for.
@@ -408,6 +435,9 @@ fn put_scan(line: &[u8], text: &mut [u8; 4096]) -> usize {
 pub fn put_answer(line: &[u8], text: &mut [u8; 4096]) -> usize {
     if is_named(line, b"step") {
         return put_step(line, text);
+    }
+    if is_named(line, b"back") {
+        return put_step_back(line, text);
     }
     if is_named(line, b"write") {
         return put_write(line, text);

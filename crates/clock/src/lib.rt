@@ -1,11 +1,13 @@
-// Times: whether one lies on a format, Step, next after, and Difference.
+// Times: whether one lies on a format, Step, step back, next after, and Difference.
 ghost use mathlib.Core.Path.{_≡_};
 ghost use mathlib.Core.Bool.{true};
 ghost use Prim.Native.Nat.{_+_, _*_, _<_};
 ghost use lib.IntN.{pos, _-ℤ_};
+ghost use Rattle.timecode.specs.Answers.{check};
 ghost use Rattle.timecode.specs.Calls.{differenceOf};
 ghost use Rattle.timecode.specs.Formats.{known, inRange, onFormat, secondCarried};
-ghost use Rattle.timecode.specs.Frames.{inYear, kinds, dayEnd, onDay, following, stepOf, sameTime, gives, any, nextAfter};
+ghost use Rattle.timecode.specs.Frames.{inYear, kinds, dayEnd, onDay, following, checkStep, stepOf, sameTime, gives, any, nextAfter, preceding, stepBackOf};
+ghost use Rattle.timecode.specs.declared.Stepped.the-variants.{Next, Refused};
 use layout::carries_leap;
 use layout::frame_interval;
 use layout::is_known;
@@ -107,26 +109,80 @@ fn later(format: Format, time: Time, year: u16, kind: u8) -> Time
     }
 }
 
-// The kind is that of the earlier time's day.
-pub fn step(format: Format, time: Time, year: u16, kind: u8) -> Stepped
-    ensures { λ r. ⌜ r ≡ stepOf format time year kind ⌝ }
+// The time one frame interval earlier; it belongs to a year of that length and to a day of that kind.
+fn earlier(format: Format, time: Time, year: u16, kind: u8) -> Time
+    requires { ⌜ (onFormat format time ≡ true) × (secondCarried format time ≡ true) ⌝ }
+    ensures { λ r. ⌜ r ≡ preceding format time year kind ⌝ }
+{
+    let interval = frame_interval(format);
+    if time.hundredths != 0 {
+        return Time {
+            day: time.day,
+            hundredths: time.hundredths - interval,
+        };
+    }
+    let hundredths = day_end(format, kind) - interval;
+    if time.day == Time::FIRST_DAY {
+        return Time {
+            day: year,
+            hundredths: hundredths,
+        };
+    }
+    Time {
+        day: time.day - 1,
+        hundredths: hundredths,
+    }
+}
+
+// The time itself, where the year and the day's kind are right for it.
+fn check_day(format: Format, time: Time, year: u16, kind: u8) -> Stepped
+    ensures { λ r. ⌜ r ≡ check Refused 11 (inYear time year) (check Refused 15 (onDay format time kind) (Next time)) ⌝ }
+{
+    if in_year(time, year) {
+        if on_day(format, time, kind) {
+            return Stepped::Next(time);
+        }
+        return Stepped::Refused(Refusal::InvalidKind);
+    }
+    Stepped::Refused(Refusal::InvalidYearLength)
+}
+
+// The checks of both steps: the time itself, where it passes them.
+fn check_step(format: Format, time: Time, year: u16, kind: u8) -> Stepped
+    ensures { λ r. ⌜ r ≡ checkStep format time year kind (Next time) ⌝ }
 {
     if is_known(format) {
         if on_format(format, time) {
             if second_carried(format, time) {
-                if in_year(time, year) {
-                    if on_day(format, time, kind) {
-                        return Stepped::Next(later(format, time, year, kind));
-                    }
-                    return Stepped::Refused(Refusal::InvalidKind);
-                }
-                return Stepped::Refused(Refusal::InvalidYearLength);
+                return check_day(format, time, year, kind);
             }
             return Stepped::Refused(Refusal::SecondNotCarried);
         }
         return Stepped::Refused(Refusal::InvalidTime);
     }
     Stepped::Refused(Refusal::UnknownFormat)
+}
+
+// The kind is that of the given time's day.
+pub fn step(format: Format, time: Time, year: u16, kind: u8) -> Stepped
+    ensures { λ r. ⌜ r ≡ stepOf format time year kind ⌝ }
+{
+    let checked = check_step(format, time, year, kind);
+    match checked {
+        Stepped::Next(_) => Stepped::Next(later(format, time, year, kind)),
+        Stepped::Refused(refusal) => Stepped::Refused(refusal),
+    }
+}
+
+// The year and the kind are those of the time before; the checks look at the time that is given.
+pub fn step_back(format: Format, time: Time, year: u16, kind: u8) -> Stepped
+    ensures { λ r. ⌜ r ≡ stepBackOf format time year kind ⌝ }
+{
+    let given = check_step(format, time, year, kind);
+    match given {
+        Stepped::Next(_) => Stepped::Next(earlier(format, time, year, kind)),
+        Stepped::Refused(refusal) => Stepped::Refused(refusal),
+    }
 }
 
 fn same_time(first: Time, second: Time) -> bool

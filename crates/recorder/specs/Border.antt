@@ -7,7 +7,7 @@ use lib.IntN.{ℤ}
 use lib.ListN.{getD}
 use Rattle.timecode.specs.Answers.{Said, writtenSaid, readingSaid, steppedSaid, subtractedSaid, classifiedSaid, scannedSaid, answerSaid}
 use Rattle.timecode.specs.Calls.{classifyOf, classifyListOf, differenceOf, scanOf}
-use Rattle.timecode.specs.Frames.{stepOf, writeOf, readOf}
+use Rattle.timecode.specs.Frames.{stepOf, stepBackOf, writeOf, readOf}
 use Rattle.timecode.specs.declared.Answer.{Answer}
 use Rattle.timecode.specs.declared.Format.{Format}
 use Rattle.timecode.specs.declared.Time.{Time}
@@ -32,6 +32,9 @@ readSaid letter expression frame = readingSaid (readOf (formatOf letter expressi
 
 abbrev pub stepSaid : ℕ → ℕ → ℕ → ℕ → ℕ → ℕ → Said
 stepSaid letter expression day hundredths year kind = steppedSaid (stepOf (formatOf letter expression) (timeOf day hundredths) year kind)
+
+abbrev pub stepBackSaid : ℕ → ℕ → ℕ → ℕ → ℕ → ℕ → Said
+stepBackSaid letter expression day hundredths year kind = steppedSaid (stepBackOf (formatOf letter expression) (timeOf day hundredths) year kind)
 
 abbrev pub differenceSaid : ℕ → ℕ → ℕ → ℕ → Said
 differenceSaid firstDay firstHundredths secondDay secondHundredths = subtractedSaid (differenceOf (timeOf firstDay firstHundredths) (timeOf secondDay secondHundredths))

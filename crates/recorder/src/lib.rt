@@ -4,11 +4,12 @@ ghost use mathlib.Core.Path.{_≡_};
 ghost use mathlib.Core.List.{[], _∷_};
 ghost use lib.IntN.{pos};
 ghost use lib.ListN.{getD};
-ghost use Rattle.timecode.specs.Answers.{refused, writtenSaid};
+ghost use Rattle.timecode.specs.Answers.{refused, writtenSaid, steppedSaid};
 ghost use Rattle.timecode.specs.Calls.{classifyListLeaves};
 ghost use Rattle.timecode.specs.Frames.{writeLeaves};
-ghost use Rattle.recorder.specs.Border.{formatOf, timeOf, writeSaid, readSaid, stepSaid, differenceSaid, classifySaid, classifyListSaid, scanSaid, freshSaid, fedSaid, fedWith, valuesLeft, flagLeft, indexLeft, wordsFor, byteIn, readerIn, freshLeft, feedWords, feedPulseWords, wordsLeft};
+ghost use Rattle.recorder.specs.Border.{formatOf, timeOf, writeSaid, readSaid, stepSaid, stepBackSaid, differenceSaid, classifySaid, classifyListSaid, scanSaid, freshSaid, fedSaid, fedWith, valuesLeft, flagLeft, indexLeft, wordsFor, byteIn, readerIn, freshLeft, feedWords, feedPulseWords, wordsLeft};
 use clock::step;
+use clock::step_back;
 use frame::read;
 use frame::write;
 use pulse::classify;
@@ -202,6 +203,21 @@ pub extern "C" fn duskveyra_read(
     }
 }
 
+// What a step brought: the time, into the caller's memory, or its refusal and nothing written.
+fn put_stepped(stepped: Stepped, to_day: &mut u16, to_hundredths: &mut u32) -> u8
+    ensures { λ r. ⌜ r ≡ steppedSaid stepped .number ⌝ }
+    ensures { λ _. ⌜ pos (now («to_day» .exit)) ∷ pos (now («to_hundredths» .exit)) ∷ [] ≡ valuesLeft (steppedSaid stepped) (pos (now («to_day» .entry)) ∷ pos (now («to_hundredths» .entry)) ∷ []) ⌝ }
+{
+    match stepped {
+        Stepped::Next(time) => {
+            *to_day = time.day;
+            *to_hundredths = time.hundredths;
+            0
+        }
+        Stepped::Refused(refusal) => number_of(refusal),
+    }
+}
+
 // Step: the next time. The kind is that of the given time's day.
 #[no_mangle]
 pub extern "C" fn duskveyra_step(
@@ -217,20 +233,29 @@ pub extern "C" fn duskveyra_step(
     ensures { λ r. ⌜ r ≡ stepSaid letter expression day hundredths «year_length» kind .number ⌝ }
     ensures { λ _. ⌜ pos (now («next_day» .exit)) ∷ pos (now («next_hundredths» .exit)) ∷ [] ≡ valuesLeft (stepSaid letter expression day hundredths «year_length» kind) (pos (now («next_day» .entry)) ∷ pos (now («next_hundredths» .entry)) ∷ []) ⌝ }
 {
-    let stepped = step(
-        format_of(letter, expression),
-        time_of(day, hundredths),
-        year_length,
-        kind,
-    );
-    match stepped {
-        Stepped::Next(time) => {
-            *next_day = time.day;
-            *next_hundredths = time.hundredths;
-            0
-        }
-        Stepped::Refused(refusal) => number_of(refusal),
-    }
+    let format = format_of(letter, expression);
+    let stepped = step(format, time_of(day, hundredths), year_length, kind);
+    put_stepped(stepped, next_day, next_hundredths)
+}
+
+// Step back: the time before. The year's length and the kind are those of that time's year and day.
+#[no_mangle]
+pub extern "C" fn duskveyra_step_back(
+    letter: u8,
+    expression: u8,
+    day: u16,
+    hundredths: u32,
+    year_length: u16,
+    kind: u8,
+    earlier_day: &mut u16,
+    earlier_hundredths: &mut u32,
+) -> u8
+    ensures { λ r. ⌜ r ≡ stepBackSaid letter expression day hundredths «year_length» kind .number ⌝ }
+    ensures { λ _. ⌜ pos (now («earlier_day» .exit)) ∷ pos (now («earlier_hundredths» .exit)) ∷ [] ≡ valuesLeft (stepBackSaid letter expression day hundredths «year_length» kind) (pos (now («earlier_day» .entry)) ∷ pos (now («earlier_hundredths» .entry)) ∷ []) ⌝ }
+{
+    let format = format_of(letter, expression);
+    let stepped = step_back(format, time_of(day, hundredths), year_length, kind);
+    put_stepped(stepped, earlier_day, earlier_hundredths)
 }
 
 // Difference: the first time less the second.

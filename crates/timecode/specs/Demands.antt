@@ -10,8 +10,9 @@ use lib.ListN.{getD, length, take, drop, set, replicate, length-replicate, lengt
 use lib.Seq.{length-take-le}
 use Rattle.timecode.specs.Answers.{number, refusal}
 use Rattle.timecode.specs.Calls.{scanOf}
-use Rattle.timecode.specs.Formats.{member, size, lastHundredth, dayLength, onFormat, carriesLeap, secondCarried}
-use Rattle.timecode.specs.Frames.{usual, kinds, sameDay, nextDay, stepOf, Follows, nextAfter, writeOf, writeLeaves, readOf, Sent, Generator, elements}
+use Rattle.timecode.specs.Formats.{member, known, size, interval, lastHundredth, dayLength, onFormat, carriesLeap, secondCarried}
+use Rattle.timecode.specs.Frames.{yearLengths, usual, kinds, dayEnd, sameDay, nextDay, stepOf, Follows, nextAfter, stepBackOf, Precedes, writeOf, writeLeaves, readOf, Sent, Generator, elements}
+use Rattle.timecode.specs.Laws.Back.{step-back, back-step, to-last-frame, back-on-format, follows-precedes, precedes-follows, backs-usual, same-refusal}
 use Rattle.timecode.specs.Laws.Checks.{accepted, by-reading}
 use Rattle.timecode.specs.Laws.Existence.{frames, length-frames, control-at, first-time, generator, goes-on}
 use Rattle.timecode.specs.Laws.Generators.{sentAt, length-elements, EndsFrame}
@@ -33,6 +34,8 @@ use Rattle.timecode.specs.declared.Reading.{Reading}
 use Rattle.timecode.specs.declared.Reading.the-variants.{Accepted}
 use Rattle.timecode.specs.declared.Refusal.{Refusal}
 use Rattle.timecode.specs.declared.Scanned.the-variants.{Found, None}
+use Rattle.timecode.specs.declared.Stepped.{Stepped}
+use Rattle.timecode.specs.declared.Stepped.the-variants.{Next}
 use Rattle.timecode.specs.declared.Time.{Time}
 use Rattle.timecode.specs.declared.Written.the-variants.{Done}
 
@@ -192,6 +195,39 @@ two-that-follow = successors
 -- Two that are not the same are written at least seven elements apart, whatever the control words.
 pub two-that-follow-are-apart : (f : Format) (t u v : Time) → Follows f t u → Follows f t v → (u ≡ v) ⊎ Apart f u v
 two-that-follow-are-apart = apart
+
+-- ---- Step back, for every format, time, year length and kind of day that the first call takes: a step and then a step back returns the time, and so does the other order.
+
+pub step-then-back : (f : Format) (t u : Time) (year kind : ℕ) → stepOf f t year kind ≡ Next u → stepBackOf f u year kind ≡ Next t
+step-then-back f t u year kind = step-back f t year kind u
+
+pub back-then-step : (f : Format) (t u : Time) (year kind : ℕ) → stepBackOf f u year kind ≡ Next t → stepOf f t year kind ≡ Next u
+back-then-step f t u year kind = back-step f u year kind t
+
+-- The checks are the step's: both refuse the same, with the same number.
+pub back-refuses-as-step : (f : Format) (t : Time) (year kind : ℕ) (r : Refusal) → (stepBackOf f t year kind ≡ Stepped.Refused r) ↔ (stepOf f t year kind ≡ Stepped.Refused r)
+back-refuses-as-step = same-refusal
+
+-- Day 1, c 0 goes to that year's last frame.
+pub first-frame-back-to-last : (f : Format) (year kind : ℕ) → known f ≡ true → member year yearLengths ≡ true → member kind kinds ≡ true
+    → stepBackOf f (record { day = 1; hundredths = 0 }) year kind ≡ Next (record { day = year; hundredths = dayEnd f kind - interval f })
+first-frame-back-to-last = to-last-frame
+
+-- Next after, read backwards, is some step back.
+pub next-after-backwards : (f : Format) (t u : Time) → (nextAfter f t u ≡ true) ↔ Precedes f t u
+next-after-backwards f t u = (λ h. follows-precedes f t u (next-follows f t u h), λ h. follows-next f t u (precedes-follows f t u h))
+
+-- A step back is a time that Write takes.
+pub back-stays-on-format : (f : Format) (t u : Time) → Precedes f t u → (onFormat f t ≡ true) × (secondCarried f t ≡ true)
+back-stays-on-format f t u s = let o = back-on-format f t u s in (is-on-format f t o, is-carried f t o)
+
+-- D, E and H step back as usual for every kind.
+pub back-as-usual-without-leap : (f : Format) (t : Time) (year kind : ℕ) → carriesLeap f ≡ false → member kind kinds ≡ true → stepBackOf f t year kind ≡ stepBackOf f t year usual
+back-as-usual-without-leap = backs-usual
+
+-- A generator heard in reverse: each frame's time is a step back of the one that was sent after it.
+pub generators-run-backwards : (f : Format) (sent : List Sent) → Generator f sent → (j : ℕ) → suc j < length sent → Precedes f (sentAt sent j .time) (sentAt sent (suc j) .time)
+generators-run-backwards f sent g j h = follows-precedes f (sentAt sent j .time) (sentAt sent (suc j) .time) (g .steps j h)
 
 -- ---- Scan answers the lowest place, at least 1 and at least the start, where a mark stands before and Read accepts; None exactly if there is none.
 

@@ -1,9 +1,9 @@
 -- Document 01, "Stepping, writing, reading": Step and next after, Write, Read, and the generator.
--- Document 02, "Leap second": Step is told the kind of the earlier time's day, and 23:59:60 is read where it is carried.
+-- Document 02: the step back; both steps are told the kind of the earlier time's day, and 23:59:60 is read where it is carried.
 use mathlib.Core.Path.{_≡_}
 use mathlib.Core.Bool.{Bool, true, false, cond, _&&_, _||_}
 use mathlib.Core.List.{List, [], _∷_, _++_}
-use Prim.Native.Nat.{ℕ, suc, _+_, _*_, _/_, _^_, _<_}
+use Prim.Native.Nat.{ℕ, suc, _+_, _-_, _*_, _/_, _^_, _<_}
 use lib.Dec.{leb, ltb, eqb}
 use lib.ListN.{getD, length}
 use Rattle.timecode.specs.Answers.{refusal, check}
@@ -68,15 +68,18 @@ nextDay t year = record { day = dayAfter (t .day) year; hundredths = 0 }
 unfoldable pub following : Format → Time → ℕ → ℕ → Time
 following f t year kind = cond (eqb (t .hundredths + interval f) (dayEnd f kind)) (nextDay t year) (sameDay f t)
 
--- Step checks 1, 2, 14, 11, 15. The kind is that of the earlier time's day.
-unfoldable pub stepOf : Format → Time → ℕ → ℕ → Stepped
-stepOf f t year kind =
+-- Both steps check the time that is given with 1, 2, 14, 11, 15. The kind is that of the earlier time's day.
+abbrev pub checkStep : Format → Time → ℕ → ℕ → Stepped → Stepped
+checkStep f t year kind answer =
     check Stepped.Refused 1 (known f)
     (check Stepped.Refused 2 (onFormat f t)
     (check Stepped.Refused 14 (secondCarried f t)
     (check Stepped.Refused 11 (inYear t year)
     (check Stepped.Refused 15 (onDay f t kind)
-    (Next (following f t year kind))))))
+    answer))))
+
+unfoldable pub stepOf : Format → Time → ℕ → ℕ → Stepped
+stepOf f t year kind = checkStep f t year kind (Next (following f t year kind))
 
 -- u is the step of t for a year length and a kind that Step takes
 abbrev pub Follows : Format → Time → Time → Type 0
@@ -96,6 +99,32 @@ any p (x ∷ xs) = p x || any p xs
 -- Without a known year and kind, u is next after t if some year length and some kind give it. Day 366 counts only with 366: Step refuses it with 365.
 unfoldable pub nextAfter : Format → Time → Time → Bool
 nextAfter f t u = any (λ year. any (λ kind. gives (stepOf f t year kind) u) kinds) yearLengths
+
+-- ---- Step back
+
+-- day - 1, and before day 1 the year's last day
+unfoldable pub dayBefore : ℕ → ℕ → ℕ
+dayBefore day year = cond (eqb day 1) year (day - 1)
+
+-- the frame before on the same day
+abbrev pub sameDayBefore : Format → Time → Time
+sameDayBefore f t = record { day = t .day; hundredths = t .hundredths - interval f }
+
+-- the last frame of the day before, which is of that kind
+abbrev pub lastBefore : Format → Time → ℕ → ℕ → Time
+lastBefore f t year kind = record { day = dayBefore (t .day) year; hundredths = dayEnd f kind - interval f }
+
+-- c - S, or at c = 0 the last frame of the day before
+unfoldable pub preceding : Format → Time → ℕ → ℕ → Time
+preceding f t year kind = cond (eqb (t .hundredths) 0) (lastBefore f t year kind) (sameDayBefore f t)
+
+-- The year and the kind are those of the time before; the checks are Step's.
+unfoldable pub stepBackOf : Format → Time → ℕ → ℕ → Stepped
+stepBackOf f t year kind = checkStep f t year kind (Next (preceding f t year kind))
+
+-- t is the step back of u for a year length and a kind that it takes
+abbrev pub Precedes : Format → Time → Time → Type 0
+Precedes f t u = (year : ℕ) × (kind : ℕ) × (stepBackOf f u year kind ≡ Next t)
 
 -- ---- Write
 

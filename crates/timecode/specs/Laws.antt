@@ -10,6 +10,7 @@ pub mod Fields
 pub mod Reading
 pub mod Writing
 pub mod Stepping
+pub mod Back
 pub mod Marks
 pub mod Places
 pub mod Successors

@@ -1,4 +1,4 @@
--- Document 01's starred rows, rows that fix every place of the layout in each letter, and rows around the leap second: what each call says. One theorem holds of all.
+-- Document 01's starred rows, rows that fix every place of the layout in each letter, and rows around the leap second and of the step back: what each call says. One theorem holds of all.
 use mathlib.Core.Path.{_≡_, refl}
 use mathlib.Core.Bool.{cond}
 use mathlib.Core.List.{List, [], _∷_, map}
@@ -9,14 +9,15 @@ use lib.ListN.{drop, set, replicate}
 use Rattle.timecode.specs.Answers.{Said, writtenSaid, readingSaid, steppedSaid, subtractedSaid, classifiedSaid, scannedSaid}
 use Rattle.timecode.specs.Calls.{symbolOf, isInterval, classifyOf, differenceOf, partAt, lowestOf, scanOf}
 use Rattle.timecode.specs.Formats.{A, B, D, E, G, H, table, lookUp, rowOf, known, size, interval, carriesControl, carriesSeconds, inRange, onFormat, carriesLeap, secondCarried}
-use Rattle.timecode.specs.Frames.{inYear, dayAfter, usual, secondAdded, secondTaken, dayLengthOf, dayEnd, onDay, following, stepOf, nextAfter, written, controlFits, writeOf, writeLeaves, offence, checkElements, lastSecond, isTime, timeIn, secondsAgree, readOf}
+use Rattle.timecode.specs.Frames.{inYear, dayAfter, usual, secondAdded, secondTaken, dayLengthOf, dayEnd, onDay, following, stepOf, nextAfter, dayBefore, preceding, stepBackOf, written, controlFits, writeOf, writeLeaves, offence, checkElements, lastSecond, isTime, timeIn, secondsAgree, readOf}
 use Rattle.timecode.specs.Layout.{seconds, minutes, hours, days, tenths, hundredths, hasSeconds, straightSeconds, controlRange, control, timeFields, fields, runs, timeNumbers, numbers, isMark, rest, symbolAt, encode, value}
 use Rattle.timecode.specs.declared.Format.{Format}
 use Rattle.timecode.specs.declared.Time.{Time}
 
--- a call: Step; next after, 1 or 0; Write into a frame of n zeros, by its answer, by the bytes that it leaves, or by the indices from k on where it leaves a one; Read; Difference; the classifier; Scan
+-- a call: Step; step back; next after, 1 or 0; Write into a frame of n zeros, by its answer, by the bytes that it leaves, or by the indices from k on where it leaves a one; Read; Difference; the classifier; Scan
 pub data Call : Type 0 where
   step : Format → Time → ℕ → ℕ → Call
+  back : Format → Time → ℕ → ℕ → Call
   next : Format → Time → Time → Call
   write : Format → Time → ℕ → Call
   frame : Format → Time → ℕ → Call
@@ -35,6 +36,7 @@ lent f = replicate (size f) 0
 
 abbrev pub says : Call → Said
 says (step f t year kind) = steppedSaid (stepOf f t year kind)
+says (back f t year kind) = steppedSaid (stepBackOf f t year kind)
 says (next f t u) = record { number = 0; values = cond (nextAfter f t u) (pos 1) (pos 0) ∷ [] }
 says (write f t w) = writtenSaid (writeOf f t w (lent f))
 says (frame f t w) = record { number = 0; values = map pos (writeLeaves f t w (lent f)) }
@@ -241,8 +243,48 @@ lines =
     -- Difference counts 8,640,000 a day as before
     ∷ (difference (time 1 8640099) (time 2 0) gives (pos 99 ∷ []))
     ∷ (difference (time 1 8640100) (time 2 0) refused 2)
+    -- back over midnight from B's day 182: usual, with a second added, with one taken
+    ∷ (back (format B 0) (time 182 0) 365 usual gives indices (181 ∷ 8639900 ∷ []))
+    ∷ (back (format B 0) (time 182 0) 365 secondAdded gives indices (181 ∷ 8640000 ∷ []))
+    ∷ (back (format B 0) (time 182 0) 365 secondTaken gives indices (181 ∷ 8639800 ∷ []))
+    ∷ (back (format B 0) (time 181 8640000) 365 secondAdded gives indices (181 ∷ 8639900 ∷ []))
+    ∷ (back (format B 0) (time 181 100) 365 usual gives indices (181 ∷ 0 ∷ []))
+    -- to A's and G's last tenth and hundredth, and out of G's added second
+    ∷ (back (format A 0) (time 182 0) 365 usual gives indices (181 ∷ 8639990 ∷ []))
+    ∷ (back (format A 0) (time 182 0) 365 secondAdded gives indices (181 ∷ 8640090 ∷ []))
+    ∷ (back (format A 0) (time 182 0) 365 secondTaken gives indices (181 ∷ 8639890 ∷ []))
+    ∷ (back (format G 1) (time 182 0) 365 usual gives indices (181 ∷ 8639999 ∷ []))
+    ∷ (back (format G 1) (time 182 0) 365 secondAdded gives indices (181 ∷ 8640099 ∷ []))
+    ∷ (back (format G 1) (time 182 0) 365 secondTaken gives indices (181 ∷ 8639899 ∷ []))
+    ∷ (back (format G 1) (time 181 8640000) 365 secondAdded gives indices (181 ∷ 8639999 ∷ []))
+    -- in D, E and H as usual for every kind
+    ∷ (back (format D 1) (time 182 0) 365 secondAdded gives indices (181 ∷ 8280000 ∷ []))
+    ∷ (back (format E 1) (time 182 0) 365 secondAdded gives indices (181 ∷ 8639000 ∷ []))
+    ∷ (back (format E 1) (time 182 0) 365 secondTaken gives indices (181 ∷ 8639000 ∷ []))
+    ∷ (back (format H 1) (time 182 0) 365 secondTaken gives indices (181 ∷ 8634000 ∷ []))
+    -- from day 1 to the last frame of a year of either length, with each kind; from day 366 to day 365
+    ∷ (back (format B 0) (time 1 0) 365 usual gives indices (365 ∷ 8639900 ∷ []))
+    ∷ (back (format B 0) (time 1 0) 366 usual gives indices (366 ∷ 8639900 ∷ []))
+    ∷ (back (format B 0) (time 1 0) 365 secondAdded gives indices (365 ∷ 8640000 ∷ []))
+    ∷ (back (format B 0) (time 1 0) 366 secondAdded gives indices (366 ∷ 8640000 ∷ []))
+    ∷ (back (format B 0) (time 1 0) 365 secondTaken gives indices (365 ∷ 8639800 ∷ []))
+    ∷ (back (format B 0) (time 1 0) 366 secondTaken gives indices (366 ∷ 8639800 ∷ []))
+    ∷ (back (format D 2) (time 1 0) 366 usual gives indices (366 ∷ 8280000 ∷ []))
+    ∷ (back (format B 0) (time 366 0) 366 usual gives indices (365 ∷ 8639900 ∷ []))
+    ∷ (back (format B 0) (time 365 0) 365 usual gives indices (364 ∷ 8639900 ∷ []))
+    -- its checks are Step's, on the time that is given
+    ∷ (back (format B 0) (time 366 0) 365 usual refused 11)
+    ∷ (back (format B 0) (time 1 0) 364 usual refused 11)
+    ∷ (back (format B 0) (time 181 8639900) 365 secondTaken refused 15)
+    ∷ (back (format B 0) (time 181 8640000) 365 usual refused 15)
+    ∷ (back (format E 1) (time 1 0) 365 3 refused 15)
+    ∷ (back (format B 0) (time 0 0) 365 usual refused 2)
+    ∷ (back (format B 4) (time 0 8640000) 364 3 refused 1)
+    ∷ (back (format B 0) (time 367 0) 364 3 refused 2)
+    ∷ (back (format H 1) (time 181 8640000) 364 3 refused 14)
+    ∷ (back (format B 0) (time 366 8640000) 365 3 refused 11)
     ∷ []
 
 pub all-lines : map (λ l. says (l .call)) lines ≡ map (λ l. l .said) lines
-unfolding lines readOf checkElements offence lastSecond isTime timeIn secondsAgree value scanOf lowestOf partAt stepOf nextAfter known rowOf lookUp table size interval carriesControl carriesSeconds inRange onFormat carriesLeap secondCarried inYear dayAfter dayLengthOf dayEnd onDay following writeOf writeLeaves written controlFits encode symbolAt rest isMark runs fields timeFields numbers timeNumbers seconds minutes hours days tenths hundredths straightSeconds hasSeconds control controlRange differenceOf classifyOf isInterval symbolOf
+unfolding lines readOf checkElements offence lastSecond isTime timeIn secondsAgree value scanOf lowestOf partAt stepOf nextAfter known rowOf lookUp table size interval carriesControl carriesSeconds inRange onFormat carriesLeap secondCarried inYear dayAfter dayLengthOf dayEnd onDay following dayBefore preceding stepBackOf writeOf writeLeaves written controlFits encode symbolAt rest isMark runs fields timeFields numbers timeNumbers seconds minutes hours days tenths hundredths straightSeconds hasSeconds control controlRange differenceOf classifyOf isInterval symbolOf
 all-lines = refl

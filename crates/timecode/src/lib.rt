@@ -1,5 +1,5 @@
 // What the calls of the time code engine take and what they answer: types only, no function.
-// Document 01 and the leap second of document 02 as definitions, and the theorems over them, stand in specs/.
+// Document 01 and of document 02 the step back and the leap second as definitions, and the theorems over them, stand in specs/.
 
 // A rate letter, in capital ASCII, and a coded expression.
 pub struct Format {
@@ -61,6 +61,7 @@ pub enum Reading {
     Refused(Refusal),
 }
 
+// Step and step back: the next time, or the time before.
 pub enum Stepped {
     Next(Time),
     Refused(Refusal),

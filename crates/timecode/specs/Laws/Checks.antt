@@ -31,6 +31,11 @@ passed refused k false a x t h = absurd (t (refusal k 0) h)
 pub passes : {Any : Type 0} (refused : Refusal → Any) (k : ℕ) (b : Bool) (a : Any) → b ≡ true → check refused k b a ≡ a
 passes refused k b a h = rw h
 
+-- one check before two answers: what it makes of the first it makes of the second
+pub same-check : {Any : Type 0} (refused : Refusal → Any) (k : ℕ) (b : Bool) (a c x : Any) → (a ≡ x → c ≡ x) → check refused k b a ≡ x → check refused k b c ≡ x
+same-check refused k true a c x f h = f h
+same-check refused k false a c x f h = h
+
 no-path : _≡_ {A = ℕ} 0 1 → ⊥
 no-path z = omega arith
 

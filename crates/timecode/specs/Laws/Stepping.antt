@@ -9,12 +9,13 @@ use native.Mathlib.Omega.{arith}
 use borrow.Author.Tests.{leb-true, ltb-true, eqb-true, eqb-false, le-leb, lt-ltb, eq-eqb, ne-eqb}
 use lib.Dec.{leb, ltb, eqb}
 use Rattle.timecode.specs.Formats.{member, table, lookUp, rowOf, known, interval, lastDay, dayLength, onFormat, carriesLeap, secondCarried}
-use Rattle.timecode.specs.Frames.{yearLengths, inYear, dayAfter, usual, secondAdded, secondTaken, kinds, dayLengthOf, dayEnd, onDay, sameDay, nextDay, following, stepOf, Follows, sameTime, gives, any, nextAfter}
-use Rattle.timecode.specs.Laws.Checks.{passed, next}
+use Rattle.timecode.specs.Frames.{yearLengths, inYear, dayAfter, usual, secondAdded, secondTaken, kinds, dayLengthOf, dayEnd, onDay, sameDay, nextDay, following, checkStep, stepOf, Follows, sameTime, gives, any, nextAfter}
+use Rattle.timecode.specs.Laws.Checks.{passed, same-check, next}
 use Rattle.timecode.specs.Laws.Table.{everyFormat, of-every}
 use Rattle.timecode.specs.Laws.Tests.{by-test, clash, and-left, and-right, or-other, or-first, or-second}
 use Rattle.timecode.specs.Laws.Times.{OnFormat, on-format, is-on-format, is-carried}
 use Rattle.timecode.specs.declared.Format.{Format}
+use Rattle.timecode.specs.declared.Refusal.{Refusal}
 use Rattle.timecode.specs.declared.Stepped.{Stepped}
 use Rattle.timecode.specs.declared.Stepped.the-variants.{Next}
 use Rattle.timecode.specs.declared.Time.{Time}
@@ -33,20 +34,21 @@ same-is t u h =
 pub same-self : (t : Time) → sameTime t t ≡ true
 same-self t = rw (eq-eqb (t .day) (t .day) refl, eq-eqb (t .hundredths) (t .hundredths) refl)
 
--- ---- a step that was taken
+-- ---- the checks of both steps
 
-pub record Went (f : Format) (t : Time) (year kind : ℕ) (u : Time) : Type 0 where
+-- the checks are passed, and the step of t to v answers u
+pub record Went (f : Format) (t : Time) (year kind : ℕ) (v u : Time) : Type 0 where
   pub format : known f ≡ true
   pub from : OnFormat f t
   pub length-is : member year yearLengths ≡ true
   pub inside : t .day ≤ year
   pub kind-is : member kind kinds ≡ true
   pub before : t .hundredths < dayEnd f kind
-  pub to : following f t year kind ≡ u
+  pub to : v ≡ u
 
-pub went : (f : Format) (t : Time) (year kind : ℕ) (u : Time) → stepOf f t year kind ≡ Next u → Went f t year kind u
-unfolding stepOf inYear onDay
-went f t year kind u h =
+pub went-to : (f : Format) (t : Time) (year kind : ℕ) (v u : Time) → checkStep f t year kind (Next v) ≡ Next u → Went f t year kind v u
+unfolding inYear onDay
+went-to f t year kind v u h =
     let a = passed Stepped.Refused 1 (known f) _ (Next u) (next u) h in
     let b = passed Stepped.Refused 2 (onFormat f t) _ (Next u) (next u) (a .1) in
     let s = passed Stepped.Refused 14 (secondCarried f t) _ (Next u) (next u) (b .1) in
@@ -63,6 +65,31 @@ went f t year kind u h =
       to = cc;
     }
 
+-- both steps answer where the checks are passed
+pub answers : (f : Format) (t : Time) (year kind : ℕ) → known f ≡ true → OnFormat f t → member year yearLengths ≡ true → t .day ≤ year → member kind kinds ≡ true → t .hundredths < dayEnd f kind
+    → (answer : Stepped) → checkStep f t year kind answer ≡ answer
+unfolding inYear onDay
+answers f t year kind k o l i m b answer = rw (k, is-on-format f t o, is-carried f t o, l, le-leb (t .day) year i, m, lt-ltb (t .hundredths) (dayEnd f kind) b)
+
+pub answers-alike : (f : Format) (t : Time) (year kind : ℕ) (v u : Time) → checkStep f t year kind (Next v) ≡ Next u → (answer : Stepped) → checkStep f t year kind answer ≡ answer
+answers-alike f t year kind v u h answer =
+    let w = went-to f t year kind v u h in
+    answers f t year kind (w .format) (w .from) (w .length-is) (w .inside) (w .kind-is) (w .before) answer
+
+-- and refuse alike where one is not
+pub refuses-alike : (f : Format) (t : Time) (year kind : ℕ) (v : Time) (r : Refusal) → checkStep f t year kind (Next v) ≡ Stepped.Refused r → (answer : Stepped) → checkStep f t year kind answer ≡ Stepped.Refused r
+refuses-alike f t year kind v r h answer =
+    same-check Stepped.Refused 1 (known f) _ _ (Stepped.Refused r)
+    (same-check Stepped.Refused 2 (onFormat f t) _ _ (Stepped.Refused r)
+    (same-check Stepped.Refused 14 (secondCarried f t) _ _ (Stepped.Refused r)
+    (same-check Stepped.Refused 11 (inYear t year) _ _ (Stepped.Refused r)
+    (same-check Stepped.Refused 15 (onDay f t kind) (Next v) answer (Stepped.Refused r) (λ e. absurd (next v r (sym e)))))))
+    h
+
+pub went : (f : Format) (t : Time) (year kind : ℕ) (u : Time) → stepOf f t year kind ≡ Next u → Went f t year kind (following f t year kind) u
+unfolding stepOf
+went f t year kind u h = went-to f t year kind (following f t year kind) u h
+
 -- a day with a second added has room for every time that Write takes
 longest-day : (f : Format) (t : Time) → OnFormat f t → t .hundredths < dayEnd f secondAdded
 unfolding dayEnd dayLengthOf
@@ -70,8 +97,8 @@ longest-day f t o = by-test (carriesLeap f) (λ y. rw y (omega (arith, o .below)
 
 -- Step takes a time on the format with 366 and a second added always
 pub goes : (f : Format) (t : Time) → known f ≡ true → OnFormat f t → stepOf f t 366 secondAdded ≡ Next (following f t 366 secondAdded)
-unfolding stepOf inYear onDay
-goes f t k o = rw (k, is-on-format f t o, is-carried f t o, le-leb (t .day) 366 (o .last), lt-ltb (t .hundredths) (dayEnd f secondAdded) (longest-day f t o))
+unfolding stepOf
+goes f t k o = answers f t 366 secondAdded k o refl (o .last) refl (longest-day f t o) (Next (following f t 366 secondAdded))
 
 -- ---- next after is some step
 
@@ -115,6 +142,13 @@ year-is year h =
     (λ y. inl (eqb-true year 365 y))
     (λ m. by-test (eqb year 366) (λ y. inr (eqb-true year 366 y)) (λ n. clash (rw (m, n) at h) refl))
 
+pub year-range : (year : ℕ) → member year yearLengths ≡ true → (1 ≤ year) × (year ≤ lastDay)
+year-range year h = go (year-is year h)
+  where
+    go : (year ≡ 365) ⊎ (year ≡ 366) → (1 ≤ year) × (year ≤ lastDay)
+    go (inl e) = omega arith
+    go (inr e) = omega arith
+
 -- a test that every number of a list passes
 abbrev every : (ℕ → Bool) → List ℕ → Bool
 every p [] = true
@@ -140,11 +174,18 @@ next-multiple s x c p q h =
     let m : s * suc (c / s) ≤ s * (x / s) = mul-le-mul-left s l in
     omega arith
 
+-- a number above 0 that S divides is at least S
+pub one-interval : (s x : ℕ) → x % s ≡ 0 → 0 < x → s ≤ x
+one-interval s x g h = omega (arith, next-multiple s x 0 g (zero-mod s) h)
+
+pub end-whole : (f : Format) → known f ≡ true → (kind : ℕ) → member kind kinds ≡ true → dayEnd f kind % interval f ≡ 0
+end-whole f k kind m =
+    let e = of-every (λ f. every (λ kind. eqb (dayEnd f kind % interval f) 0) kinds) all-whole f k in
+    eqb-true (dayEnd f kind % interval f) 0 (one-of (λ kind. eqb (dayEnd f kind % interval f) 0) kinds e kind m)
+
 -- on the grid c + S does not pass the day's end but reaches it
 pub carries : (f : Format) → known f ≡ true → (kind : ℕ) → member kind kinds ≡ true → (c : ℕ) → c < dayEnd f kind → c % interval f ≡ 0 → c + interval f ≤ dayEnd f kind
-carries f k kind m c h g =
-    let e = of-every (λ f. every (λ kind. eqb (dayEnd f kind % interval f) 0) kinds) all-whole f k in
-    next-multiple (interval f) (dayEnd f kind) c (eqb-true (dayEnd f kind % interval f) 0 (one-of (λ kind. eqb (dayEnd f kind % interval f) 0) kinds e kind m)) g h
+carries f k kind m c h g = next-multiple (interval f) (dayEnd f kind) c (end-whole f k kind m) g h
 
 -- where a day may end
 abbrev Ends : ℕ → Type 0
@@ -157,12 +198,12 @@ ends kind =
     (λ y. rw y (inr (inl refl)))
     (λ m. by-test (eqb kind secondTaken) (λ y. rw (m, y) (inr (inr refl))) (λ n. rw (m, n) (inl refl)))
 
-end-small : (x : ℕ) → Ends x → x ≤ 8640100
-end-small x (inl p) = omega arith
-end-small x (inr (inl p)) = omega arith
-end-small x (inr (inr p)) = omega arith
+end-range : (x : ℕ) → Ends x → (8639900 ≤ x) × (x ≤ 8640100)
+end-range x (inl p) = omega arith
+end-range x (inr (inl p)) = omega arith
+end-range x (inr (inr p)) = omega arith
 
-usual-end : (f : Format) (kind : ℕ) → carriesLeap f ≡ false → dayEnd f kind ≡ dayLength
+pub usual-end : (f : Format) (kind : ℕ) → carriesLeap f ≡ false → dayEnd f kind ≡ dayLength
 unfolding dayEnd
 usual-end f kind m = rw m
 
@@ -170,10 +211,10 @@ leap-end : (f : Format) (kind : ℕ) → carriesLeap f ≡ true → dayEnd f kin
 unfolding dayEnd
 leap-end f kind y = rw y
 
-day-end-small : (f : Format) (kind : ℕ) → dayEnd f kind ≤ 8640100
-day-end-small f kind =
+pub day-end-range : (f : Format) (kind : ℕ) → (8639900 ≤ dayEnd f kind) × (dayEnd f kind ≤ 8640100)
+day-end-range f kind =
     by-test (carriesLeap f)
-    (λ y. omega (arith, leap-end f kind y, end-small (dayLengthOf kind) (ends kind)))
+    (λ y. omega (arith, leap-end f kind y, end-range (dayLengthOf kind) (ends kind)))
     (λ m. omega (arith, usual-end f kind m))
 
 day-after-in : (day year : ℕ) → (year ≡ 365) ⊎ (year ≡ 366) → day ≤ year → (1 ≤ dayAfter day year) × (dayAfter day year ≤ lastDay)
@@ -182,10 +223,10 @@ day-after-in day year (inl p) h = by-test (eqb day year) (λ y. rw y (omega arit
 day-after-in day year (inr p) h = by-test (eqb day year) (λ y. rw y (omega arith)) (λ m. let n = eqb-false day year m in rw m (omega arith))
 
 -- a step goes to the next frame of the day, or from the day's last frame to the day after
-abbrev Lands : Format → Time → ℕ → ℕ → Time → Type 0
+abbrev pub Lands : Format → Time → ℕ → ℕ → Time → Type 0
 Lands f t year kind u = ((sameDay f t ≡ u) × (t .hundredths + interval f < dayEnd f kind)) ⊎ ((nextDay t year ≡ u) × (t .hundredths + interval f ≡ dayEnd f kind))
 
-lands : (f : Format) (t : Time) (year kind : ℕ) (u : Time) → Went f t year kind u → Lands f t year kind u
+pub lands : (f : Format) (t : Time) (year kind : ℕ) (u : Time) → Went f t year kind (following f t year kind) u → Lands f t year kind u
 unfolding following
 lands f t year kind u w =
     let to = w .to in
@@ -196,14 +237,14 @@ lands f t year kind u w =
       omega (arith, eqb-false (t .hundredths + interval f) (dayEnd f kind) m, carries f (w .format) kind (w .kind-is) (t .hundredths) (w .before) (w .from .grid)),
     ))
 
-landed-on : (f : Format) (t : Time) (year kind : ℕ) (u : Time) → Went f t year kind u → Lands f t year kind u → OnFormat f u
+landed-on : (f : Format) (t : Time) (year kind : ℕ) (u : Time) → Went f t year kind (following f t year kind) u → Lands f t year kind u → OnFormat f u
 landed-on f t year kind u w (inl p) =
     let o = w .from in
     subst (OnFormat f) (p .0)
     (record {
       first = o .first;
       last = o .last;
-      below = omega (arith, p .1, day-end-small f kind);
+      below = omega (arith, p .1, day-end-range f kind);
       grid = add-mod-right (t .hundredths) (interval f) ∙ o .grid;
       carried = λ m. omega (arith, p .1, usual-end f kind m);
     })
@@ -228,7 +269,7 @@ steps-usual f t year kind m h = rw (h, usual-end f kind m, usual-end f usual m)
 pub three : (f : Format) (t u : Time) → Follows f t u → (u ≡ sameDay f t) ⊎ ((u ≡ nextDay t 365) ⊎ (u ≡ nextDay t 366))
 three f t u s = go (lands f t (s .0) (s .1) u w) (year-is (s .0) (w .length-is))
   where
-    w : Went f t (s .0) (s .1) u
+    w : Went f t (s .0) (s .1) (following f t (s .0) (s .1)) u
     w = went f t (s .0) (s .1) u (s .2)
 
     go : Lands f t (s .0) (s .1) u → (s .0 ≡ 365) ⊎ (s .0 ≡ 366) → (u ≡ sameDay f t) ⊎ ((u ≡ nextDay t 365) ⊎ (u ≡ nextDay t 366))
@@ -281,7 +322,7 @@ lengths f t y z (inr p) (inr q) h k = inl (ap (nextDay t) (p ∙ sym q))
 -- a day's end before another's is that of a taken second or the usual one
 sooner : (x y : ℕ) → Ends x → Ends y → x < y → (x ≡ 8639900) ⊎ (x ≡ dayLength)
 sooner x y (inl p) e l = inr p
-sooner x y (inr (inl p)) e l = let z : ⊥ = omega (arith, end-small y e) in absurd z
+sooner x y (inr (inl p)) e l = let z : ⊥ = omega (arith, end-range y e) in absurd z
 sooner x y (inr (inr p)) e l = inl p
 
 sooner-end : (f : Format) (k j : ℕ) → dayEnd f k < dayEnd f j → (carriesLeap f ≡ true) × ((dayEnd f k ≡ 8639900) ⊎ (dayEnd f k ≡ dayLength))
@@ -299,10 +340,10 @@ kinds-apart f t y k j a b =
 pub successors : (f : Format) (t u v : Time) → Follows f t u → Follows f t v → Alike f u v
 successors f t u v s r = go (lands f t (s .0) (s .1) u a) (lands f t (r .0) (r .1) v b)
   where
-    a : Went f t (s .0) (s .1) u
+    a : Went f t (s .0) (s .1) (following f t (s .0) (s .1)) u
     a = went f t (s .0) (s .1) u (s .2)
 
-    b : Went f t (r .0) (r .1) v
+    b : Went f t (r .0) (r .1) (following f t (r .0) (r .1)) v
     b = went f t (r .0) (r .1) v (r .2)
 
     go : Lands f t (s .0) (s .1) u → Lands f t (r .0) (r .1) v → Alike f u v

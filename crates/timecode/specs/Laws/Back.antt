@@ -1,0 +1,181 @@
+-- The step back against the step: each undoes the other for every format, time, year length and kind that it takes.
+use mathlib.Core.Path.{_≡_, refl, sym, ap, _∙_, subst}
+use mathlib.Core.Bool.{true, false}
+use mathlib.Core.Logic.{_↔_, _⊎_, inl, inr}
+use Prim.Native.Nat.{ℕ, _+_, _-_, _%_, _≤_, _<_}
+use native.Mathlib.Nat.{add-mod-right, zero-mod}
+use native.Mathlib.Omega.{arith}
+use borrow.Author.Tests.{eqb-true, eqb-false, eq-eqb, ne-eqb}
+use lib.Dec.{eqb}
+use Rattle.timecode.specs.Formats.{member, known, interval, carriesLeap}
+use Rattle.timecode.specs.Frames.{yearLengths, dayAfter, usual, kinds, dayEnd, onDay, sameDay, nextDay, following, stepOf, Follows, dayBefore, sameDayBefore, lastBefore, preceding, stepBackOf, Precedes}
+use Rattle.timecode.specs.Laws.Stepping.{time-path, Went, went-to, answers, refuses-alike, went, year-range, one-interval, end-whole, usual-end, day-end-range, Lands, lands, step-on-format}
+use Rattle.timecode.specs.Laws.Table.{interval-range}
+use Rattle.timecode.specs.Laws.Tests.{by-test}
+use Rattle.timecode.specs.Laws.Times.{OnFormat}
+use Rattle.timecode.specs.declared.Format.{Format}
+use Rattle.timecode.specs.declared.Refusal.{Refusal}
+use Rattle.timecode.specs.declared.Stepped.{Stepped}
+use Rattle.timecode.specs.declared.Stepped.the-variants.{Next}
+use Rattle.timecode.specs.declared.Time.{Time}
+
+-- ---- days
+
+day-after-inside : (day year : ℕ) → 1 ≤ day → day ≤ year → dayAfter day year ≤ year
+unfolding dayAfter
+day-after-inside day year a b = by-test (eqb day year) (λ y. rw y (omega arith)) (λ m. rw m (omega (arith, eqb-false day year m)))
+
+day-before-inside : (day year : ℕ) → 1 ≤ day → day ≤ year → (1 ≤ dayBefore day year) × (dayBefore day year ≤ year)
+unfolding dayBefore
+day-before-inside day year a b = by-test (eqb day 1) (λ y. rw y (omega arith)) (λ m. let n = eqb-false day 1 m in rw m (omega arith))
+
+before-after : (day year : ℕ) → 1 ≤ day → day ≤ year → dayBefore (dayAfter day year) year ≡ day
+unfolding dayBefore dayAfter
+before-after day year a b =
+    by-test (eqb day year)
+    (λ y. rw y (sym (eqb-true day year y)))
+    (λ m. rw (m, ne-eqb (day + 1) 1 (λ e. omega arith)) (omega arith))
+
+after-before : (day year : ℕ) → 1 ≤ day → day ≤ year → dayAfter (dayBefore day year) year ≡ day
+unfolding dayBefore dayAfter
+after-before day year a b =
+    by-test (eqb day 1)
+    (λ y. rw (y, eq-eqb year year refl) (sym (eqb-true day 1 y)))
+    (λ m. let n = eqb-false day 1 m in rw (m, ne-eqb (day - 1) year (λ e. omega arith)) (omega arith))
+
+-- ---- a step and then a step back
+
+less-added : (a b : ℕ) → a + b - b ≡ a
+less-added a b = omega arith
+
+less-end : (a b x : ℕ) → a + b ≡ x → x - b ≡ a
+less-end a b x h = omega arith
+
+-- u passes 11 and 15, and the time before it is t
+abbrev Undone : Format → Time → ℕ → ℕ → Time → Type 0
+Undone f t year kind u = (u .day ≤ year) × (u .hundredths < dayEnd f kind) × (preceding f u year kind ≡ t)
+
+undone : (f : Format) (t : Time) (year kind : ℕ) (u : Time) → Went f t year kind (following f t year kind) u → Lands f t year kind u → Undone f t year kind u
+unfolding preceding
+undone f t year kind u w (inl p) =
+    let none = ne-eqb (t .hundredths + interval f) 0 (λ e. omega (arith, interval-range f)) in
+    subst (Undone f t year kind) (p .0)
+    (w .inside, p .1, rw none (time-path (sameDayBefore f (sameDay f t)) t refl (less-added (t .hundredths) (interval f))))
+undone f t year kind u w (inr p) =
+    subst (Undone f t year kind) (p .0) (
+      day-after-inside (t .day) year (w .from .first) (w .inside),
+      omega (arith, p .1, interval-range f),
+      time-path (lastBefore f (nextDay t year) year kind) t (before-after (t .day) year (w .from .first) (w .inside)) (less-end (t .hundredths) (interval f) (dayEnd f kind) (p .1)),
+    )
+
+pub step-back : (f : Format) (t : Time) (year kind : ℕ) (u : Time) → stepOf f t year kind ≡ Next u → stepBackOf f u year kind ≡ Next t
+unfolding stepBackOf
+step-back f t year kind u h =
+    let w = went f t year kind u h in
+    let b = undone f t year kind u w (lands f t year kind u w) in
+    answers f u year kind (w .format) (step-on-format f t u (year, kind, h)) (w .length-is) (b .0) (w .kind-is) (b .1) (Next (preceding f u year kind)) ∙ ap Next (b .2)
+
+-- ---- a step back and then a step
+
+came : (f : Format) (u : Time) (year kind : ℕ) (t : Time) → stepBackOf f u year kind ≡ Next t → Went f u year kind (preceding f u year kind) t
+unfolding stepBackOf
+came f u year kind t h = went-to f u year kind (preceding f u year kind) t h
+
+-- a step back goes to the frame before on the same day, or from c = 0 to the day before's last frame
+abbrev Comes : Format → Time → ℕ → ℕ → Time → Type 0
+Comes f u year kind t = ((sameDayBefore f u ≡ t) × (interval f ≤ u .hundredths)) ⊎ ((lastBefore f u year kind ≡ t) × (u .hundredths ≡ 0))
+
+comes : (f : Format) (u : Time) (year kind : ℕ) (t : Time) → Went f u year kind (preceding f u year kind) t → Comes f u year kind t
+unfolding preceding
+comes f u year kind t w =
+    let to = w .to in
+    by-test (eqb (u .hundredths) 0)
+    (λ y. inr (rw y at to, eqb-true (u .hundredths) 0 y))
+    (λ m. inl (
+      rw m at to,
+      one-interval (interval f) (u .hundredths) (w .from .grid) (omega (arith, eqb-false (u .hundredths) 0 m)),
+    ))
+
+less-grid : (c s : ℕ) → s ≤ c → c % s ≡ 0 → (c - s) % s ≡ 0
+less-grid c s h g = sym (add-mod-right (c - s) s) ∙ ap (λ (x : ℕ). x % s) (again c s h) ∙ g
+  where
+    again : (c s : ℕ) → s ≤ c → c - s + s ≡ c
+    again c s h = omega arith
+
+-- the interval fits into every day
+interval-inside : (f : Format) (u : Time) (year kind : ℕ) (v t : Time) → Went f u year kind v t → interval f ≤ dayEnd f kind
+interval-inside f u year kind v t w = one-interval (interval f) (dayEnd f kind) (end-whole f (w .format) kind (w .kind-is)) (omega (arith, w .before))
+
+-- t passes 2, 14, 11 and 15, and the time after it is u
+abbrev Redone : Format → Time → ℕ → ℕ → Time → Type 0
+Redone f u year kind t = OnFormat f t × (t .day ≤ year) × (t .hundredths < dayEnd f kind) × (following f t year kind ≡ u)
+
+redone : (f : Format) (u : Time) (year kind : ℕ) (t : Time) → Went f u year kind (preceding f u year kind) t → Comes f u year kind t → Redone f u year kind t
+unfolding following
+redone f u year kind t w (inl p) =
+    let o = w .from in
+    let s = interval-range f in
+    let sum : u .hundredths - interval f + interval f ≡ u .hundredths = omega (arith, p .1) in
+    subst (Redone f u year kind) (p .0) (
+      record { first = o .first; last = o .last; below = omega (arith, o .below); grid = less-grid (u .hundredths) (interval f) (p .1) (o .grid); carried = λ m. omega (arith, o .carried m) },
+      w .inside,
+      omega (arith, w .before),
+      rw (sum, ne-eqb (u .hundredths) (dayEnd f kind) (λ e. omega (arith, w .before))) refl,
+    )
+redone f u year kind t w (inr p) =
+    let s = interval-range f in
+    let i = interval-inside f u year kind (preceding f u year kind) t w in
+    let d = day-before-inside (u .day) year (w .from .first) (w .inside) in
+    let sum : dayEnd f kind - interval f + interval f ≡ dayEnd f kind = omega (arith, i) in
+    subst (Redone f u year kind) (p .0) (
+      record {
+        first = d .0;
+        last = omega (arith, d .1, year-range year (w .length-is));
+        below = omega (arith, day-end-range f kind);
+        grid = less-grid (dayEnd f kind) (interval f) i (end-whole f (w .format) kind (w .kind-is));
+        carried = λ m. omega (arith, usual-end f kind m);
+      },
+      d .1,
+      omega (arith, i),
+      rw (sum, eq-eqb (dayEnd f kind) (dayEnd f kind) refl) (time-path (nextDay (lastBefore f u year kind) year) u (after-before (u .day) year (w .from .first) (w .inside)) (sym (p .1))),
+    )
+
+pub back-step : (f : Format) (u : Time) (year kind : ℕ) (t : Time) → stepBackOf f u year kind ≡ Next t → stepOf f t year kind ≡ Next u
+unfolding stepOf
+back-step f u year kind t h =
+    let w = came f u year kind t h in
+    let b = redone f u year kind t w (comes f u year kind t w) in
+    answers f t year kind (w .format) (b .0) (w .length-is) (b .1) (w .kind-is) (b .2) (Next (following f t year kind)) ∙ ap Next (b .3)
+
+-- day 1, c 0 goes to the year's last frame
+pub to-last-frame : (f : Format) (year kind : ℕ) → known f ≡ true → member year yearLengths ≡ true → member kind kinds ≡ true
+    → stepBackOf f (record { day = 1; hundredths = 0 }) year kind ≡ Next (record { day = year; hundredths = dayEnd f kind - interval f })
+unfolding stepBackOf preceding dayBefore
+to-last-frame f year kind k l m =
+    answers f (record { day = 1; hundredths = 0 }) year kind k (record { first = omega arith; last = omega arith; below = omega arith; grid = zero-mod (interval f); carried = λ n. omega arith }) l
+    (year-range year l .0) m (omega (arith, day-end-range f kind)) (Next (record { day = year; hundredths = dayEnd f kind - interval f }))
+
+-- ---- what else both steps share
+
+-- the time before is on the format
+pub back-on-format : (f : Format) (t u : Time) → Precedes f t u → OnFormat f t
+back-on-format f t u s = went f t (s .0) (s .1) u (back-step f u (s .0) (s .1) t (s .2)) .from
+
+pub follows-precedes : (f : Format) (t u : Time) → Follows f t u → Precedes f t u
+follows-precedes f t u s = (s .0, s .1, step-back f t (s .0) (s .1) u (s .2))
+
+pub precedes-follows : (f : Format) (t u : Time) → Precedes f t u → Follows f t u
+precedes-follows f t u s = (s .0, s .1, back-step f u (s .0) (s .1) t (s .2))
+
+-- D, E and H step back as usual for every kind
+pub backs-usual : (f : Format) (t : Time) (year kind : ℕ) → carriesLeap f ≡ false → member kind kinds ≡ true → stepBackOf f t year kind ≡ stepBackOf f t year usual
+unfolding stepBackOf onDay preceding
+backs-usual f t year kind m h = rw (h, usual-end f kind m, usual-end f usual m)
+
+-- they refuse the same with the same
+pub same-refusal : (f : Format) (t : Time) (year kind : ℕ) (r : Refusal) → (stepBackOf f t year kind ≡ Stepped.Refused r) ↔ (stepOf f t year kind ≡ Stepped.Refused r)
+unfolding stepOf stepBackOf
+same-refusal f t year kind r = (
+  λ h. refuses-alike f t year kind (preceding f t year kind) r h (Next (following f t year kind)),
+  λ h. refuses-alike f t year kind (following f t year kind) r h (Next (preceding f t year kind)),
+)
