@@ -3,11 +3,18 @@
 ghost use mathlib.Core.Path.{_≡_};
 ghost use mathlib.Core.List.{[], _∷_};
 ghost use lib.IntN.{pos};
-ghost use lib.ListN.{getD};
-ghost use Rattle.timecode.specs.Answers.{refused, writtenSaid, steppedSaid};
 ghost use Rattle.timecode.specs.Calls.{classifyListLeaves};
 ghost use Rattle.timecode.specs.Frames.{writeLeaves};
-ghost use Rattle.recorder.specs.Border.{formatOf, timeOf, writeSaid, readSaid, stepSaid, stepBackSaid, differenceSaid, classifySaid, classifyListSaid, scanSaid, freshSaid, fedSaid, fedWith, valuesLeft, flagLeft, indexLeft, wordsFor, byteIn, readerIn, freshLeft, feedWords, feedPulseWords, wordsLeft};
+ghost use Rattle.border.specs.Border.{formatOf, timeOf, writeSaid, readSaid, stepSaid, stepBackSaid, differenceSaid, classifySaid, classifyListSaid, scanSaid, freshSaid, fedSaid, valuesLeft, flagLeft, indexLeft, freshLeft, feedWords, feedPulseWords, wordsLeft};
+use border::format_of;
+use border::number_of_written;
+use border::put_fed;
+use border::put_index;
+use border::put_stepped;
+use border::put_values;
+use border::reader_in;
+use border::time_of;
+use border::words_for;
 use clock::step;
 use clock::step_back;
 use frame::read;
@@ -16,7 +23,6 @@ use pulse::classify;
 use pulse::classify_list;
 use pulse_feed::feed_pulse;
 use refusals::number_of;
-use register::Register;
 use scan::scan;
 use stream::Made;
 use stream::Passed;
@@ -25,133 +31,10 @@ use stream::answer_to;
 use stream::is_valid;
 use stream::next_reader;
 use stream::pass;
-use timecode::Answer;
 use timecode::Classified;
-use timecode::Format;
 use timecode::Reading;
-use timecode::Refusal;
 use timecode::Scanned;
-use timecode::Stepped;
 use timecode::Subtracted;
-use timecode::Time;
-use timecode::Written;
-
-fn format_of(letter: u8, expression: u8) -> Format
-    ensures { λ r. ⌜ r ≡ formatOf letter expression ⌝ }
-{
-    Format {
-        letter: letter,
-        expression: expression,
-    }
-}
-
-fn time_of(day: u16, hundredths: u32) -> Time
-    ensures { λ r. ⌜ r ≡ timeOf day hundredths ⌝ }
-{
-    Time {
-        day: day,
-        hundredths: hundredths,
-    }
-}
-
-// The index of a refusal that has one, with 5 and 6; the other numbers leave it.
-fn put_index(refusal: Refusal, index: &mut usize)
-    ensures { λ _. ⌜ pos (now (index .exit)) ≡ getD (refused refusal .values) 0 (pos (now (index .entry))) ⌝ }
-{
-    match refusal {
-        Refusal::UnknownFormat => {}
-        Refusal::InvalidTime => {}
-        Refusal::WrongLength => {}
-        Refusal::UnknownSymbol => {}
-        Refusal::MisplacedMark(mark) => {
-            *index = mark;
-        }
-        Refusal::InvalidElement(element) => {
-            *index = element;
-        }
-        Refusal::InvalidDigit => {}
-        Refusal::SecondsDiffer => {}
-        Refusal::ControlTooLong => {}
-        Refusal::InvalidInterval => {}
-        Refusal::InvalidYearLength => {}
-        Refusal::StartPastEnd => {}
-        Refusal::InvalidReader => {}
-        Refusal::SecondNotCarried => {}
-        Refusal::InvalidKind => {}
-    }
-}
-
-// The time and the control word, into the caller's memory.
-fn put_values(time: Time, word: u64, day: &mut u16, hundredths: &mut u32, control: &mut u64)
-    ensures { λ _. ⌜ now (day .exit) ≡ time .day ⌝ }
-    ensures { λ _. ⌜ now (hundredths .exit) ≡ time .hundredths ⌝ }
-    ensures { λ _. ⌜ now (control .exit) ≡ word ⌝ }
-{
-    *day = time.day;
-    *hundredths = time.hundredths;
-    *control = word;
-}
-
-// 0, or the number of the refusal.
-fn number_of_written(written: Written) -> u8
-    ensures { λ r. ⌜ r ≡ writtenSaid written .number ⌝ }
-{
-    match written {
-        Written::Done => 0,
-        Written::Refused(refusal) => number_of(refusal),
-    }
-}
-
-// A word that is no byte stands for 255: no letter and no expression.
-fn byte_in(word: u64) -> u8
-    ensures { λ r. ⌜ r ≡ byteIn word ⌝ }
-{
-    if word < 256 {
-        return word as u8;
-    }
-    255
-}
-
-// The reader that the caller's words hold, whatever they are.
-fn reader_in(words: [u64; 10]) -> Reader
-    ensures { λ r. ⌜ r ≡ readerIn words ⌝ }
-{
-    let heard = Register {
-        word0: words[3],
-        word1: words[4],
-        word2: words[5],
-        word3: words[6],
-        word4: words[7],
-        word5: words[8],
-        word6: words[9],
-    };
-    let format = format_of(byte_in(words[0]), byte_in(words[1]));
-    Reader {
-        format: format,
-        place: words[2] as usize,
-        heard: heard,
-    }
-}
-
-// The reader's ten words: the letter, the expression, the place, and the seven of the register.
-fn words_for(reader: Reader) -> [u64; 10]
-    ensures { λ r. ⌜ r ≡ wordsFor reader ⌝ }
-{
-    let format = reader.format;
-    let heard = reader.heard;
-    [
-        format.letter as u64,
-        format.expression as u64,
-        reader.place as u64,
-        heard.word0,
-        heard.word1,
-        heard.word2,
-        heard.word3,
-        heard.word4,
-        heard.word5,
-        heard.word6,
-    ]
-}
 
 // Write: a time and a control word as the bytes of the frame.
 #[no_mangle]
@@ -200,21 +83,6 @@ pub extern "C" fn duskveyra_read(
             put_index(refusal, index);
             number_of(refusal)
         }
-    }
-}
-
-// What a step brought: the time, into the caller's memory, or its refusal and nothing written.
-fn put_stepped(stepped: Stepped, to_day: &mut u16, to_hundredths: &mut u32) -> u8
-    ensures { λ r. ⌜ r ≡ steppedSaid stepped .number ⌝ }
-    ensures { λ _. ⌜ pos (now («to_day» .exit)) ∷ pos (now («to_hundredths» .exit)) ∷ [] ≡ valuesLeft (steppedSaid stepped) (pos (now («to_day» .entry)) ∷ pos (now («to_hundredths» .entry)) ∷ []) ⌝ }
-{
-    match stepped {
-        Stepped::Next(time) => {
-            *to_day = time.day;
-            *to_hundredths = time.hundredths;
-            0
-        }
-        Stepped::Refused(refusal) => number_of(refusal),
     }
 }
 
@@ -296,37 +164,6 @@ pub extern "C" fn duskveyra_fresh(letter: u8, expression: u8, reader: &mut [u64;
             0
         }
         Made::Refused(refusal) => number_of(refusal),
-    }
-}
-
-// What one Feed brought: the reader's new words and the report, or its refusal and nothing written.
-fn put_fed(
-    next: Reader,
-    answer: Answer,
-    reader: &mut [u64; 10],
-    reported: &mut u8,
-    day: &mut u16,
-    hundredths: &mut u32,
-    control: &mut u64,
-) -> u8
-    ensures { λ r. ⌜ r ≡ fedSaid (fedWith next answer) .number ⌝ }
-    ensures { λ _. ⌜ now (reader .exit) ≡ wordsLeft (fedWith next answer) (now (reader .entry)) ⌝ }
-    ensures { λ _. ⌜ now (reported .exit) ≡ flagLeft (fedSaid (fedWith next answer)) (now (reported .entry)) ⌝ }
-    ensures { λ _. ⌜ pos (now (day .exit)) ∷ pos (now (hundredths .exit)) ∷ pos (now (control .exit)) ∷ [] ≡ valuesLeft (fedSaid (fedWith next answer)) (pos (now (day .entry)) ∷ pos (now (hundredths .entry)) ∷ pos (now (control .entry)) ∷ []) ⌝ }
-{
-    match answer {
-        Answer::Quiet => {
-            *reader = words_for(next);
-            *reported = 0;
-            0
-        }
-        Answer::Report(time, word) => {
-            *reader = words_for(next);
-            *reported = 1;
-            put_values(time, word, day, hundredths, control);
-            0
-        }
-        Answer::Refused(refusal) => number_of(refusal),
     }
 }
 

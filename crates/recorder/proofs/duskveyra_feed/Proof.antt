@@ -1,15 +1,15 @@
 -- `duskveyra_feed` meets its contract: one Feed of the reader that the words are.
 use borrow.Author.Needs.{needs}
 use Rattle.stream.specs.Feeding.{feedOf}
-use Rattle.recorder.specs.Border.{fedSaid, feedWords}
-use Rattle.recorder.specs.Laws.{no-values-left}
+use Rattle.border.specs.Border.{fedSaid, feedWords}
+use Rattle.border.specs.Laws.{no-values-left}
 use Rattle.recorder.proofs.duskveyra_feed.Statement.{statement}
 use Rattle.recorder.proofs.duskveyra_feed.Tie as tie
 use Rattle.recorder.proofs.duskveyra_feed.Reads as reads
 use Rattle.recorder.proofs.duskveyra_feed.Lts as lts
 use Rattle.recorder.proofs.feed_other.Reads as feed-other-reads
-use Rattle.recorder.proofs.put_fed.Reads as put-fed-reads
-use Rattle.recorder.proofs.reader_in.Reads as reader-in-reads
+use Rattle.border.proofs.put_fed.Reads as put-fed-reads
+use Rattle.border.proofs.reader_in.Reads as reader-in-reads
 use Rattle.stream.proofs.answer_to.Reads as answer-to-reads
 use Rattle.stream.proofs.next_reader.Reads as next-reader-reads
 

@@ -3,13 +3,13 @@ use borrow.Author.Needs.{needs}
 use mathlib.Core.Path.{refl, sym, _∙_}
 use Rattle.stream.specs.Feeding.{feedOf}
 use Rattle.stream.specs.Marked.{passed-next, not-passed}
-use Rattle.recorder.specs.Laws.{invalid-answer, unknown-answer}
+use Rattle.border.specs.Laws.{invalid-answer, unknown-answer}
 use Rattle.recorder.proofs.feed_other.Statement.{statement}
 use Rattle.recorder.proofs.feed_other.Tie as tie
 use Rattle.recorder.proofs.feed_other.Reads as reads
 use Rattle.recorder.proofs.feed_other.Lts as lts
-use Rattle.recorder.proofs.reader_in.Reads as reader-in-reads
-use Rattle.recorder.proofs.words_for.Reads as words-for-reads
+use Rattle.border.proofs.reader_in.Reads as reader-in-reads
+use Rattle.border.proofs.words_for.Reads as words-for-reads
 use Rattle.stream.proofs.is_valid.Reads as is-valid-reads
 use Rattle.stream.proofs.pass.Reads as pass-reads
 

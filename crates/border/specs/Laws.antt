@@ -32,7 +32,7 @@ use Rattle.timecode.specs.declared.Refusal.the-variants.{
 use Rattle.stream.specs.Feeding.{freshReader, madeOf, isValid, answerOf}
 use Rattle.stream.specs.declared.Made.{Made}
 use Rattle.stream.specs.declared.Reader.{Reader}
-use Rattle.recorder.specs.Border.{valuesLeft}
+use Rattle.border.specs.Border.{valuesLeft}
 
 pub refusal-numbered : (x : Refusal) → eqb (number x) 0 ≡ false
 refusal-numbered UnknownFormat = refl

@@ -21,7 +21,7 @@ use Rattle.stream.specs.Feeding.{freshReader, madeOf, isValid, nextOf, answerOf
 use Rattle.stream.specs.Refinement.{answers, readerAfter, answers-are-plain}
 use Rattle.stream.specs.declared.Reader.{Reader}
 use Rattle.pulse_feed.specs.Pulses.{feedPulseOf}
-use Rattle.recorder.specs.Border.{formatOf, fedSaid, wordsFor, byteIn, readerIn, freshLeft, feedWords, feedPulseWords, wordsLeft}
+use Rattle.border.specs.Border.{formatOf, fedSaid, wordsFor, byteIn, readerIn, freshLeft, feedWords, feedPulseWords, wordsLeft}
 
 -- ---- packed and unpacked
 
