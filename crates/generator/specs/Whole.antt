@@ -14,7 +14,8 @@ use Rattle.timecode.specs.Formats.{member, known, interval, carriesLeap}
 use Rattle.timecode.specs.Frames.{yearLengths, inYear, dayAfter, usual, kinds, dayLengthOf, dayEnd, onDay, following, stepOf, written, Sent, noFrame, Generator, elements}
 use Rattle.timecode.specs.Laws.Checks.{done}
 use Rattle.timecode.specs.Laws.Reading.{Valid}
-use Rattle.timecode.specs.Laws.Stepping.{went, carries, year-is, step-on-format}
+use Rattle.timecode.specs.Laws.Back.{step-again}
+use Rattle.timecode.specs.Laws.Stepping.{went, answers, day-end-range, Lands, lands}
 use Rattle.timecode.specs.Laws.Tests.{by-test, and-right}
 use Rattle.timecode.specs.Laws.Times.{is-on-format, is-carried}
 use Rattle.timecode.specs.Laws.Writing.{length-written, taken, takes}
@@ -62,43 +63,21 @@ starts-turn f s now now′ year frames left left′ a b p q =
 
 -- ---- Step taken once is taken for ever: with its year length, and with its kind until the day ends
 
-following-inside : (f : Format) (t : Time) (year kind : ℕ) → 1 ≤ t .day → t .day ≤ year → following f t year kind .day ≤ year
-unfolding following dayAfter
-following-inside f t year kind a b =
-    by-test (eqb (t .hundredths + interval f) (dayEnd f kind))
-    (λ y. rw y (by-test (eqb (t .day) year) (λ e. rw e (omega arith)) (λ n. rw n (omega (arith, eqb-false (t .day) year n)))))
-    (λ n. rw n b)
-
-two-days : (year : ℕ) → (year ≡ 365) ⊎ (year ≡ 366) → 1 < year
-two-days year (inl p) = omega arith
-two-days year (inr p) = omega arith
-
-day-moves : (day year : ℕ) → 1 < year → day ≡ dayAfter day year → ⊥
-unfolding dayAfter
-day-moves day year l h = by-test (eqb day year) (λ y. omega (arith, eqb-true day year y, rw y at h)) (λ n. omega (arith, rw n at h))
-
-usual-room : (f : Format) → 0 < dayEnd f usual
-unfolding dayEnd dayLengthOf
-usual-room f = by-test (carriesLeap f) (λ y. rw y (omega arith)) (λ n. rw n (omega arith))
-
-following-on-day : (f : Format) (t : Time) (year kind : ℕ) → known f ≡ true → 1 < year → member kind kinds ≡ true → t .hundredths < dayEnd f kind → t .hundredths % interval f ≡ 0
-    → onDay f (following f t year kind) (kindAfter t (following f t year kind) kind) ≡ true
-unfolding following kindAfter onDay
-following-on-day f t year kind k l m b g =
-    by-test (eqb (t .hundredths + interval f) (dayEnd f kind))
-    (λ y. rw (y, ne-eqb (t .day) (dayAfter (t .day) year) (day-moves (t .day) year l), lt-ltb 0 (dayEnd f usual) (usual-room f)))
-    (λ n.
-    let before : t .hundredths + interval f < dayEnd f kind = omega (arith, carries f k kind m (t .hundredths) b g, eqb-false (t .hundredths + interval f) (dayEnd f kind) n) in
-    rw (n, eq-eqb (t .day) (t .day) refl, m, lt-ltb (t .hundredths + interval f) (dayEnd f kind) before))
+-- a step that changes the day goes to midnight
+to-midnight : (f : Format) (t : Time) (year kind : ℕ) (u : Time) → eqb (t .day) (u .day) ≡ false → Lands f t year kind u → u .hundredths ≡ 0
+to-midnight f t year kind u n (inl p) = absurd (eqb-false (t .day) (u .day) n (ap (λ (v : Time). v .day) (p .0)))
+to-midnight f t year kind u n (inr p) = sym (ap (λ (v : Time). v .hundredths) (p .0))
 
 next-step : (f : Format) (t u : Time) (year kind : ℕ) → stepOf f t year kind ≡ Next u → stepOf f u year (kindAfter t u kind) ≡ Next (following f u year (kindAfter t u kind))
-unfolding stepOf inYear
+unfolding stepOf kindAfter
 next-step f t u year kind h =
-    let p = went f t year kind u h in
-    let inside : u .day ≤ year = rw (p .to) at (following-inside f t year kind (p .from .first) (p .inside)) in
-    let there : onDay f u (kindAfter t u kind) ≡ true = rw (p .to) at (following-on-day f t year kind (p .format) (two-days year (year-is year (p .length-is))) (p .kind-is) (p .before) (p .from .grid)) in
-    let o = step-on-format f t u (year, kind, h) in
-    rw (p .format, is-on-format f u o, is-carried f u o, p .length-is, le-leb (u .day) year inside, there)
+    let again = step-again f t u year kind h in
+    let w = went f u year kind (following f u year kind) again in
+    by-test (eqb (t .day) (u .day))
+    (λ y. rw y again)
+    (λ n.
+    let midnight = to-midnight f t year kind u n (lands f t year kind u (went f t year kind u h)) in
+    rw n (answers f u year usual (w .format) (w .from) (w .length-is) (w .inside) refl (omega (arith, midnight, day-end-range f usual)) (Next (following f u year usual))))
 
 -- Step takes the time, the year length and the kind
 abbrev Steps : Format → Start → ℕ → Type 0

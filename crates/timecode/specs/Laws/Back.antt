@@ -9,7 +9,7 @@ use borrow.Author.Tests.{eqb-true, eqb-false, eq-eqb, ne-eqb}
 use lib.Dec.{eqb}
 use Rattle.timecode.specs.Formats.{member, known, interval, carriesLeap}
 use Rattle.timecode.specs.Frames.{yearLengths, dayAfter, usual, kinds, dayEnd, onDay, sameDay, nextDay, following, stepOf, Follows, dayBefore, sameDayBefore, lastBefore, preceding, stepBackOf, Precedes}
-use Rattle.timecode.specs.Laws.Stepping.{time-path, Went, went-to, answers, refuses-alike, went, year-range, one-interval, end-whole, usual-end, day-end-range, Lands, lands, step-on-format}
+use Rattle.timecode.specs.Laws.Stepping.{time-path, Went, went-to, answers, answers-alike, refuses-alike, went, year-range, one-interval, end-whole, usual-end, day-end-range, day-after-inside, Lands, lands, step-on-format}
 use Rattle.timecode.specs.Laws.Table.{interval-range}
 use Rattle.timecode.specs.Laws.Tests.{by-test}
 use Rattle.timecode.specs.Laws.Times.{OnFormat}
@@ -20,10 +20,6 @@ use Rattle.timecode.specs.declared.Stepped.the-variants.{Next}
 use Rattle.timecode.specs.declared.Time.{Time}
 
 -- ---- days
-
-day-after-inside : (day year : ℕ) → 1 ≤ day → day ≤ year → dayAfter day year ≤ year
-unfolding dayAfter
-day-after-inside day year a b = by-test (eqb day year) (λ y. rw y (omega arith)) (λ m. rw m (omega (arith, eqb-false day year m)))
 
 day-before-inside : (day year : ℕ) → 1 ≤ day → day ≤ year → (1 ≤ dayBefore day year) × (dayBefore day year ≤ year)
 unfolding dayBefore
@@ -63,7 +59,7 @@ undone f t year kind u w (inl p) =
     (w .inside, p .1, rw none (time-path (sameDayBefore f (sameDay f t)) t refl (less-added (t .hundredths) (interval f))))
 undone f t year kind u w (inr p) =
     subst (Undone f t year kind) (p .0) (
-      day-after-inside (t .day) year (w .from .first) (w .inside),
+      day-after-inside (t .day) year (w .from .first) (w .inside) .1,
       omega (arith, p .1, interval-range f),
       time-path (lastBefore f (nextDay t year) year kind) t (before-after (t .day) year (w .from .first) (w .inside)) (less-end (t .hundredths) (interval f) (dayEnd f kind) (p .1)),
     )
@@ -74,6 +70,11 @@ step-back f t year kind u h =
     let w = went f t year kind u h in
     let b = undone f t year kind u w (lands f t year kind u w) in
     answers f u year kind (w .format) (step-on-format f t u (year, kind, h)) (w .length-is) (b .0) (w .kind-is) (b .1) (Next (preceding f u year kind)) ∙ ap Next (b .2)
+
+-- a step that was taken is taken again with the same length and kind
+pub step-again : (f : Format) (t u : Time) (year kind : ℕ) → stepOf f t year kind ≡ Next u → stepOf f u year kind ≡ Next (following f u year kind)
+unfolding stepOf stepBackOf
+step-again f t u year kind h = answers-alike f u year kind (preceding f u year kind) t (step-back f t year kind u h) (Next (following f u year kind))
 
 -- ---- a step back and then a step
 

@@ -150,11 +150,11 @@ year-range year h = go (year-is year h)
     go (inr e) = omega arith
 
 -- a test that every number of a list passes
-abbrev every : (ℕ → Bool) → List ℕ → Bool
+abbrev pub every : (ℕ → Bool) → List ℕ → Bool
 every p [] = true
 every p (x ∷ xs) = p x && every p xs
 
-one-of : (p : ℕ → Bool) (xs : List ℕ) → every p xs ≡ true → (x : ℕ) → member x xs ≡ true → p x ≡ true
+pub one-of : (p : ℕ → Bool) (xs : List ℕ) → every p xs ≡ true → (x : ℕ) → member x xs ≡ true → p x ≡ true
 one-of p [] h x m = clash m refl
 one-of p (y ∷ ys) h x m =
     by-test (eqb x y)
@@ -217,10 +217,9 @@ day-end-range f kind =
     (λ y. omega (arith, leap-end f kind y, end-range (dayLengthOf kind) (ends kind)))
     (λ m. omega (arith, usual-end f kind m))
 
-day-after-in : (day year : ℕ) → (year ≡ 365) ⊎ (year ≡ 366) → day ≤ year → (1 ≤ dayAfter day year) × (dayAfter day year ≤ lastDay)
+pub day-after-inside : (day year : ℕ) → 1 ≤ day → day ≤ year → (1 ≤ dayAfter day year) × (dayAfter day year ≤ year)
 unfolding dayAfter
-day-after-in day year (inl p) h = by-test (eqb day year) (λ y. rw y (omega arith)) (λ m. let n = eqb-false day year m in rw m (omega arith))
-day-after-in day year (inr p) h = by-test (eqb day year) (λ y. rw y (omega arith)) (λ m. let n = eqb-false day year m in rw m (omega arith))
+day-after-inside day year a b = by-test (eqb day year) (λ y. rw y (omega arith)) (λ m. let n = eqb-false day year m in rw m (omega arith))
 
 -- a step goes to the next frame of the day, or from the day's last frame to the day after
 abbrev pub Lands : Format → Time → ℕ → ℕ → Time → Type 0
@@ -249,8 +248,8 @@ landed-on f t year kind u w (inl p) =
       carried = λ m. omega (arith, p .1, usual-end f kind m);
     })
 landed-on f t year kind u w (inr p) =
-    let d = day-after-in (t .day) year (year-is year (w .length-is)) (w .inside) in
-    subst (OnFormat f) (p .0) (record { first = d .0; last = d .1; below = omega arith; grid = zero-mod (interval f); carried = λ m. omega arith })
+    let d = day-after-inside (t .day) year (w .from .first) (w .inside) in
+    subst (OnFormat f) (p .0) (record { first = d .0; last = omega (arith, d .1, year-range year (w .length-is)); below = omega arith; grid = zero-mod (interval f); carried = λ m. omega arith })
 
 -- a step of a time on the format is on the format
 pub step-on-format : (f : Format) (t u : Time) → Follows f t u → OnFormat f u

@@ -13,7 +13,7 @@ use Rattle.timecode.specs.Formats.{member, table, lookUp, rowOf, known, 
 use Rattle.timecode.specs.Frames.{Follows, written}
 use Rattle.timecode.specs.Laws.Marks.{at-written}
 use Rattle.timecode.specs.Laws.Places.{distinct, spared}
-use Rattle.timecode.specs.Laws.Stepping.{time-path, went, YearTurn, LeapTurn, Turn, Alike, successors}
+use Rattle.timecode.specs.Laws.Stepping.{time-path, every, one-of, went, YearTurn, LeapTurn, Turn, Alike, successors}
 use Rattle.timecode.specs.Laws.Table.{everyFormat, of-every}
 use Rattle.timecode.specs.Laws.Tests.{and-left, and-right}
 use Rattle.timecode.specs.Layout.{seconds, minutes, hours, days, tenths, hundredths, hasSeconds, straightSeconds, controlRange, control, timeFields, fields, runs, timeNumbers, numbers, spread, isMark, rest, symbolAt}
@@ -80,30 +80,28 @@ midnightPlaces = 10 ∷ 13 ∷ 15 ∷ 17 ∷ 20 ∷ 21 ∷ 26 ∷ []
 abbrev on : ℕ → ℕ → Time
 on day hundredths = record { day = day; hundredths = hundredths }
 
--- the format does not carry the added second, or the frame at c and that of midnight differ at the places
-abbrev differsAt : ℕ → ℕ → ℕ → ℕ → ℕ → Format → Bool
-differsAt c d e a b f = cond (carriesLeap f) (differ f (on d c) a (on e 0) b midnightPlaces) true
+-- the seconds that stand where a day of another kind has ended: 23:59:59 and 23:59:60
+abbrev lateSeconds : List ℕ
+lateSeconds = 8639900 ∷ dayLength ∷ []
 
-last-differs : (d e a b : ℕ) → everyFormat (differsAt 8639900 d e a b) ≡ true
+-- the format does not carry the added second, or the frames at these and that of midnight differ at the places
+abbrev differAt : List ℕ → ℕ → ℕ → ℕ → ℕ → Format → Bool
+differAt cs d e a b f = cond (carriesLeap f) (every (λ c. differ f (on d c) a (on e 0) b midnightPlaces) cs) true
+
+late-differ : (d e a b : ℕ) → everyFormat (differAt lateSeconds d e a b) ≡ true
 unfolding everyFormat table size rowOf lookUp rest isMark symbolAt runs fields timeFields numbers timeNumbers seconds minutes hours days tenths hundredths straightSeconds hasSeconds carriesSeconds control controlRange carriesControl carriesLeap
-last-differs d e a b = refl
-
-added-differs : (d e a b : ℕ) → everyFormat (differsAt dayLength d e a b) ≡ true
-unfolding everyFormat table size rowOf lookUp rest isMark symbolAt runs fields timeFields numbers timeNumbers seconds minutes hours days tenths hundredths straightSeconds hasSeconds carriesSeconds control controlRange carriesControl carriesLeap
-added-differs d e a b = refl
-
-midnight-apart : (f : Format) (c : ℕ) → ((d e a b : ℕ) → everyFormat (differsAt c d e a b) ≡ true) → (u v : Time) → known f ≡ true → carriesLeap f ≡ true → u .hundredths ≡ c → v .hundredths ≡ 0 → Apart f u v
-midnight-apart f c h u v k y l z =
-    let p = time-path u (on (u .day) c) refl l in
-    let q = time-path v (on (v .day) 0) refl z in
-    rw (p, q) (differ-apart f (on (u .day) c) (on (v .day) 0) midnightPlaces refl (omega arith) (λ a b. rw y at (of-every (differsAt c (u .day) (v .day) a b) (h (u .day) (v .day) a b) f k)))
+late-differ d e a b = refl
 
 leap-apart : (f : Format) (u v : Time) → known f ≡ true → LeapTurn f u v → Apart f u v
-leap-apart f u v k t = go (t .late)
+leap-apart f u v k t =
+    let c = u .hundredths in
+    let q = time-path v (on (v .day) 0) refl (t .midnight) in
+    let late : (a b : ℕ) → every (λ c. differ f (on (u .day) c) a (on (v .day) 0) b midnightPlaces) lateSeconds ≡ true = λ a b. rw (t .carried) at (of-every (differAt lateSeconds (u .day) (v .day) a b) (late-differ (u .day) (v .day) a b) f k) in
+    rw q (differ-apart f u (on (v .day) 0) midnightPlaces refl (omega arith) (λ a b. one-of (λ c. differ f (on (u .day) c) a (on (v .day) 0) b midnightPlaces) lateSeconds (late a b) c (is-late (t .late))))
   where
-    go : (u .hundredths ≡ 8639900) ⊎ (u .hundredths ≡ dayLength) → Apart f u v
-    go (inl p) = midnight-apart f 8639900 last-differs u v k (t .carried) p (t .midnight)
-    go (inr p) = midnight-apart f dayLength added-differs u v k (t .carried) p (t .midnight)
+    is-late : (u .hundredths ≡ 8639900) ⊎ (u .hundredths ≡ dayLength) → member (u .hundredths) lateSeconds ≡ true
+    is-late (inl p) = rw p
+    is-late (inr p) = rw p
 
 turn-apart : (f : Format) (u v : Time) → known f ≡ true → Turn f u v → Apart f u v
 turn-apart f u v k (inl t) = year-apart f u v k t
