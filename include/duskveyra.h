@@ -40,7 +40,7 @@ enum duskveyra_number {
     DUSKVEYRA_OK = 0,
     DUSKVEYRA_UNKNOWN_FORMAT = 1,       /* letter or expression not among the formats */
     DUSKVEYRA_INVALID_TIME = 2,         /* day or hundredths out of range, or not on the format */
-    DUSKVEYRA_WRONG_LENGTH = 3,         /* frame not of the format's length, or the classifier's lengths differ */
+    DUSKVEYRA_WRONG_LENGTH = 3,         /* frame not of the format's length, or lists of different lengths */
     DUSKVEYRA_UNKNOWN_SYMBOL = 4,       /* symbol above 3 */
     DUSKVEYRA_MISPLACED_MARK = 5,       /* mark missing, or where none belongs; with its index */
     DUSKVEYRA_INVALID_ELEMENT = 6,      /* 1 or 3 as index marker, or 3 in the place of a digit or bit; with its index */
@@ -63,11 +63,19 @@ enum duskveyra_kind {
     DUSKVEYRA_SECOND_TAKEN = 2  /* 86,399: the next day follows 23:59:58 */
 };
 
+/* Why duskveyra_feed_block stopped. */
+enum duskveyra_stop {
+    DUSKVEYRA_ALL_TAKEN = 0,             /* no symbol is left */
+    DUSKVEYRA_BEFORE_UNKNOWN_SYMBOL = 1, /* the next symbol is above 3 */
+    DUSKVEYRA_BEFORE_REPORT = 2          /* the next symbol brings a report, and there is no room left for it */
+};
+
 /* The longest frame, in bytes. */
 #define DUSKVEYRA_LONGEST_FRAME 100
 
 /* A stream reader: the letter, the expression, the place, and seven words of the symbols heard last. It is made by
- * duskveyra_fresh, changed by duskveyra_feed and duskveyra_feed_pulse, and may be copied as any struct. */
+ * duskveyra_fresh, changed by duskveyra_feed, duskveyra_feed_block and duskveyra_feed_pulse, and may be copied as any
+ * struct. */
 #define DUSKVEYRA_READER_WORDS 10
 
 typedef struct duskveyra_reader {
@@ -116,6 +124,19 @@ uint8_t duskveyra_fresh(uint8_t letter, uint8_t expression, duskveyra_reader *re
  * by feeding alone never meets 13. Of a reader with other words that passes 13, what is reported is not promised. */
 uint8_t duskveyra_feed(duskveyra_reader *reader, uint8_t symbol, uint8_t *reported, uint16_t *day,
                        uint32_t *hundredths, uint64_t *control);
+
+/* Feeds a block of symbols as duskveyra_feed does one after the other, and puts their reports, in their order, into a
+ * list of records, which is three lists of one length: report k, counted from 0, is days[k], hundredths[k] and
+ * controls[k]. Entries past the last report stay as they were. It stops only before the first symbol above 3, or before
+ * the first whose report finds no room left; *reader is then as before that symbol. Sets *taken to the number of
+ * symbols taken, *reports to the number of reports put in, and *stop to DUSKVEYRA_ALL_TAKEN,
+ * DUSKVEYRA_BEFORE_UNKNOWN_SYMBOL or DUSKVEYRA_BEFORE_REPORT; where the last symbol's report just fills the list, all
+ * were taken.
+ * Refuses with 13; 3 where the lengths of days, hundredths and controls are not one; in this order, and then feeds
+ * nothing and leaves all. A symbol above 3 stops it and is no refusal. */
+uint8_t duskveyra_feed_block(duskveyra_reader *reader, const uint8_t *symbols, size_t symbols_length, uint16_t *days,
+                             size_t days_length, uint32_t *hundredths, size_t hundredths_length, uint64_t *controls,
+                             size_t controls_length, size_t *taken, size_t *reports, uint8_t *stop);
 
 /* Classifies one pulse by its width and its period, in the ticks of the nominal element interval: sets *symbol.
  * Refuses with 10, and then leaves it. */

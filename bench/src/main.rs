@@ -1,5 +1,6 @@
 //! Times the library against plain Rust in one run and prints one table: medians of interleaved runs, CPU time.
 
+mod blocks;
 mod commands;
 mod cpu;
 mod plain;
@@ -392,16 +393,21 @@ fn library_time(time: Time) -> duskveyra::Time {
     }
 }
 
+fn block_tables() {
+    blocks::rows("B0", format(b'B', 0));
+    blocks::rows("H1", format(b'H', 1));
+}
+
 fn main() {
     let argument = std::env::args().nth(1);
-    let only_commands = argument.as_deref() == Some("commands");
-    if argument.as_deref() == Some("--timeread") {
-        commands::plain_timeread().expect("a recording on standard input");
-        return;
-    }
-    if only_commands {
-        commands::rows();
-        return;
+    match argument.as_deref() {
+        Some("--timeread") => {
+            commands::plain_timeread().expect("a recording on standard input");
+            return;
+        }
+        Some("commands") => return commands::rows(),
+        Some("blocks") => return block_tables(),
+        _ => {}
     }
     let formats = [
         ("B0", format(b'B', 0), 97),
@@ -458,6 +464,8 @@ fn main() {
             feed(format(b'B', 0), &symbols[..length]),
         );
     }
+
+    block_tables();
 
     heading("feed by kind of stream, 1,000,000 symbols");
     for (name, format, _) in [formats[0], formats[2]] {

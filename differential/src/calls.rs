@@ -384,11 +384,9 @@ fn scan(random: &mut Random) -> Result<(), String> {
     )
 }
 
-/// A reader of any words: 13 exactly where its letter, expression or place is out of range, then 4 for a symbol above 3,
-/// and after a refusal the same words. `reference` cannot make such a reader; the rule is document 01's.
-fn any_reader(random: &mut Random) -> Result<(), String> {
+/// Words of a reader: mostly of this format, at any place and with any symbols heard, else near that or any words.
+pub fn any_words(random: &mut Random, (letter, expression): (u8, u8)) -> [u64; 10] {
     let mut words: [u64; 10] = std::array::from_fn(|_| random.next());
-    let (letter, expression) = random.pick(&FORMATS);
     if !random.once_in(8) {
         words[0] = u64::from(letter);
         words[1] = u64::from(expression);
@@ -397,13 +395,25 @@ fn any_reader(random: &mut Random) -> Result<(), String> {
     if random.once_in(8) {
         words[random.index(2)] += 256;
     }
-    let top = random.pick(&[4, 256]);
-    let symbol = random.below(top) as u8;
+    words
+}
+
+/// Whether these words pass number 13: the letter, the expression and the place are in range.
+pub fn is_valid(words: &[u64; 10]) -> bool {
     let known = FORMATS.iter().find(|&&(letter, expression)| {
         words[0] == u64::from(letter) && words[1] == u64::from(expression)
     });
-    let valid = known.is_some_and(|&known| words[2] < table(format_of(known)).0 as u64);
-    let expected = match (valid, symbol) {
+    known.is_some_and(|&known| words[2] < table(format_of(known)).0 as u64)
+}
+
+/// A reader of any words: 13 exactly where its letter, expression or place is out of range, then 4 for a symbol above 3,
+/// and after a refusal the same words. `reference` cannot make such a reader; the rule is document 01's.
+fn any_reader(random: &mut Random) -> Result<(), String> {
+    let format = random.pick(&FORMATS);
+    let words = any_words(random, format);
+    let top = random.pick(&[4, 256]);
+    let symbol = random.below(top) as u8;
+    let expected = match (is_valid(&words), symbol) {
         (false, _) => Some((13, None)),
         (true, 4..) => Some((4, None)),
         _ => None,

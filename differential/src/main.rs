@@ -1,6 +1,7 @@
-//! Runs the library against the plain version in `reference`: random streams in all 16 formats, symbol by symbol, and
-//! random calls with good and bad input. The first difference is printed in full and ends the run.
+//! Runs the library against the plain version in `reference`: random streams in all 16 formats, symbol by symbol and in
+//! blocks, and random calls with good and bad input. The first difference is printed in full and ends the run.
 
+mod blocks;
 mod calls;
 mod random;
 mod streams;
@@ -32,6 +33,14 @@ struct Counts {
     /// Reports of 23:59:60.
     added: u64,
     refused: u64,
+    blocks: u64,
+    /// Symbols that blocks took, and reports that they put in.
+    in_blocks: u64,
+    put_in: u64,
+    /// Blocks that stopped before a symbol above 3, before a report with no room left, and that were refused.
+    before_unknown: u64,
+    before_report: u64,
+    refused_blocks: u64,
 }
 
 fn refused(refusal: duskveyra::Refusal) -> Refused {
@@ -238,7 +247,8 @@ fn main() -> ExitCode {
         // A panic on either side is a difference too.
         let difference = catch_unwind(AssertUnwindSafe(|| {
             run_stream(&mut random, &mut counts)?;
-            calls::run_calls(&mut random, &mut counts)
+            calls::run_calls(&mut random, &mut counts)?;
+            blocks::run_blocks(&mut random, &mut counts)
         }))
         .unwrap_or_else(|_| Err("panicked, see above".to_string()));
         if let Err(difference) = difference {
@@ -260,6 +270,15 @@ fn main() -> ExitCode {
     println!(
         "{number} streams, {} reports, {} of them in an added second, {} symbols above 3",
         counts.reports, counts.added, counts.refused
+    );
+    println!(
+        "{} blocks of {} symbols, {} reports put in, {} stopped before a symbol above 3, {} before a report with no room; {} refused",
+        counts.blocks,
+        counts.in_blocks,
+        counts.put_in,
+        counts.before_unknown,
+        counts.before_report,
+        counts.refused_blocks
     );
     println!(
         "{} symbols, {} calls, 0 differences (seed {seed})",

@@ -6,6 +6,7 @@
 
 #![forbid(unsafe_code)]
 
+mod block;
 mod clock;
 mod formats;
 mod frame;
@@ -16,6 +17,7 @@ mod scan;
 mod stream;
 mod timeread;
 
+pub use block::{Block, Stop};
 pub use clock::{difference, next_after, step, step_back};
 pub use formats::{Format, Time, MARK, ONE, SECOND_ADDED, SECOND_TAKEN, SPOILED, USUAL_DAY, ZERO};
 pub use frame::{read, write};

@@ -1,11 +1,11 @@
 //! What documents 01 and 02 themselves give: the examples, the order of the
-//! refusals, the step back, the leap second, and the stream reader held against
-//! the plain machine.
+//! refusals, the step back, the leap second, and the stream reader, fed singly
+//! and in blocks, held against the plain machine.
 
 use reference::{
     classify, classify_and_feed, classify_list, difference, next_after, read, scan, step,
-    step_back, timeread, write, Answer, Format, Reader, Refusal, Time, MARK, SECOND_ADDED,
-    SECOND_TAKEN, USUAL_DAY,
+    step_back, timeread, write, Answer, Block, Format, Reader, Refusal, Stop, Time, MARK,
+    SECOND_ADDED, SECOND_TAKEN, USUAL_DAY,
 };
 
 const FORMATS: [&str; 16] = [
@@ -768,6 +768,63 @@ fn plain_machine() {
         }
     }
     assert!(reports > 1_000);
+}
+
+/// A block against the plain machine: with any room it takes the symbols before
+/// the first that the machine refuses or whose report would not fit.
+#[test]
+fn blocks() {
+    let mut random = Random(6);
+    let empty = (time(0, 1), 2);
+    let mut stops = [0; 3];
+    for name in FORMATS {
+        let format = format(name);
+        for _ in 0..60 {
+            let (mut elements, _) = random.generator(format, 8);
+            elements.insert(0, MARK);
+            if random.below(2) == 0 {
+                let index = random.below(elements.len() as u64) as usize;
+                elements[index] = 4 + random.below(252) as u8;
+            }
+            let room = random.below(10) as usize;
+            let mut plain = PlainMachine {
+                format,
+                list: Vec::new(),
+            };
+            let mut expected = vec![empty; room];
+            let mut block = Block {
+                taken: elements.len(),
+                reports: 0,
+                stop: Stop::AllTaken,
+            };
+            for (taken, &symbol) in elements.iter().enumerate() {
+                let stop = match plain.feed(symbol) {
+                    Answer::Quiet => continue,
+                    Answer::Report(time, control) if block.reports < room => {
+                        expected[block.reports] = (time, control);
+                        block.reports += 1;
+                        continue;
+                    }
+                    Answer::Report(..) => Stop::NoRoom,
+                    Answer::Refused(_) => Stop::UnknownSymbol,
+                };
+                block.taken = taken;
+                block.stop = stop;
+                break;
+            }
+            let mut reader = Reader::fresh(format).unwrap();
+            let mut records = vec![empty; room];
+            assert_eq!(reader.feed_block(&elements, &mut records), Ok(block));
+            assert_eq!(records, expected);
+            let mut singly = Reader::fresh(format).unwrap();
+            for &symbol in &elements[..block.taken] {
+                singly.feed(symbol);
+            }
+            assert_eq!(reader, singly);
+            stops[block.stop as usize] += 1;
+        }
+    }
+    assert!(stops.iter().all(|&count| count > 100), "{stops:?}");
 }
 
 /// Scan against trying every start with Read.

@@ -1,5 +1,6 @@
-/* Every function of duskveyra.h from C: its answers, each refusal it can give, their order, and the memory it must leave.
- * What is expected stands in documents 01 and 02: the examples, the table of places, the rules. Also compiles as C++. */
+/* Every function of duskveyra.h but duskveyra_feed_block, which blocks.c calls: its answers, each refusal it can give,
+ * their order, and the memory it must leave. What is expected stands in documents 01 and 02: the examples, the table of
+ * places, the rules. Also compiles as C++. */
 #include "duskveyra.h"
 
 #include <stdio.h>

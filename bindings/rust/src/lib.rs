@@ -43,10 +43,12 @@
 
 #![warn(missing_docs)]
 
+mod block;
 mod refusal;
 #[allow(missing_docs)]
 pub mod sys;
 
+pub use block::{Block, Stop};
 pub use refusal::Refusal;
 
 /// Symbol of a zero or an index marker.

@@ -10,7 +10,7 @@ pub enum Refusal {
     UnknownFormat,
     /// 2: day or hundredths out of range, or not on the format.
     InvalidTime,
-    /// 3: frame not of the format's length, or the classifier's three lengths differ.
+    /// 3: frame not of the format's length, or lists of different lengths.
     WrongLength,
     /// 4: symbol above 3.
     UnknownSymbol,

@@ -66,6 +66,21 @@ extern "C" {
         control: *mut u64,
     ) -> u8;
 
+    pub fn duskveyra_feed_block(
+        reader: *mut [u64; 10],
+        symbols: *const u8,
+        symbols_length: usize,
+        days: *mut u16,
+        days_length: usize,
+        hundredths: *mut u32,
+        hundredths_length: usize,
+        controls: *mut u64,
+        controls_length: usize,
+        taken: *mut usize,
+        reports: *mut usize,
+        stop: *mut u8,
+    ) -> u8;
+
     pub fn duskveyra_classify(interval: u32, width: u32, period: u32, symbol: *mut u8) -> u8;
 
     pub fn duskveyra_classify_list(

@@ -5,7 +5,10 @@ ghost use mathlib.Core.List.{[], _∷_};
 ghost use lib.IntN.{pos};
 ghost use lib.ListN.{getD};
 ghost use Rattle.timecode.specs.Answers.{refused, writtenSaid, steppedSaid};
-ghost use Rattle.border.specs.Border.{formatOf, timeOf, fedSaid, fedWith, valuesLeft, flagLeft, wordsFor, byteIn, readerIn, wordsLeft};
+ghost use Rattle.block.specs.Blocks.{stopNumber, blockSaid};
+ghost use Rattle.border.specs.Border.{unlessRefused, formatOf, timeOf, fedSaid, fedWith, valuesLeft, flagLeft, wordsFor, byteIn, readerIn, wordsLeft};
+use block::BlockAnswer;
+use block::Stop;
 use refusals::number_of;
 use register::Register;
 use stream::Reader;
@@ -176,5 +179,41 @@ pub fn put_fed(
             0
         }
         Answer::Refused(refusal) => number_of(refusal),
+    }
+}
+
+// 0 where all symbols were taken, 1 before a symbol above 3, 2 before a report with no room left.
+pub fn stop_number(stop: Stop) -> u8
+    ensures { λ r. ⌜ r ≡ stopNumber stop ⌝ }
+{
+    match stop {
+        Stop::AllTaken => 0,
+        Stop::UnknownSymbol => 1,
+        Stop::NoRoom => 2,
+    }
+}
+
+// What a block brought: the reader's new words and the counts, or its refusal and nothing written.
+pub fn put_block(
+    next: Reader,
+    answer: BlockAnswer,
+    reader: &mut [u64; 10],
+    taken: &mut usize,
+    reports: &mut usize,
+    stop: &mut u8,
+) -> u8
+    ensures { λ r. ⌜ r ≡ blockSaid answer .number ⌝ }
+    ensures { λ _. ⌜ now (reader .exit) ≡ unlessRefused (blockSaid answer) (wordsFor next) (now (reader .entry)) ⌝ }
+    ensures { λ _. ⌜ pos (now (taken .exit)) ∷ pos (now (reports .exit)) ∷ pos (now (stop .exit)) ∷ [] ≡ valuesLeft (blockSaid answer) (pos (now (taken .entry)) ∷ pos (now (reports .entry)) ∷ pos (now (stop .entry)) ∷ []) ⌝ }
+{
+    match answer {
+        BlockAnswer::Taken(symbols, records, why) => {
+            *reader = words_for(next);
+            *taken = symbols;
+            *reports = records;
+            *stop = stop_number(why);
+            0
+        }
+        BlockAnswer::Refused(refusal) => number_of(refusal),
     }
 }

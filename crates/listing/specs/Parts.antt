@@ -1,59 +1,22 @@
--- The bytes may come in parts; and one byte more, at each turn of the loop that hears them.
+-- The bytes may come in parts: what each part makes of the progress, and the lines that it brings.
 use mathlib.Core.Path.{_≡_, refl, sym, ap, _∙_}
-use mathlib.Core.Bool.{Bool, true, false, cond, _||_, false≢true}
-use mathlib.Core.List.{List, [], _∷_, _++_, append-assoc, append-nil}
+use mathlib.Core.Bool.{Bool, true, false, cond}
+use mathlib.Core.List.{List, [], _∷_, _++_, append-assoc}
 use Prim.Native.Nat.{ℕ, zero, suc, _+_, _-_, _/_, _%_, _<_, _≤_}
-use native.Mathlib.Numerals.{add-one}
 use native.Mathlib.Omega.{arith}
 use borrow.Author.Tests.{eqb-true, eqb-false, ne-eqb}
 use lib.Dec.{eqb}
-use lib.ListN.{getD, length, take, drop, length-drop}
-use lib.Seq.{take-suc, take-add, take-length}
+use lib.ListN.{length, take, drop, length-drop}
+use lib.Seq.{take-add, take-length}
 use Rattle.timecode.specs.Laws.Tests.{by-test}
 use Rattle.timecode.specs.declared.Answer.{Answer}
-use Rattle.timecode.specs.declared.Answer.the-variants.{Quiet, Report}
 use Rattle.stream.specs.Feeding.{nextOf, answerOf}
 use Rattle.stream.specs.declared.Reader.{Reader}
-use Rattle.listing.specs.Printed.{isSkipped, symbolOf}
-use Rattle.listing.specs.Progress.{goingOn, oneMore, answered, isQuiet, lineFor, stepOf, lineOf, afterOf, textOf}
+use Rattle.listing.specs.Printed.{isSkipped, symbolOf, feedsOf}
+use Rattle.listing.specs.Progress.{goingOn, answered, lineFor, stepOf, lineOf, afterFeeds, textFeeds, afterOf, textOf}
 use Rattle.listing.specs.declared.Progress.{Progress}
 
-pub after-parts : (p : Progress) (xs ys : List ℕ) → afterOf p (xs ++ ys) ≡ afterOf (afterOf p xs) ys
-unfolding afterOf
-after-parts p [] ys = refl
-after-parts p (x ∷ xs) ys = after-parts (stepOf p x) xs ys
-
-pub text-parts : (p : Progress) (xs ys : List ℕ) → textOf p (xs ++ ys) ≡ textOf p xs ++ textOf (afterOf p xs) ys
-unfolding afterOf textOf
-text-parts p [] ys = refl
-text-parts p (x ∷ xs) ys = ap (λ (t : List ℕ). lineOf p x ++ t) (text-parts (stepOf p x) xs ys) ∙ sym (append-assoc (lineOf p x) (textOf (stepOf p x) xs) (textOf (afterOf (stepOf p x) xs) ys))
-
-next-part : (bytes : List ℕ) (i : ℕ) → i < length bytes → take (i + 1) bytes ≡ take i bytes ++ (getD bytes i 0 ∷ [])
-next-part bytes i h = ap (λ (k : ℕ). take k bytes) (add-one i) ∙ take-suc bytes i 0 h
-
-after-next : (p : Progress) (bytes : List ℕ) (i : ℕ) → i < length bytes → afterOf p (take (i + 1) bytes) ≡ stepOf (afterOf p (take i bytes)) (getD bytes i 0)
-unfolding afterOf
-after-next p bytes i h = ap (afterOf p) (next-part bytes i h) ∙ after-parts p (take i bytes) (getD bytes i 0 ∷ [])
-
-text-next : (p : Progress) (bytes : List ℕ) (i : ℕ) → i < length bytes → textOf p (take (i + 1) bytes) ≡ textOf p (take i bytes) ++ lineOf (afterOf p (take i bytes)) (getD bytes i 0)
-unfolding textOf
-text-next p bytes i h =
-    ap (textOf p) (next-part bytes i h)
-    ∙ text-parts p (take i bytes) (getD bytes i 0 ∷ [])
-    ∙ ap (λ (t : List ℕ). textOf p (take i bytes) ++ t) (append-nil (lineOf (afterOf p (take i bytes)) (getD bytes i 0)))
-
-quiet-line : (element : ℕ) (a : Answer) → isQuiet a ≡ true → lineFor element a ≡ []
-quiet-line element Quiet y = refl
-quiet-line element (Report t w) y = absurd (false≢true y)
-quiet-line element (Answer.Refused x) y = absurd (false≢true y)
-
-quiet-going : (p : Progress) (r : Reader) (a : Answer) → isQuiet a ≡ true → answered p r a .ended ≡ false
-quiet-going p r Quiet y = refl
-quiet-going p r (Report t w) y = refl
-quiet-going p r (Answer.Refused x) y = absurd (false≢true y)
-
-pub going-on : (p : Progress) → p .ended ≡ false → goingOn (p .reader) (p .elements) (p .reports) ≡ p
-going-on p g = ap (λ (e : Bool). record { reader = p .reader; elements = p .elements; reports = p .reports; ended = e }) (sym g)
+-- ---- characters
 
 -- the characters 0 and 1
 pub digit-symbol : (b : ℕ) → b / 2 ≡ 24 → b % 2 ≡ symbolOf b
@@ -67,90 +30,66 @@ pub other-symbol : (b : ℕ) → ¬ (b / 2 ≡ 24) → symbolOf b ≡ cond (eqb 
 unfolding symbolOf
 other-symbol b h = rw (ne-eqb b 48 (λ e. h (rw e)), ne-eqb b 49 (λ e. h (rw e)))
 
--- a character that is skipped stands for no symbol
-pub skipped-symbol : (b : ℕ) → isSkipped b ≡ true → symbolOf b ≡ 4
-unfolding isSkipped symbolOf
-skipped-symbol b y =
-    by-test (eqb b 32)
-    (λ e. rw (eqb-true b 32 e))
-    (λ m.
-    by-test (eqb b 13)
-    (λ e. rw (eqb-true b 13 e))
-    (λ n. rw (eqb-true b 10 (rw (m, n) at y))))
+-- ---- lists of Feeds
 
--- a quiet answer counts its element
-quiet-answered : (r : Reader) (elements reports : ℕ) (next : Reader) (a : Answer) → isQuiet a ≡ true → answered (goingOn r elements reports) next a ≡ goingOn next (oneMore elements) reports
-quiet-answered r elements reports next Quiet y = refl
-quiet-answered r elements reports next (Report t w) y = absurd (false≢true y)
-quiet-answered r elements reports next (Answer.Refused x) y = absurd (false≢true y)
+pub feeds-append : (xs ys : List ℕ) → feedsOf (xs ++ ys) ≡ feedsOf xs ++ feedsOf ys
+unfolding feedsOf
+feeds-append [] ys = refl
+feeds-append (x ∷ xs) ys = by-test (isSkipped x) (λ y. rw y (feeds-append xs ys)) (λ n. rw n (ap (λ (ss : List ℕ). symbolOf x ∷ ss) (feeds-append xs ys)))
 
--- one byte: nothing after the end and where it is skipped, else its answer
-step-by : (p : Progress) (b : ℕ) (t : Bool) → (p .ended || isSkipped b) ≡ t → (stepOf p b ≡ cond t p (answered p (nextOf (p .reader) (symbolOf b)) (answerOf (p .reader) (symbolOf b)))) × (lineOf p b ≡ cond t [] (lineFor (stepOf p b .elements) (answerOf (p .reader) (symbolOf b))))
+pub feeds-few : (bytes : List ℕ) → length (feedsOf bytes) ≤ length bytes
+unfolding feedsOf
+feeds-few [] = omega arith
+feeds-few (b ∷ bs) = by-test (isSkipped b) (λ y. rw y (omega (arith, feeds-few bs))) (λ n. rw n (omega (arith, feeds-few bs)))
+
+pub after-append : (p : Progress) (ss rs : List ℕ) → afterFeeds p (ss ++ rs) ≡ afterFeeds (afterFeeds p ss) rs
+unfolding afterFeeds
+after-append p [] rs = refl
+after-append p (s ∷ ss) rs = after-append (stepOf p s) ss rs
+
+pub text-append : (p : Progress) (ss rs : List ℕ) → textFeeds p (ss ++ rs) ≡ textFeeds p ss ++ textFeeds (afterFeeds p ss) rs
+unfolding afterFeeds textFeeds
+text-append p [] rs = refl
+text-append p (s ∷ ss) rs = ap (λ (t : List ℕ). lineOf p s ++ t) (text-append (stepOf p s) ss rs) ∙ sym (append-assoc (lineOf p s) (textFeeds (stepOf p s) ss) (textFeeds (afterFeeds (stepOf p s) ss) rs))
+
+-- ---- parts of the bytes
+
+pub after-parts : (p : Progress) (xs ys : List ℕ) → afterOf p (xs ++ ys) ≡ afterOf (afterOf p xs) ys
+after-parts p xs ys = ap (afterFeeds p) (feeds-append xs ys) ∙ after-append p (feedsOf xs) (feedsOf ys)
+
+pub text-parts : (p : Progress) (xs ys : List ℕ) → textOf p (xs ++ ys) ≡ textOf p xs ++ textOf (afterOf p xs) ys
+text-parts p xs ys = ap (textFeeds p) (feeds-append xs ys) ∙ text-append p (feedsOf xs) (feedsOf ys)
+
+-- ---- one Feed
+
+step-by : (p : Progress) (s : ℕ) (t : Bool) → p .ended ≡ t → (stepOf p s ≡ cond t p (answered p (nextOf (p .reader) s) (answerOf (p .reader) s))) × (lineOf p s ≡ cond t [] (lineFor (stepOf p s .elements) (answerOf (p .reader) s)))
 unfolding stepOf lineOf
-step-by p b t e = (ap (λ (t : Bool). cond t p (answered p (nextOf (p .reader) (symbolOf b)) (answerOf (p .reader) (symbolOf b)))) e, ap (λ (t : Bool). cond t [] (lineFor (stepOf p b .elements) (answerOf (p .reader) (symbolOf b)))) e)
+step-by p s t e = (ap (λ (t : Bool). cond t p (answered p (nextOf (p .reader) s) (answerOf (p .reader) s))) e, ap (λ (t : Bool). cond t [] (lineFor (stepOf p s .elements) (answerOf (p .reader) s))) e)
 
-pub step-skipped : (p : Progress) (b : ℕ) → isSkipped b ≡ true → p .ended ≡ false → (stepOf p b ≡ p) × (lineOf p b ≡ [])
-step-skipped p b y g = step-by p b true (rw (g, y))
+pub step-fed : (p : Progress) (s : ℕ) → p .ended ≡ false → (stepOf p s ≡ answered p (nextOf (p .reader) s) (answerOf (p .reader) s)) × (lineOf p s ≡ lineFor (stepOf p s .elements) (answerOf (p .reader) s))
+step-fed p s g = step-by p s false g
 
-pub step-fed : (p : Progress) (b : ℕ) → isSkipped b ≡ false → p .ended ≡ false → (stepOf p b ≡ answered p (nextOf (p .reader) (symbolOf b)) (answerOf (p .reader) (symbolOf b))) × (lineOf p b ≡ lineFor (stepOf p b .elements) (answerOf (p .reader) (symbolOf b)))
-step-fed p b n g = step-by p b false (rw (g, n))
+-- a Feed by its answer, the reader after it and the progress
+pub one-fed : (p : Progress) (s : ℕ) (next : Reader) (a : Answer) (q : Progress) → p .ended ≡ false → a ≡ answerOf (p .reader) s → next ≡ nextOf (p .reader) s → q ≡ answered p next a → (q ≡ stepOf p s) × (lineFor (q .elements) a ≡ lineOf p s)
+one-fed p s next a q g said fed moved =
+    let step = step-fed p s g in
+    let is : q ≡ stepOf p s = moved ∙ sym (step .0 ∙ rw (said, fed)) in
+    (is, sym (step .1 ∙ rw (is, said)))
 
--- p is the progress after the first i bytes, of which nothing was told
-pub record Silent (from p : Progress) (bytes : List ℕ) (i : ℕ) : Type 0 where
-  pub reached : p ≡ afterOf from (take i bytes)
-  pub nothing : textOf from (take i bytes) ≡ []
-  pub going : p .ended ≡ false
-
-pub silent-start : (p : Progress) (bytes : List ℕ) → p .ended ≡ false → Silent p p bytes 0
-unfolding afterOf textOf
-silent-start p bytes g = record { reached = refl; nothing = refl; going = g }
-
-module _ (from p : Progress) (bytes : List ℕ) (i : ℕ) (h : i < length bytes) (silent : Silent from p bytes i) where
-  pub byte-skipped : isSkipped (getD bytes i 0) ≡ true → Silent from p bytes (i + 1)
-  byte-skipped y =
-      let step = step-skipped p (getD bytes i 0) y (silent .going) in
-      record {
-        reached = sym (after-next from bytes i h ∙ rw (← silent .reached) (step .0));
-        nothing = text-next from bytes i h ∙ rw (silent .nothing, ← silent .reached) (step .1);
-        going = silent .going;
-      }
-
-  -- a byte that is a Feed: its answer, and the line that tells it
-  module _ (n : isSkipped (getD bytes i 0) ≡ false) (r : Reader) (a : Answer) (q : Progress) (fed : r ≡ nextOf (p .reader) (symbolOf (getD bytes i 0))) (said : a ≡ answerOf (p .reader) (symbolOf (getD bytes i 0))) (moved : q ≡ answered p r a) where
-    step-is : stepOf p (getD bytes i 0) ≡ q
-    step-is = step-fed p (getD bytes i 0) n (silent .going) .0 ∙ rw (← fed, ← said) (sym moved)
-
-    pub answer-reached : q ≡ afterOf from (take (i + 1) bytes)
-    answer-reached = sym (after-next from bytes i h ∙ rw (← silent .reached) step-is)
-
-    pub answer-told : lineFor (q .elements) a ≡ textOf from (take (i + 1) bytes)
-    answer-told =
-        sym
-        (text-next from bytes i h
-        ∙ rw (silent .nothing, ← silent .reached) (step-fed p (getD bytes i 0) n (silent .going) .1 ∙ rw (step-is, ← said)))
-
-    pub answer-silent : isQuiet a ≡ true → Silent from q bytes (i + 1)
-    answer-silent y = record { reached = answer-reached; nothing = sym answer-told ∙ quiet-line (q .elements) a y; going = ap (λ (s : Progress). s .ended) moved ∙ quiet-going p r a y }
-
--- a quiet answer at a turn of the loop, which keeps the reader and the count apart
-pub quiet-turn : (from : Progress) (reader next : Reader) (elements more reports : ℕ) (a : Answer) (bytes : List ℕ) (i : ℕ) → i < length bytes → Silent from (goingOn reader elements reports) bytes i → isSkipped (getD bytes i 0) ≡ false → next ≡ nextOf reader (symbolOf (getD bytes i 0)) → a ≡ answerOf reader (symbolOf (getD bytes i 0)) → isQuiet a ≡ true → more ≡ oneMore elements → Silent from (goingOn next more reports) bytes (i + 1)
-quiet-turn from reader next elements more reports a bytes i h silent n fed said y m =
-    answer-silent from (goingOn reader elements reports) bytes i h silent n next a (goingOn next more reports) fed said (rw m (sym (quiet-answered reader elements reports next a y))) y
+pub going-on : (p : Progress) → p .ended ≡ false → goingOn (p .reader) (p .elements) (p .reports) ≡ p
+going-on p g = ap (λ (e : Bool). record { reader = p .reader; elements = p .elements; reports = p .reports; ended = e }) (sym g)
 
 -- ---- after the end
 
-step-ended : (p : Progress) (b : ℕ) → p .ended ≡ true → (stepOf p b ≡ p) × (lineOf p b ≡ [])
-step-ended p b e = step-by p b true (rw e)
-
-pub ended-stays : (p : Progress) (bytes : List ℕ) → p .ended ≡ true → p ≡ afterOf p bytes
-unfolding afterOf
+pub ended-stays : (p : Progress) (ss : List ℕ) → p .ended ≡ true → p ≡ afterFeeds p ss
+unfolding afterFeeds
 ended-stays p [] e = refl
-ended-stays p (b ∷ bs) e = rw (step-ended p b e .0) (ended-stays p bs e)
+ended-stays p (s ∷ ss) e = rw (step-by p s true e .0) (ended-stays p ss e)
 
-pub ended-silent : (p : Progress) (bytes : List ℕ) → p .ended ≡ true → [] ≡ textOf p bytes
-unfolding textOf
+pub ended-silent : (p : Progress) (ss : List ℕ) → p .ended ≡ true → [] ≡ textFeeds p ss
+unfolding textFeeds
 ended-silent p [] e = refl
-ended-silent p (b ∷ bs) e = rw (step-ended p b e .0, step-ended p b e .1) (ended-silent p bs e)
+ended-silent p (s ∷ ss) e = rw (step-by p s true e .1, step-by p s true e .0) (ended-silent p ss e)
 
 -- ---- the lines of the bytes taken stand in the first places
 
@@ -159,8 +98,12 @@ pub record Told (from p : Progress) (bytes out : List ℕ) (taken filled : ℕ) 
   pub told : take filled out ≡ textOf from (take taken bytes)
 
 pub told-start : (p : Progress) (bytes out : List ℕ) → Told p p bytes out 0 0
-unfolding afterOf textOf
+unfolding feedsOf afterFeeds textFeeds
 told-start p bytes out = record { reached = refl; told = refl }
+
+pub reached-start : (p : Progress) (bytes : List ℕ) → p ≡ afterOf p (take 0 bytes)
+unfolding feedsOf afterFeeds
+reached-start p bytes = refl
 
 -- the rest of the bytes
 abbrev pub restOf : List ℕ → ℕ → List ℕ
@@ -172,19 +115,22 @@ rest-is bytes taken = ap (λ (k : ℕ). take k (drop taken bytes)) (sym (length-
 pub length-rest : (bytes : List ℕ) (taken : ℕ) → length (restOf bytes taken) ≡ length bytes - taken
 length-rest bytes taken = ap length (rest-is bytes taken) ∙ length-drop taken bytes
 
-next-parts : (bytes : List ℕ) (taken k : ℕ) → take (taken + k) bytes ≡ take taken bytes ++ take k (restOf bytes taken)
-next-parts bytes taken k = take-add taken k bytes ∙ rw (rest-is bytes taken)
-
 -- the next k bytes, and what they bring
-pub reached-turn : (from p q : Progress) (bytes : List ℕ) (taken k : ℕ) → p ≡ afterOf from (take taken bytes) → q ≡ afterOf p (take k (restOf bytes taken)) → q ≡ afterOf from (take (taken + k) bytes)
-reached-turn from p q bytes taken k before reached =
-    reached ∙ sym (rw (next-parts bytes taken k) (after-parts from (take taken bytes) (take k (restOf bytes taken)) ∙ ap (λ (s : Progress). afterOf s (take k (restOf bytes taken))) (sym before)))
+module _ (from p q : Progress) (bytes : List ℕ) (taken k : ℕ) (before : p ≡ afterOf from (take taken bytes)) where
+  pub reached-next : q ≡ afterOf p (take k (drop taken bytes)) → q ≡ afterOf from (take (taken + k) bytes)
+  reached-next reached =
+      reached ∙ sym (rw (take-add taken k bytes) (after-parts from (take taken bytes) (take k (drop taken bytes)) ∙ ap (λ (s : Progress). afterOf s (take k (drop taken bytes))) (sym before)))
 
-pub told-turn : (from p q : Progress) (bytes out out′ line : List ℕ) (taken filled k filled′ : ℕ) → Told from p bytes out taken filled → q ≡ afterOf p (take k (restOf bytes taken)) → line ≡ textOf p (take k (restOf bytes taken)) → take filled′ out′ ≡ take filled out ++ line → Told from q bytes out′ (taken + k) filled′
-told-turn from p q bytes out out′ line taken filled k filled′ t reached told put =
+  pub reached-turn : q ≡ afterOf p (take k (restOf bytes taken)) → q ≡ afterOf from (take (taken + k) bytes)
+  reached-turn reached = reached-next (reached ∙ ap (λ (xs : List ℕ). afterOf p (take k xs)) (rest-is bytes taken))
+
+pub told-turn : (from p q : Progress) (bytes out out′ : List ℕ) (taken filled end filled′ : ℕ) → taken ≤ end → Told from p bytes out taken filled → q ≡ afterOf p (take (end - taken) (drop taken bytes)) → take filled′ out′ ≡ take filled out ++ textOf p (take (end - taken) (drop taken bytes)) → Told from q bytes out′ end filled′
+told-turn from p q bytes out out′ taken filled end filled′ h t reached put =
+    let k = end - taken in
+    let whole : taken + (end - taken) ≡ end = omega arith in
     record {
-      reached = reached-turn from p q bytes taken k (t .reached) reached;
-      told = sym (rw (next-parts bytes taken k) (text-parts from (take taken bytes) (take k (restOf bytes taken)) ∙ rw (put, t .told, told, t .reached)));
+      reached = rw whole at (reached-next from p q bytes taken k (t .reached) reached);
+      told = rw (← whole) (sym (rw (take-add taken k bytes) (text-parts from (take taken bytes) (take k (drop taken bytes)) ∙ rw (put, t .told, t .reached))));
     }
 
 -- all of them

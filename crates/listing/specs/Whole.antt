@@ -9,7 +9,7 @@ use lib.Dec.{eqb, leb}
 use lib.ListN.{getD, length, take, drop, length-drop}
 use Rattle.timecode.specs.Answers.{number}
 use Rattle.timecode.specs.Formats.{known}
-use Rattle.timecode.specs.Laws.Tests.{by-test, and-right}
+use Rattle.timecode.specs.Laws.Tests.{and-right}
 use Rattle.timecode.specs.declared.Answer.{Answer}
 use Rattle.timecode.specs.declared.Answer.the-variants.{Quiet, Report}
 use Rattle.timecode.specs.declared.Refusal.{Refusal}
@@ -18,14 +18,18 @@ use Rattle.lines.specs.Text.{reportLine, refusedLine, together}
 use Rattle.stream.specs.Feeding.{freshReader, nextOf, answerOf, feedOf}
 use Rattle.stream.specs.Refinement.{answers, answers-are-plain}
 use Rattle.stream.specs.declared.Reader.{Reader}
-use Rattle.listing.specs.Parts.{step-skipped, step-fed, ended-stays, ended-silent, after-parts, text-parts}
-use Rattle.listing.specs.Printed.{formatIn, isFirstLine, isSkipped, symbolOf, feedsOf, printedFor, printed}
-use Rattle.listing.specs.Progress.{begunOf, goingOn, oneMore, answered, lineFor, stepOf, lineOf, afterOf, textOf, endingOf}
+use Rattle.listing.specs.Parts.{feeds-few, step-fed, ended-stays, ended-silent, after-parts, text-parts}
+use Rattle.listing.specs.Printed.{formatIn, isFirstLine, feedsOf, printedFor, printed}
+use Rattle.listing.specs.Progress.{begunOf, goingOn, oneMore, answered, lineFor, stepOf, lineOf, afterFeeds, textFeeds, afterOf, textOf, endingOf}
 use Rattle.listing.specs.declared.Progress.{Progress}
 
--- what is printed from a progress on: the lines of the bytes and the last line
-unfoldable pub restPrinted : Progress → List ℕ → List ℕ
-restPrinted p bytes = textOf p bytes ++ endingOf (afterOf p bytes)
+-- what is printed from a progress on: the lines of a list of Feeds and the last line
+unfoldable pub restFor : Progress → List ℕ → List ℕ
+restFor p ss = textFeeds p ss ++ endingOf (afterFeeds p ss)
+
+-- of a list of bytes
+abbrev pub restPrinted : Progress → List ℕ → List ℕ
+restPrinted p bytes = restFor p (feedsOf bytes)
 
 -- no 64-bit count comes to its end
 pub record Room (p : Progress) (k : ℕ) : Type 0 where
@@ -36,32 +40,26 @@ more-is : (k : ℕ) → k + 1 < 18446744073709551616 → oneMore k ≡ suc k
 unfolding oneMore
 more-is k h = rw (lt-ltb k 18446744073709551615 (omega arith))
 
-rest-step : (p : Progress) (b : ℕ) (bs : List ℕ) → restPrinted p (b ∷ bs) ≡ lineOf p b ++ restPrinted (stepOf p b) bs
-unfolding restPrinted textOf afterOf
-rest-step p b bs = append-assoc (lineOf p b) (textOf (stepOf p b) bs) (endingOf (afterOf (stepOf p b) bs))
+rest-step : (p : Progress) (s : ℕ) (ss : List ℕ) → restFor p (s ∷ ss) ≡ lineOf p s ++ restFor (stepOf p s) ss
+unfolding restFor textFeeds afterFeeds
+rest-step p s ss = append-assoc (lineOf p s) (textFeeds (stepOf p s) ss) (endingOf (afterFeeds (stepOf p s) ss))
 
-rest-ended : (p : Progress) (bytes : List ℕ) → p .ended ≡ true → restPrinted p bytes ≡ []
-unfolding restPrinted endingOf
-rest-ended p bytes e = rw (← ended-silent p bytes e, ← ended-stays p bytes e, e)
+rest-ended : (p : Progress) (ss : List ℕ) → p .ended ≡ true → restFor p ss ≡ []
+unfolding restFor endingOf
+rest-ended p ss e = rw (← ended-silent p ss e, ← ended-stays p ss e, e)
 
-rest-nothing : (p : Progress) → p .ended ≡ false → printedFor (p .elements) (p .reports) [] ≡ restPrinted p []
-unfolding restPrinted textOf afterOf endingOf printedFor
+rest-nothing : (p : Progress) → p .ended ≡ false → printedFor (p .elements) (p .reports) [] ≡ restFor p []
+unfolding restFor textFeeds afterFeeds endingOf printedFor
 rest-nothing p g = rw g
 
-rest-skipped : (p : Progress) (b : ℕ) (bs : List ℕ) → isSkipped b ≡ true → p .ended ≡ false → restPrinted p (b ∷ bs) ≡ restPrinted p bs
-rest-skipped p b bs y g = let step = step-skipped p b y g in rest-step p b bs ∙ rw (step .0, step .1)
-
-rest-fed : (p : Progress) (b : ℕ) (bs : List ℕ) → isSkipped b ≡ false → p .ended ≡ false → (a : Answer) → answerOf (p .reader) (symbolOf b) ≡ a → restPrinted p (b ∷ bs) ≡ lineFor (answered p (nextOf (p .reader) (symbolOf b)) a .elements) a ++ restPrinted (answered p (nextOf (p .reader) (symbolOf b)) a) bs
-rest-fed p b bs n g a e = let step = step-fed p b n g in rest-step p b bs ∙ rw (step .1, step .0, e)
+rest-fed : (p : Progress) (s : ℕ) (ss : List ℕ) → p .ended ≡ false → (a : Answer) → answerOf (p .reader) s ≡ a → restFor p (s ∷ ss) ≡ lineFor (answered p (nextOf (p .reader) s) a .elements) a ++ restFor (answered p (nextOf (p .reader) s) a) ss
+rest-fed p s ss g a e = let step = step-fed p s g in rest-step p s ss ∙ rw (step .1, step .0, e)
 
 -- ---- from any progress on, what is printed is what the answers to the rest of the Feeds say
 
--- of these bytes, from any progress on
+-- of these Feeds, from any progress on
 abbrev Agrees : List ℕ → Type 0
-Agrees bytes = (p : Progress) → p .ended ≡ false → Room p (length bytes) → printedFor (p .elements) (p .reports) (answers (p .reader) (feedsOf bytes)) ≡ restPrinted p bytes
-
-less-room : (p : Progress) (k : ℕ) → Room p (suc k) → Room p k
-less-room p k room = record { elements-room = omega (arith, room .elements-room); reports-room = omega (arith, room .reports-room) }
+Agrees ss = (p : Progress) → p .ended ≡ false → Room p (length ss) → printedFor (p .elements) (p .reports) (answers (p .reader) ss) ≡ restFor p ss
 
 module _ (e m : ℕ) (as′ : List Answer) where
   printed-quiet : printedFor e m (Quiet ∷ as′) ≡ printedFor (suc e) m as′
@@ -76,9 +74,9 @@ module _ (e m : ℕ) (as′ : List Answer) where
   unfolding printedFor
   printed-refused x = refl
 
-module _ (b : ℕ) (bs : List ℕ) (rest : Agrees bs) (p : Progress) (g : p .ended ≡ false) (room : Room p (suc (length bs))) (n : isSkipped b ≡ false) where
+module _ (s : ℕ) (ss : List ℕ) (rest : Agrees ss) (p : Progress) (g : p .ended ≡ false) (room : Room p (suc (length ss))) where
   abbrev r : Reader
-  r = nextOf (p .reader) (symbolOf b)
+  r = nextOf (p .reader) s
 
   more : oneMore (p .elements) ≡ suc (p .elements)
   more = more-is (p .elements) (omega (arith, room .elements-room))
@@ -86,45 +84,34 @@ module _ (b : ℕ) (bs : List ℕ) (rest : Agrees bs) (p : Progress) (g : p .end
   reports : oneMore (p .reports) ≡ suc (p .reports)
   reports = more-is (p .reports) (omega (arith, room .reports-room))
 
-  fed-answers : (a : Answer) → answerOf (p .reader) (symbolOf b) ≡ a → printedFor (p .elements) (p .reports) (answers (p .reader) (symbolOf b ∷ feedsOf bs)) ≡ printedFor (p .elements) (p .reports) (a ∷ answers r (feedsOf bs))
+  fed-answers : (a : Answer) → answerOf (p .reader) s ≡ a → printedFor (p .elements) (p .reports) (answers (p .reader) (s ∷ ss)) ≡ printedFor (p .elements) (p .reports) (a ∷ answers r ss)
   unfolding answers feedOf
-  fed-answers a e = ap (λ (x : Answer). printedFor (p .elements) (p .reports) (x ∷ answers r (feedsOf bs))) e
+  fed-answers a e = ap (λ (x : Answer). printedFor (p .elements) (p .reports) (x ∷ answers r ss)) e
 
-  fed-agrees : (a : Answer) → answerOf (p .reader) (symbolOf b) ≡ a → printedFor (p .elements) (p .reports) (answers (p .reader) (symbolOf b ∷ feedsOf bs)) ≡ restPrinted p (b ∷ bs)
+  fed-agrees : (a : Answer) → answerOf (p .reader) s ≡ a → printedFor (p .elements) (p .reports) (answers (p .reader) (s ∷ ss)) ≡ restFor p (s ∷ ss)
   fed-agrees Quiet e =
       fed-answers Quiet e
-      ∙ printed-quiet (p .elements) (p .reports) (answers r (feedsOf bs))
+      ∙ printed-quiet (p .elements) (p .reports) (answers r ss)
       ∙ rw (← more) (rest (answered p r Quiet) refl (record { elements-room = omega (arith, more, room .elements-room); reports-room = omega (arith, room .reports-room) }))
-      ∙ sym (rest-fed p b bs n g Quiet e)
+      ∙ sym (rest-fed p s ss g Quiet e)
   fed-agrees (Report t w) e =
       fed-answers (Report t w) e
-      ∙ printed-report (p .elements) (p .reports) (answers r (feedsOf bs)) t w
+      ∙ printed-report (p .elements) (p .reports) (answers r ss) t w
       ∙ rw (← more, ← reports)
-      (ap (λ (s : List ℕ). reportLine (oneMore (p .elements)) t w ++ s) (rest (answered p r (Report t w)) refl (record { elements-room = omega (arith, more, room .elements-room); reports-room = omega (arith, reports, room .reports-room) })))
-      ∙ sym (rest-fed p b bs n g (Report t w) e)
+      (ap (λ (l : List ℕ). reportLine (oneMore (p .elements)) t w ++ l) (rest (answered p r (Report t w)) refl (record { elements-room = omega (arith, more, room .elements-room); reports-room = omega (arith, reports, room .reports-room) })))
+      ∙ sym (rest-fed p s ss g (Report t w) e)
   fed-agrees (Answer.Refused x) e =
       fed-answers (Answer.Refused x) e
-      ∙ printed-refused (p .elements) (p .reports) (answers r (feedsOf bs)) x
-      ∙ sym (rest-fed p b bs n g (Answer.Refused x) e ∙ rw (rest-ended (answered p r (Answer.Refused x)) bs refl) (append-nil (refusedLine (number x))))
+      ∙ printed-refused (p .elements) (p .reports) (answers r ss) x
+      ∙ sym (rest-fed p s ss g (Answer.Refused x) e ∙ rw (rest-ended (answered p r (Answer.Refused x)) ss refl) (append-nil (refusedLine (number x))))
 
-nothing-agrees : (p : Progress) → p .ended ≡ false → printedFor (p .elements) (p .reports) (answers (p .reader) (feedsOf [])) ≡ restPrinted p []
-unfolding answers feedsOf
+nothing-agrees : (p : Progress) → p .ended ≡ false → printedFor (p .elements) (p .reports) (answers (p .reader) []) ≡ restFor p []
+unfolding answers
 nothing-agrees p g = rest-nothing p g
 
-feeds-fed : (b : ℕ) (bs : List ℕ) → isSkipped b ≡ false → feedsOf (b ∷ bs) ≡ symbolOf b ∷ feedsOf bs
-unfolding feedsOf
-feeds-fed b bs n = rw n
-
-feeds-skipped : (b : ℕ) (bs : List ℕ) → isSkipped b ≡ true → feedsOf (b ∷ bs) ≡ feedsOf bs
-unfolding feedsOf
-feeds-skipped b bs y = rw y
-
-rest-is : (bytes : List ℕ) → Agrees bytes
+rest-is : (ss : List ℕ) → Agrees ss
 rest-is [] p g room = nothing-agrees p g
-rest-is (b ∷ bs) p g room =
-    by-test (isSkipped b)
-    (λ y. rw (feeds-skipped b bs y, rest-skipped p b bs y g) (rest-is bs p g (less-room p (length bs) room)))
-    (λ n. rw (feeds-fed b bs n) (fed-agrees b bs (rest-is bs) p g room n (answerOf (p .reader) (symbolOf b)) refl))
+rest-is (s ∷ ss) p g room = fed-agrees s ss (rest-is ss) p g room (answerOf (p .reader) s) refl
 
 -- ---- the whole
 
@@ -141,7 +128,7 @@ module _ (bytes : List ℕ) (first : isFirstLine bytes ≡ true) (short : length
   unfolding printed
   listing-is-printed =
       rw (first, ← answers-are-plain (formatIn bytes) format-known (feedsOf (drop 3 bytes)))
-      (rest-is (drop 3 bytes) (goingOn (freshReader (formatIn bytes)) 0 0) refl (record { elements-room = omega (arith, length-drop 3 bytes); reports-room = omega (arith, length-drop 3 bytes) }))
+      (rest-is (feedsOf (drop 3 bytes)) (goingOn (freshReader (formatIn bytes)) 0 0) refl (record { elements-room = omega (arith, length-drop 3 bytes, feeds-few (drop 3 bytes)); reports-room = omega (arith, length-drop 3 bytes, feeds-few (drop 3 bytes)) }))
 
 -- Any other input prints `refused 1`, and no other line follows.
 pub other-line-refused : (bytes : List ℕ) → isFirstLine bytes ≡ false → printed bytes ≡ refusedLine 1
@@ -162,7 +149,7 @@ partsPrinted p [] = endingOf p
 partsPrinted p (part ∷ parts) = textOf p part ++ partsPrinted (afterOf p part) parts
 
 pub parts-are-whole : (p : Progress) (parts : List (List ℕ)) → partsPrinted p parts ≡ restPrinted p (together parts)
-unfolding partsPrinted restPrinted textOf afterOf
+unfolding partsPrinted restFor feedsOf textFeeds afterFeeds
 parts-are-whole p [] = refl
 parts-are-whole p (part ∷ parts) =
     ap (λ (t : List ℕ). textOf p part ++ t) (parts-are-whole (afterOf p part) parts)

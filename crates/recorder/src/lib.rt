@@ -5,9 +5,12 @@ ghost use mathlib.Core.List.{[], _∷_};
 ghost use lib.IntN.{pos};
 ghost use Rattle.timecode.specs.Calls.{classifyListLeaves};
 ghost use Rattle.timecode.specs.Frames.{writeLeaves};
-ghost use Rattle.border.specs.Border.{formatOf, timeOf, writeSaid, readSaid, stepSaid, stepBackSaid, differenceSaid, classifySaid, classifyListSaid, scanSaid, freshSaid, fedSaid, valuesLeft, flagLeft, indexLeft, freshLeft, feedWords, feedPulseWords, wordsLeft};
+ghost use Rattle.block.specs.Blocks.{blockSaid, blockFor, fieldLeft, dayOf, hundredthsOf, controlOf};
+ghost use Rattle.border.specs.Border.{feedBlockWords, blockWordsLeft, readerIn, formatOf, timeOf, writeSaid, readSaid, stepSaid, stepBackSaid, differenceSaid, classifySaid, classifyListSaid, scanSaid, freshSaid, fedSaid, valuesLeft, flagLeft, indexLeft, freshLeft, feedWords, feedPulseWords, wordsLeft};
+use block::feed_block;
 use border::format_of;
 use border::number_of_written;
+use border::put_block;
 use border::put_fed;
 use border::put_index;
 use border::put_stepped;
@@ -296,4 +299,29 @@ pub extern "C" fn duskveyra_scan(
         }
         Scanned::Refused(refusal) => number_of(refusal),
     }
+}
+
+// A block of symbols, with its reports put into a list for each field.
+#[no_mangle]
+pub extern "C" fn duskveyra_feed_block(
+    reader: &mut [u64; 10],
+    symbols: &[u8],
+    days: &mut [u16],
+    hundredths: &mut [u32],
+    controls: &mut [u64],
+    taken: &mut usize,
+    reports: &mut usize,
+    stop: &mut u8,
+) -> u8
+    ensures { λ r. ⌜ r ≡ blockSaid (feedBlockWords (now (reader .entry)) (now (symbols .entry)) (now (days .entry)) (now (hundredths .entry)) (now (controls .entry)) .answer) .number ⌝ }
+    ensures { λ _. ⌜ now (reader .exit) ≡ blockWordsLeft (feedBlockWords (now (reader .entry)) (now (symbols .entry)) (now (days .entry)) (now (hundredths .entry)) (now (controls .entry))) (now (reader .entry)) ⌝ }
+    ensures { λ _. ⌜ now (days .exit) ≡ fieldLeft dayOf (blockFor (readerIn (now (reader .entry))) (now (symbols .entry)) (now (days .entry)) (now (hundredths .entry)) (now (controls .entry))) (now (days .entry)) ⌝ }
+    ensures { λ _. ⌜ now (hundredths .exit) ≡ fieldLeft hundredthsOf (blockFor (readerIn (now (reader .entry))) (now (symbols .entry)) (now (days .entry)) (now (hundredths .entry)) (now (controls .entry))) (now (hundredths .entry)) ⌝ }
+    ensures { λ _. ⌜ now (controls .exit) ≡ fieldLeft controlOf (blockFor (readerIn (now (reader .entry))) (now (symbols .entry)) (now (days .entry)) (now (hundredths .entry)) (now (controls .entry))) (now (controls .entry)) ⌝ }
+    ensures { λ _. ⌜ pos (now (taken .exit)) ∷ pos (now (reports .exit)) ∷ pos (now (stop .exit)) ∷ [] ≡ valuesLeft (blockSaid (feedBlockWords (now (reader .entry)) (now (symbols .entry)) (now (days .entry)) (now (hundredths .entry)) (now (controls .entry)) .answer)) (pos (now (taken .entry)) ∷ pos (now (reports .entry)) ∷ pos (now (stop .entry)) ∷ []) ⌝ }
+{
+    let fed = feed_block(reader_in(*reader), symbols, days, hundredths, controls);
+    let next = fed.reader;
+    let answer = fed.answer;
+    put_block(next, answer, reader, taken, reports, stop)
 }

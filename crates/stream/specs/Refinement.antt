@@ -38,10 +38,10 @@ readerAfter r (s ∷ ss) = readerAfter (feedOf r s .reader) ss
 
 -- ---- the register shows the list from its end, and spoiled symbols before its beginning
 
-abbrev backIn : List ℕ → ℕ → ℕ
+abbrev pub backIn : List ℕ → ℕ → ℕ
 backIn held back = cond (ltb back (length held)) (getD held (length held - 1 - back) 0) 3
 
-abbrev Shows : Register → List ℕ → Type 0
+abbrev pub Shows : Register → List ℕ → Type 0
 Shows r held = (back : ℕ) → back < 224 → heardAt (wordsOf r) back ≡ backIn held back
 
 all-spoiled : everyBelow 224 (λ back. eqb (heardAt (wordsOf silence) back) 3) ≡ true
@@ -52,7 +52,7 @@ silence-shows : Shows silence []
 silence-shows back b =
     eqb-true (heardAt (wordsOf silence) back) 3 (below-every 224 (λ back. eqb (heardAt (wordsOf silence) back) 3) all-spoiled back b) ∙ rw (le-ltb back 0 (omega arith))
 
-push-shows : (r : Register) (held : List ℕ) (s : ℕ) → s ≤ 3 → Shows r held → Shows (pushOf r s) (held ++ (s ∷ []))
+pub push-shows : (r : Register) (held : List ℕ) (s : ℕ) → s ≤ 3 → Shows r held → Shows (pushOf r s) (held ++ (s ∷ []))
 push-shows r held s b h zero l =
     let n : length (held ++ (s ∷ [])) ≡ length held + 1 = length-append held (s ∷ []) in
     let last : length held + 1 - 1 - 0 ≡ length held + 0 = omega arith in
@@ -88,7 +88,7 @@ short-window f r held h l =
     let first : getD (windowIn f (wordsOf r)) 0 0 ≡ 3 = window-at f (wordsOf r) 0 (2 * size f) (omega arith) ∙ h (2 * size f) (omega (arith, size-range f)) ∙ rw (le-ltb (2 * size f) (length held) (omega arith)) in
     rw first
 
-shown-answer : (f : Format) (r : Register) (held : List ℕ) → Shows r held → windowAnswer f (windowIn f (wordsOf r)) ≡ plainAnswer f held
+pub shown-answer : (f : Format) (r : Register) (held : List ℕ) → Shows r held → windowAnswer f (windowIn f (wordsOf r)) ≡ plainAnswer f held
 shown-answer f r held h = go (decLe (windowLength f) (length held))
   where
     go : Dec (windowLength f ≤ length held) → windowAnswer f (windowIn f (wordsOf r)) ≡ plainAnswer f held

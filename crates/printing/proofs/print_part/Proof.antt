@@ -1,11 +1,11 @@
 -- `print_part` meets its contract: the progress is that after the bytes taken, and all of them are taken while writing goes on.
 use borrow.Author.Needs.{needs}
 use native.Mathlib.Omega.{arith}
-use mathlib.Core.Path.{_≡_, refl, sym, _∙_}
+use mathlib.Core.Path.{_≡_, sym, _∙_}
 use mathlib.Core.Bool.{false≢true}
 use Prim.Native.Nat.{_-_, _≤_}
 use lib.ListN.{length, take}
-use Rattle.listing.specs.Parts.{restOf, length-rest, reached-turn, reached-all}
+use Rattle.listing.specs.Parts.{reached-start, restOf, length-rest, reached-turn, reached-all}
 use Rattle.listing.specs.Progress.{afterOf}
 use Rattle.printing.proofs.print_part.Statement.{statement}
 use Rattle.printing.proofs.print_part.Tie as tie
@@ -23,8 +23,7 @@ abbrev μ-loop : tie.MeasureT-loop
 
 -- src/lib.rt:55:5
 loop-holds : tie.Need-loop-holds Inv-loop μ-loop
-unfolding afterOf
-loop-holds c = (omega arith, refl)
+loop-holds c = (omega arith, reached-start (c .before .args .progress) (c .before .args .bytes .now))
 
 -- src/lib.rt:56:36
 sub-list : tie.Need-sub-list Inv-loop μ-loop

@@ -1,0 +1,90 @@
+//! Whole blocks of symbols.
+
+use crate::{sys, Reader, Refusal};
+
+/// Why a block of symbols stopped.
+#[derive(Clone, Copy, Debug, PartialEq, Eq, Hash)]
+pub enum Stop {
+    /// All symbols were taken.
+    AllTaken,
+    /// The next symbol is above 3.
+    UnknownSymbol,
+    /// The next symbol brings a report, and the lists are full.
+    NoRoom,
+}
+
+/// What a block of symbols brought.
+#[derive(Clone, Copy, Debug, PartialEq, Eq, Hash)]
+pub struct Block {
+    /// How many symbols were taken.
+    pub taken: usize,
+    /// How many reports were put in.
+    pub reports: usize,
+    /// Why it stopped.
+    pub stop: Stop,
+}
+
+impl Reader {
+    /// Feeds a block of symbols, as [`feed`](Reader::feed) would one after the other, and puts its reports into three
+    /// lists of one length: the k-th report's day, hundredths and control word at index k of each. Entries past the last
+    /// report stay as they were. It stops only before the first symbol above 3, or before the first whose report would
+    /// not fit; the reader is then as before that symbol.
+    ///
+    /// Refuses with 13; 3 where the three lengths are not one; in this order, and then feeds nothing and leaves all.
+    ///
+    /// ```
+    /// use duskveyra::{write, Block, Format, Reader, Stop, Time, MARK};
+    ///
+    /// let format = Format { letter: b'H', expression: 1 };
+    /// let mut symbols = [MARK; 121];
+    /// write(format, Time { day: 191, hundredths: 5_088_000 }, 0, &mut symbols[1..61])?;
+    /// write(format, Time { day: 191, hundredths: 5_094_000 }, 0b101, &mut symbols[61..])?;
+    ///
+    /// let mut reader = Reader::fresh(format)?;
+    /// let (mut days, mut hundredths, mut controls) = ([0; 2], [0; 2], [0; 2]);
+    /// let block = reader.feed_block(&symbols, &mut days, &mut hundredths, &mut controls)?;
+    /// assert_eq!(block, Block { taken: 121, reports: 1, stop: Stop::AllTaken });
+    /// assert_eq!((days, hundredths, controls), ([191, 0], [5_094_000, 0], [0b101, 0]));
+    /// # Ok::<(), duskveyra::Refusal>(())
+    /// ```
+    #[inline]
+    pub fn feed_block(
+        &mut self,
+        symbols: &[u8],
+        days: &mut [u16],
+        hundredths: &mut [u32],
+        controls: &mut [u64],
+    ) -> Result<Block, Refusal> {
+        let (mut taken, mut reports, mut stop) = (0, 0, 0);
+        // SAFETY: the reader's words are lent alone, each pointer and length are those of one slice that nothing else
+        // points into, and the other three pointers point to locals.
+        let number = unsafe {
+            sys::duskveyra_feed_block(
+                &mut self.words,
+                symbols.as_ptr(),
+                symbols.len(),
+                days.as_mut_ptr(),
+                days.len(),
+                hundredths.as_mut_ptr(),
+                hundredths.len(),
+                controls.as_mut_ptr(),
+                controls.len(),
+                &mut taken,
+                &mut reports,
+                &mut stop,
+            )
+        };
+        Refusal::check(number, 0)?;
+        let stop = match stop {
+            0 => Stop::AllTaken,
+            1 => Stop::UnknownSymbol,
+            2 => Stop::NoRoom,
+            _ => unreachable!("the library stopped for {stop}, which is no number of a stop"),
+        };
+        Ok(Block {
+            taken,
+            reports,
+            stop,
+        })
+    }
+}

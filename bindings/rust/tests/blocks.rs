@@ -1,0 +1,303 @@
+//! Blocks through the safe types: the same as single Feeds at every split of a recording, with any room; what stops them,
+//! what refuses them, and what they leave.
+
+use duskveyra::{write, Block, Format, Reader, Refusal, Report, Stop, Time};
+
+/// An entry that no report makes.
+const UNTOUCHED: (u16, u32, u64) = (0xa5a5, 0xa5a5_a5a5, 0xa5a5_a5a5_a5a5_a5a5);
+/// Entries behind the lent ones.
+const GUARD: usize = 3;
+
+/// The lent list of records, as three lists.
+struct Lists {
+    room: usize,
+    days: Vec<u16>,
+    hundredths: Vec<u32>,
+    controls: Vec<u64>,
+}
+
+impl Lists {
+    fn new(room: usize) -> Lists {
+        Lists {
+            room,
+            days: vec![UNTOUCHED.0; room + GUARD],
+            hundredths: vec![UNTOUCHED.1; room + GUARD],
+            controls: vec![UNTOUCHED.2; room + GUARD],
+        }
+    }
+
+    /// A block into the lists from an entry on.
+    fn feed(&mut self, reader: &mut Reader, symbols: &[u8], from: usize) -> Result<Block, Refusal> {
+        let lent = from..self.room;
+        reader.feed_block(
+            symbols,
+            &mut self.days[lent.clone()],
+            &mut self.hundredths[lent.clone()],
+            &mut self.controls[lent],
+        )
+    }
+
+    /// The first entries as reports; all others must be untouched.
+    fn reports(&self, count: usize) -> Vec<Report> {
+        for index in count..self.room + GUARD {
+            let record = (
+                self.days[index],
+                self.hundredths[index],
+                self.controls[index],
+            );
+            assert_eq!(record, UNTOUCHED);
+        }
+        (0..count)
+            .map(|index| Report {
+                time: Time {
+                    day: self.days[index],
+                    hundredths: self.hundredths[index],
+                },
+                control: self.controls[index],
+            })
+            .collect()
+    }
+}
+
+/// A recording, and what single Feeds make of it.
+struct Recording {
+    symbols: Vec<u8>,
+    /// The reader after each number of symbols.
+    after: Vec<Reader>,
+    /// The index of each symbol that brings a report, and the report.
+    reports: Vec<(usize, Report)>,
+}
+
+impl Recording {
+    /// A frame's last two symbols, then frames in succession.
+    fn new(letter: u8, expression: u8, frames: u32) -> Recording {
+        let format = Format { letter, expression };
+        let (n, interval, control) = match letter {
+            b'B' => (100, 100, 0x7ff_ffff),
+            b'E' => (100, 1_000, 0x1fff_ffff_ffff),
+            b'H' => (60, 6_000, 0x1ff),
+            _ => panic!("no letter of these tests"),
+        };
+        let mut symbols = vec![0, 2];
+        let mut frame = vec![0; n];
+        for index in 0..frames {
+            let time = Time {
+                day: 7,
+                hundredths: index * interval,
+            };
+            write(format, time, control - u64::from(index), &mut frame).expect("a time and a word");
+            symbols.extend_from_slice(&frame);
+        }
+        let mut after = vec![Reader::fresh(format).expect("a format")];
+        let mut reports = Vec::new();
+        for (index, &symbol) in symbols.iter().enumerate() {
+            let mut reader = after[index].clone();
+            let report = reader.feed(symbol).expect("a symbol");
+            reports.extend(report.map(|report| (index, report)));
+            after.push(reader);
+        }
+        assert_eq!(reports.len() as u32, frames - 1);
+        Recording {
+            symbols,
+            after,
+            reports,
+        }
+    }
+
+    /// The reports of the first symbols.
+    fn reports_of(&self, symbols: usize) -> Vec<Report> {
+        let those = self.reports.iter().filter(|(index, _)| *index < symbols);
+        those.map(|(_, report)| *report).collect()
+    }
+
+    /// One block of a fresh reader: it must take so many symbols, with their reports, and stop so.
+    fn check(&self, symbols: &[u8], room: usize, taken: usize, stop: Stop) {
+        let mut reader = self.after[0].clone();
+        let mut lists = Lists::new(room);
+        let reports = self.reports_of(taken);
+        let expected = Block {
+            taken,
+            reports: reports.len(),
+            stop,
+        };
+        assert_eq!(lists.feed(&mut reader, symbols, 0), Ok(expected));
+        assert_eq!(lists.reports(reports.len()), reports);
+        assert_eq!(reader, self.after[taken]);
+    }
+}
+
+fn recordings(frames: u32) -> [Recording; 3] {
+    [(b'B', 0), (b'E', 1), (b'H', 1)]
+        .map(|(letter, expression)| Recording::new(letter, expression, frames))
+}
+
+#[test]
+fn every_split_gives_what_single_feeds_give() {
+    for recording in recordings(12) {
+        let symbols = &recording.symbols;
+        for split in 0..=symbols.len() {
+            let (first, second) = symbols.split_at(split);
+            let mut reader = recording.after[0].clone();
+            let mut lists = Lists::new(16);
+            let one = lists.feed(&mut reader, first, 0).expect("a reader");
+            assert_eq!((one.taken, one.stop), (first.len(), Stop::AllTaken));
+            assert_eq!(lists.reports(one.reports), recording.reports_of(split));
+            assert_eq!(reader, recording.after[split]);
+            let two = lists
+                .feed(&mut reader, second, one.reports)
+                .expect("a reader");
+            assert_eq!((two.taken, two.stop), (second.len(), Stop::AllTaken));
+            let reports = lists.reports(one.reports + two.reports);
+            assert_eq!(reports, recording.reports_of(symbols.len()));
+            assert_eq!(reader, recording.after[symbols.len()]);
+        }
+    }
+}
+
+#[test]
+fn blocks_of_any_size_give_what_single_feeds_give() {
+    let recording = Recording::new(b'B', 0, 40);
+    let symbols = &recording.symbols;
+    let sizes = (1..=20).chain([100, 101, 223, 224, 225, 511, 512, 513, 1024, 4001, 4002]);
+    for size in sizes {
+        let mut reader = recording.after[0].clone();
+        let mut lists = Lists::new(64);
+        let mut count = 0;
+        for part in symbols.chunks(size) {
+            let block = lists.feed(&mut reader, part, count).expect("a reader");
+            assert_eq!((block.taken, block.stop), (part.len(), Stop::AllTaken));
+            count += block.reports;
+        }
+        assert_eq!(lists.reports(count), recording.reports_of(symbols.len()));
+        assert_eq!(reader, recording.after[symbols.len()]);
+    }
+}
+
+/// With every room from none on, and every length: where the last symbol just fills the list, all are taken.
+#[test]
+fn without_room_it_stops_before_the_report() {
+    for recording in recordings(7) {
+        for room in 0..=recording.reports.len() + 1 {
+            let end = recording.reports.get(room).map(|(index, _)| *index);
+            for length in 0..=recording.symbols.len() {
+                let symbols = &recording.symbols[..length];
+                match end {
+                    Some(end) if end < length => recording.check(symbols, room, end, Stop::NoRoom),
+                    _ => recording.check(symbols, room, length, Stop::AllTaken),
+                }
+            }
+        }
+    }
+}
+
+#[test]
+fn it_goes_on_after_it_stopped() {
+    let recording = Recording::new(b'B', 0, 7);
+    let whole = recording.symbols.len();
+    let mut reader = recording.after[0].clone();
+    let mut taken = 0;
+    for (index, report) in &recording.reports {
+        let mut none = Lists::new(0);
+        let stopped = none.feed(&mut reader, &recording.symbols[taken..], 0);
+        taken = *index;
+        assert_eq!(stopped.map(|block| block.stop), Ok(Stop::NoRoom));
+        assert_eq!(reader, recording.after[taken]);
+        let mut one = Lists::new(1);
+        let symbol = &recording.symbols[taken..=taken];
+        let block = one.feed(&mut reader, symbol, 0).expect("a reader");
+        assert_eq!((block.taken, block.stop), (1, Stop::AllTaken));
+        assert_eq!(one.reports(block.reports), [*report]);
+        taken += 1;
+    }
+    assert_eq!((taken, &reader), (whole, &recording.after[whole]));
+}
+
+/// At every index, with room for none, two and all reports: what comes first stops it.
+#[test]
+fn it_stops_before_a_symbol_above_3() {
+    for recording in recordings(8) {
+        for at in 0..recording.symbols.len() {
+            for symbol in [4, 5, 128, 255] {
+                let mut symbols = recording.symbols.clone();
+                symbols[at] = symbol;
+                for room in [0, 2, 9] {
+                    match recording.reports.get(room) {
+                        Some(&(end, _)) if end < at => {
+                            recording.check(&symbols, room, end, Stop::NoRoom)
+                        }
+                        _ => recording.check(&symbols, room, at, Stop::UnknownSymbol),
+                    }
+                }
+            }
+        }
+    }
+}
+
+#[test]
+fn no_symbols_change_nothing() {
+    let recording = Recording::new(b'H', 1, 4);
+    let nothing = Block {
+        taken: 0,
+        reports: 0,
+        stop: Stop::AllTaken,
+    };
+    for reader in &recording.after {
+        for room in 0..3 {
+            let mut fed = reader.clone();
+            let mut lists = Lists::new(room);
+            assert_eq!(lists.feed(&mut fed, &[], 0), Ok(nothing));
+            assert_eq!(&fed, reader);
+            assert_eq!(lists.reports(0), []);
+        }
+    }
+}
+
+/// A refused block, of all symbols and of none: the number, and nothing changed.
+fn refused(recording: &Recording, reader: &Reader, lengths: [usize; 3], refusal: Refusal) {
+    for symbols in [&recording.symbols[..], &[], &[255]] {
+        let mut fed = reader.clone();
+        let mut lists = Lists::new(8);
+        let block = fed.feed_block(
+            symbols,
+            &mut lists.days[..lengths[0]],
+            &mut lists.hundredths[..lengths[1]],
+            &mut lists.controls[..lengths[2]],
+        );
+        assert_eq!(block, Err(refusal));
+        assert_eq!(&fed, reader);
+        assert_eq!(lists.reports(0), []);
+    }
+}
+
+#[test]
+fn refusals_change_nothing() {
+    let recording = Recording::new(b'H', 1, 6);
+    let fresh = &recording.after[0];
+    for days in 0..=8 {
+        for hundredths in 0..=8 {
+            for controls in 0..=8 {
+                if days != hundredths || days != controls {
+                    let lengths = [days, hundredths, controls];
+                    refused(&recording, fresh, lengths, Refusal::WrongLength);
+                }
+            }
+        }
+    }
+    // A letter or an expression that is none, or no byte, or a place past a frame's end; with wrong lengths too.
+    let wrong = [
+        (0, u64::from(b'C')),
+        (0, 256 + u64::from(b'H')),
+        (1, 0),
+        (1, 257),
+        (2, 60),
+        (2, u64::MAX),
+    ];
+    for (word, value) in wrong {
+        let mut words = recording.after[100].words();
+        words[word] = value;
+        let invalid = Reader::from_words(words);
+        for lengths in [[8; 3], [0; 3], [8, 7, 8], [8, 8, 7], [7, 8, 8], [0, 1, 2]] {
+            refused(&recording, &invalid, lengths, Refusal::InvalidReader);
+        }
+    }
+}

@@ -1,0 +1,5 @@
+pub mod Blocks
+pub mod Folds
+pub mod Rounds
+pub mod Whole
+pub mod Held

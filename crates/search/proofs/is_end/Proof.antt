@@ -1,0 +1,21 @@
+-- `is_end` meets its contract.
+use borrow.Author.Tests.{eq-eqb, ne-eqb}
+use Rattle.search.proofs.is_end.Statement.{statement}
+use Rattle.search.proofs.is_end.Tie as tie
+use Rattle.search.proofs.is_end.Reads as reads
+use Rattle.search.proofs.is_end.Lts as lts
+
+returns : tie.Need-returns
+returns c = rw (eq-eqb _ _ (c .before .if1 .taken), eq-eqb _ _ (c .if2 .taken))
+
+returns-2 : tie.Need-returns-2
+returns-2 c = rw (eq-eqb _ _ (c .before .before .if1 .taken), ne-eqb _ _ (c .before .if2 .left), eq-eqb _ _ (c .if3 .taken))
+
+returns-3 : tie.Need-returns-3
+returns-3 c = rw (eq-eqb _ _ (c .before .before .if1 .taken), ne-eqb _ _ (c .before .if2 .left), ne-eqb _ _ (c .if3 .left))
+
+returns-4 : tie.Need-returns-4
+returns-4 c = rw (ne-eqb _ _ (c .if1 .left))
+
+pub is-end-spec : {M : Type 1} → statement M
+is-end-spec = tie.close (tie.spec returns returns-2 returns-3 returns-4)
