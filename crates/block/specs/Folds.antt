@@ -1,63 +1,30 @@
 -- A block equals feeding its symbols singly; parts of a block fed one after the other equal the whole; demand 3 of blocks.
 use mathlib.Core.Path.{_≡_, refl, sym, ap, ap₂, _∙_}
 use mathlib.Core.Bool.{true}
-use mathlib.Core.List.{List, [], _∷_, _++_, append-assoc}
-use Prim.Native.Nat.{ℕ, zero, suc, _+_, _-_, _%_, _<_, _≤_}
-use native.Mathlib.Nat.{zero-add, suc-add, not-suc-le-zero, mod-lt}
+use mathlib.Core.List.{List, [], _∷_, _++_, append-assoc, map}
+use Prim.Native.Nat.{ℕ, zero, suc, _+_, _-_, _<_, _≤_}
+use native.Mathlib.Nat.{zero-add, suc-add, not-suc-le-zero}
 use native.Mathlib.Omega.{arith}
-use borrow.Author.Tests.{lt-ltb, leb-true, leb-false, lt-leb}
-use lib.Dec.{ltb}
-use lib.ListN.{getD, length, take}
-use lib.Seq.{take-append-le, take-append-add}
+use borrow.Author.Tests.{leb-true, leb-false}
+use lib.ListN.{getD, length, take, drop, length-map, List·getD-append}
+use lib.Seq.{getD-append-add, getD-drop, take-append-le, take-append-add}
 use Rattle.timecode.specs.Answers.{refusal}
-use Rattle.timecode.specs.Formats.{isSymbol, known, size}
+use Rattle.timecode.specs.Formats.{isSymbol, known}
 use Rattle.timecode.specs.Laws.Checks.{refused-no-report}
-use Rattle.timecode.specs.Laws.Marks.{size-positive}
-use Rattle.timecode.specs.Laws.Tests.{by-test, and-left}
-use Rattle.timecode.specs.Laws.Windows.{window-quiet}
-use Rattle.timecode.specs.Stream.{windowAnswer, plainAnswers}
+use Rattle.timecode.specs.Laws.Tests.{by-test}
+use Rattle.timecode.specs.Stream.{plainAnswers}
 use Rattle.timecode.specs.declared.Answer.{Answer}
 use Rattle.timecode.specs.declared.Answer.the-variants.{Quiet, Report}
 use Rattle.timecode.specs.declared.Format.{Format}
 use Rattle.timecode.specs.declared.Refusal.{Refusal}
 use Rattle.timecode.specs.declared.Time.{Time}
-use Rattle.register.specs.Symbols.{wordsOf, pushOf}
-use Rattle.stream.specs.Feeding.{freshReader, isValid, nextOf, windowIn, answerOf, feedOf}
+use Rattle.stream.specs.Feeding.{freshReader, isValid, answerOf}
 use Rattle.stream.specs.Refinement.{answers, readerAfter, answers-are-plain}
 use Rattle.stream.specs.declared.Reader.{Reader}
-use Rattle.block.specs.Blocks.{Reported, Block, stopped, onward, blockIn, blockOf}
+use Rattle.parts.specs.Feeds.{answers-append, reader-append, length-answers, answers-take, answers-at, valid-after, refused-above, quiet-no-refusal, above-refused}
+use Rattle.block.specs.Blocks.{Reported, Block, stopped, onward, blockIn, blockOf, fieldLeft}
 use Rattle.block.specs.declared.Stop.{Stop}
 use Rattle.block.specs.declared.Stop.the-variants.{AllTaken, UnknownSymbol, NoRoom}
-
--- ---- lists of Feeds one after the other
-
-pub answers-append : (r : Reader) (ss rs : List ℕ) → answers r (ss ++ rs) ≡ answers r ss ++ answers (readerAfter r ss) rs
-unfolding answers readerAfter
-answers-append r [] rs = refl
-answers-append r (s ∷ ss) rs = ap (λ (as′ : List Answer). feedOf r s .answer ∷ as′) (answers-append (feedOf r s .reader) ss rs)
-
-pub reader-append : (r : Reader) (ss rs : List ℕ) → readerAfter r (ss ++ rs) ≡ readerAfter (readerAfter r ss) rs
-unfolding readerAfter
-reader-append r [] rs = refl
-reader-append r (s ∷ ss) rs = reader-append (feedOf r s .reader) ss rs
-
-pub length-answers : (r : Reader) (ss : List ℕ) → length (answers r ss) ≡ length ss
-unfolding answers
-length-answers r [] = refl
-length-answers r (s ∷ ss) = ap suc (length-answers (feedOf r s .reader) ss)
-
-pub answers-take : (r : Reader) (ss : List ℕ) (k : ℕ) → answers r (take k ss) ≡ take k (answers r ss)
-unfolding answers
-answers-take r [] zero = refl
-answers-take r [] (suc k) = refl
-answers-take r (s ∷ ss) zero = refl
-answers-take r (s ∷ ss) (suc k) = ap (λ (as′ : List Answer). feedOf r s .answer ∷ as′) (answers-take (feedOf r s .reader) ss k)
-
-pub answers-at : (r : Reader) (ss : List ℕ) (none : Answer) (k : ℕ) → k < length ss → getD (answers r ss) k none ≡ answerOf (readerAfter r (take k ss)) (getD ss k 0)
-unfolding answers readerAfter feedOf
-answers-at r [] none k h = absurd (not-suc-le-zero h)
-answers-at r (s ∷ ss) none zero h = refl
-answers-at r (s ∷ ss) none (suc k) h = answers-at (feedOf r s .reader) ss none k (omega arith)
 
 -- ---- what was taken
 
@@ -92,9 +59,6 @@ refused-later : (a : Answer) (as′ : List Answer) (taken : ℕ) → ((x : Refus
 refused-later a as′ taken n later zero h x none e = n x e
 refused-later a as′ taken n later (suc k) h x none e = later k (omega arith) x none e
 
-quiet-no-refusal : (x : Refusal) → Quiet ≡ Answer.Refused x → ⊥
-quiet-no-refusal x h = let n : _≡_ {A = ℕ} 0 1 = cc in omega arith
-
 -- A block takes Feeds that are not refused, puts in their reports, and stops for the reason that it says.
 pub block-takes : (room : ℕ) (as′ : List Answer) → Takes room as′ (blockIn room as′)
 unfolding blockIn
@@ -122,34 +86,24 @@ block-takes (suc room) (Report t w ∷ as′) =
       stops = stops-onward (blockIn room as′ .stop) room (suc room) (Report t w) as′ (blockIn room as′ .taken) (length (blockIn room as′ .reports)) (suc (length (blockIn room as′ .reports))) (λ e. ap suc e) (later .stops);
     }
 
+-- ---- the lent list afterwards
+
+-- The reports stand in the first entries, in their order.
+pub left-first : (field : Reported → ℕ) (b : Block) (entries : List ℕ) (k : ℕ) → k < length (b .reports) → getD (fieldLeft field b entries) k 0 ≡ getD (map field (b .reports)) k 0
+unfolding fieldLeft
+left-first field b entries k h = List·getD-append (map field (b .reports)) (drop (length (map field (b .reports))) entries) 0 k (omega (arith, length-map (b .reports) field))
+
+-- The entries past the last report are as they were.
+pub left-past : (field : Reported → ℕ) (b : Block) (entries : List ℕ) (k : ℕ) → getD (fieldLeft field b entries) (length (b .reports) + k) 0 ≡ getD entries (length (b .reports) + k) 0
+unfolding fieldLeft
+left-past field b entries k =
+    let xs = map field (b .reports) in
+    ap (λ (n : ℕ). getD (xs ++ drop (length xs) entries) (n + k) 0) (sym (length-map (b .reports) field))
+    ∙ getD-append-add xs (drop (length xs) entries) k 0
+    ∙ getD-drop (length xs) entries k 0
+    ∙ ap (λ (n : ℕ). getD entries (n + k) 0) (length-map (b .reports) field)
+
 -- ---- the block of a reader
-
-pub valid-next : (r : Reader) (s : ℕ) → isValid r ≡ true → isValid (nextOf r s) ≡ true
-unfolding nextOf isValid
-valid-next r s v =
-    by-test (isSymbol s)
-    (λ y. rw (v, y) (rw (and-left (known (r .format)) (ltb (r .place) (size (r .format))) v) (lt-ltb ((r .place + 1) % size (r .format)) (size (r .format)) (mod-lt (r .place + 1) (size-positive (r .format))))))
-    (λ n. rw (v, n) v)
-
-pub valid-after : (r : Reader) (ss : List ℕ) → isValid r ≡ true → isValid (readerAfter r ss) ≡ true
-unfolding readerAfter feedOf
-valid-after r [] v = v
-valid-after r (s ∷ ss) v = valid-after (nextOf r s) ss (valid-next r s v)
-
-pub refused-above : (r : Reader) (s : ℕ) → isValid r ≡ true → 3 < s → answerOf r s ≡ Answer.Refused (refusal 4 0)
-unfolding answerOf
-refused-above r s v h = rw (v, lt-leb s 3 h)
-
-window-no-refusal : (f : Format) (window : List ℕ) (x : Refusal) → windowAnswer f window ≡ Answer.Refused x → ⊥
-window-no-refusal f window x h = quiet-no-refusal x (sym (window-quiet f window (λ t w e. refused-no-report x t w (sym h ∙ e))) ∙ h)
-
--- the symbol of a refused Feed of a valid reader is above 3
-pub above-refused : (r : Reader) (s : ℕ) (x : Refusal) → isValid r ≡ true → answerOf r s ≡ Answer.Refused x → 3 < s
-unfolding answerOf
-above-refused r s x v h =
-    by-test (isSymbol s)
-    (λ y. absurd (window-no-refusal (r .format) (windowIn (r .format) (wordsOf (pushOf (r .heard) s))) x (rw (v, y) at h)))
-    (λ n. leb-false s 3 n)
 
 -- Why a block stops where it does, in document 02's words.
 abbrev pub StopsBefore : Stop → Reader → ℕ → List ℕ → ℕ → ℕ → Type 0

@@ -7,8 +7,8 @@ use native.Mathlib.Nat.{zero-add, add-zero, not-suc-le-zero, mod-lt, mod-eq-of-l
 use native.Mathlib.Omega.{arith}
 use native.Mathlib.Decide.{decLt}
 use borrow.Author.Tests.{le-leb, lt-ltb}
-use lib.ListN.{getD, length, take, drop, length-append, List·getD-append}
-use lib.Seq.{ext-getD, getD-append-add, getD-take, take-suc, take-append-add, length-take-le, take-take, take-at, take-length}
+use lib.ListN.{getD, length, take, drop, set, length-append, length-set, List·getD-append}
+use lib.Seq.{ext-getD, getD-append-add, getD-take, take-suc, take-suc-set, take-append-add, length-take-le, take-take, take-at, take-length}
 use Rattle.timecode.specs.Formats.{isSymbol, size}
 use Rattle.timecode.specs.Laws.Runs.{length-tabulate, getD-tabulate}
 use Rattle.timecode.specs.Laws.Tests.{by-test}
@@ -215,6 +215,18 @@ taken-accepted r ss =
 pub record Laid (entry ss held : List ℕ) : Type 0 where
   pub long : length held ≡ length entry
   pub behind : take (224 + length ss) held ≡ take 224 entry ++ ss
+
+pub laid-none : (entry : List ℕ) → Laid entry [] entry
+laid-none entry = record { long = refl; behind = sym (append-nil (take 224 entry)) }
+
+-- one symbol more
+pub laid-more : (entry ss held : List ℕ) (s : ℕ) → 224 + length ss < length entry → Laid entry ss held → Laid entry (ss ++ (s ∷ [])) (set held (224 + length ss) s)
+laid-more entry ss held s room laid =
+    let longer : 224 + length (ss ++ (s ∷ [])) ≡ suc (224 + length ss) = ap (λ (n : ℕ). 224 + n) (length-append ss (s ∷ [])) ∙ omega arith in
+    record {
+      long = length-set held (224 + length ss) s ∙ laid .long;
+      behind = rw longer (take-suc-set held (224 + length ss) s (omega (arith, laid .long)) ∙ ap (λ (xs : List ℕ). xs ++ (s ∷ [])) (laid .behind) ∙ append-assoc (take 224 entry) ss (s ∷ []));
+    }
 
 pub laid-part : (entry ss held : List ℕ) → 224 + length ss ≤ length entry → Laid entry ss held → part held 224 (length ss) ≡ ss
 laid-part entry ss held room laid =

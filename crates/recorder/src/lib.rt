@@ -7,7 +7,7 @@ ghost use Rattle.timecode.specs.Calls.{classifyListLeaves};
 ghost use Rattle.timecode.specs.Frames.{writeLeaves};
 ghost use Rattle.block.specs.Blocks.{blockSaid, blockFor, fieldLeft, dayOf, hundredthsOf, controlOf};
 ghost use Rattle.border.specs.Border.{feedBlockWords, blockWordsLeft, readerIn, formatOf, timeOf, writeSaid, readSaid, stepSaid, stepBackSaid, differenceSaid, classifySaid, classifyListSaid, scanSaid, freshSaid, fedSaid, valuesLeft, flagLeft, indexLeft, freshLeft, feedWords, feedPulseWords, wordsLeft};
-use block::feed_block;
+use block_feed::feed_block;
 use border::format_of;
 use border::number_of_written;
 use border::put_block;

@@ -5,7 +5,7 @@ use Rattle.recorder.proofs.duskveyra_feed_block.Statement.{statement}
 use Rattle.recorder.proofs.duskveyra_feed_block.Tie as tie
 use Rattle.recorder.proofs.duskveyra_feed_block.Reads as reads
 use Rattle.recorder.proofs.duskveyra_feed_block.Lts as lts
-use Rattle.block.proofs.feed_block.Reads as feed-block-reads
+use Rattle.block_feed.proofs.feed_block.Reads as feed-block-reads
 use Rattle.border.proofs.put_block.Reads as put-block-reads
 use Rattle.border.proofs.reader_in.Reads as reader-in-reads
 

@@ -1,0 +1,15 @@
+-- `are_equal` meets its contract.
+use borrow.Author.Tests.{eq-eqb, ne-eqb}
+use Rattle.block_feed.proofs.are_equal.Statement.{statement}
+use Rattle.block_feed.proofs.are_equal.Tie as tie
+use Rattle.block_feed.proofs.are_equal.Reads as reads
+use Rattle.block_feed.proofs.are_equal.Lts as lts
+
+returns : tie.Need-returns
+returns c = rw (eq-eqb _ _ (c .if1 .taken))
+
+returns-2 : tie.Need-returns-2
+returns-2 c = rw (ne-eqb _ _ (c .if1 .left))
+
+pub are-equal-spec : {M : Type 1} → statement M
+are-equal-spec = tie.close (tie.spec returns returns-2)

@@ -1,0 +1,91 @@
+-- `feed_block` meets its contract: 13, then 3, then the parts.
+use borrow.Author.Needs.{needs}
+use mathlib.Core.Path.{refl, sym, _∙_}
+use Rattle.timecode.specs.declared.Refusal.the-variants.{WrongLength, InvalidReader}
+use Rattle.block.specs.Blocks.{blockAnswer}
+use Rattle.block_part.specs.Rounds.{filled-long}
+use Rattle.block_feed.specs.Whole.{records-long, block-refused, block-taken}
+use Rattle.block_feed.proofs.feed_block.Statement.{statement}
+use Rattle.block_feed.proofs.feed_block.Tie as tie
+use Rattle.block_feed.proofs.feed_block.Reads as reads
+use Rattle.block_feed.proofs.feed_block.Lts as lts
+use Rattle.block_feed.proofs.are_equal.Reads as are-equal-reads
+use Rattle.block_feed.proofs.feed_parts.Reads as feed-parts-reads
+use Rattle.block_feed.proofs.refuse.Reads as refuse-reads
+use Rattle.block_feed.proofs.taken_block.Reads as taken-block-reads
+use Rattle.stream.proofs.is_valid.Reads as is-valid-reads
+
+is-valid-requires : tie.Need-is-valid-requires
+is-valid-requires c κs = search needs
+
+are-equal-requires : tie.Need-are-equal-requires
+are-equal-requires c κs = search needs
+
+feed-parts-requires : tie.Need-feed-parts-requires
+feed-parts-requires c κs =
+    let a = c .before .before .before .before .before .before .before .before .before .before .before .args in
+    let long = records-long (a .days .now) (a .hundredths .now) (a .controls .now) (sym (c .before .before .before .before .are-equal .ensures) ∙ c .before .before .before .if2 .taken) in
+    (long .0, long .1, sym (c .before .before .before .before .before .before .is-valid .ensures) ∙ c .before .before .before .before .before .if1 .taken)
+
+taken-block-requires : tie.Need-taken-block-requires
+taken-block-requires c κs = search needs
+
+same-length : tie.Need-same-length
+same-length c =
+    let a = c .before .before .before .before .before .before .before .before .before .before .before .before .before .before .before .before .before .before .before .args in filled-long 0 _ _ (a .days .now) (a .hundredths .now) (a .controls .now) _ _ _ refl (c .before .before .before .before .before .before .before .feed-parts .ensures .1) .0
+
+same-length-2 : tie.Need-same-length-2
+same-length-2 c =
+    let a = c .before .before .before .before .before .before .before .before .before .before .before .before .before .before .before .before .before .before .before .args in filled-long 0 _ _ (a .days .now) (a .hundredths .now) (a .controls .now) _ _ _ refl (c .before .before .before .before .before .before .before .feed-parts .ensures .1) .1
+
+same-length-3 : tie.Need-same-length-3
+same-length-3 c =
+    let a = c .before .before .before .before .before .before .before .before .before .before .before .before .before .before .before .before .before .before .before .args in filled-long 0 _ _ (a .days .now) (a .hundredths .now) (a .controls .now) _ _ _ refl (c .before .before .before .before .before .before .before .feed-parts .ensures .1) .2
+
+returns : tie.Need-returns
+returns c =
+    let a = c .before .before .before .before .before .before .before .before .before .before .before .before .before .before .before .before .before .before .before .args in
+    let valid = sym (c .before .before .before .before .before .before .before .before .before .before .before .before .before .before .is-valid .ensures) ∙ c .before .before .before .before .before .before .before .before .before .before .before .before .before .if1 .taken in
+    let same = sym (c .before .before .before .before .before .before .before .before .before .before .before .before .are-equal .ensures) ∙ c .before .before .before .before .before .before .before .before .before .before .before .if2 .taken in
+    let g = block-taken (a .reader) (a .symbols .now) (a .days .now) (a .hundredths .now) (a .controls .now) _ _ _ _ valid same (c .before .before .before .before .before .before .before .feed-parts .ensures) in
+    (c .taken-block .ensures ∙ g .given, (g .days-left, (g .hundredths-left, g .controls-left)))
+
+refuse-requires : tie.Need-refuse-requires
+refuse-requires c κs = search needs
+
+returns-2 : tie.Need-returns-2
+unfolding blockAnswer
+returns-2 c =
+    let a = c .before .before .before .before .before .before .before .before .before .args in
+    let valid = sym (c .before .before .before .before .is-valid .ensures) ∙ c .before .before .before .if1 .taken in
+    let other = sym (c .before .before .are-equal .ensures) ∙ c .before .if2 .left in
+    let g = block-refused (a .reader) (a .symbols .now) (a .days .now) (a .hundredths .now) (a .controls .now) WrongLength (rw (valid, other)) (rw (valid, other)) in
+    (c .refuse .ensures ∙ g .given, (g .days-left, (g .hundredths-left, g .controls-left)))
+
+refuse-requires-2 : tie.Need-refuse-requires-2
+refuse-requires-2 c κs = search needs
+
+returns-3 : tie.Need-returns-3
+unfolding blockAnswer
+returns-3 c =
+    let a = c .before .before .before .before .before .before .before .args in
+    let invalid = sym (c .before .before .is-valid .ensures) ∙ c .before .if1 .left in
+    let g = block-refused (a .reader) (a .symbols .now) (a .days .now) (a .hundredths .now) (a .controls .now) InvalidReader (rw invalid) (rw invalid) in
+    (c .refuse2 .ensures ∙ g .given, (g .days-left, (g .hundredths-left, g .controls-left)))
+
+pub feed-block-spec : {M : Type 1} → statement M
+feed-block-spec =
+    tie.close
+    (tie.spec
+    is-valid-requires
+    are-equal-requires
+    feed-parts-requires
+    taken-block-requires
+    same-length
+    same-length-2
+    same-length-3
+    returns
+    refuse-requires
+    returns-2
+    refuse-requires-2
+    returns-3)

@@ -1,0 +1,143 @@
+// Whole blocks of symbols: one call feeds them all and puts the reports into a lent list.
+// A block is fed in parts, one after the other.
+ghost use mathlib.Core.Path.{_≡_};
+ghost use mathlib.Core.Bool.{true, _&&_};
+ghost use lib.Dec.{eqb};
+ghost use Prim.Native.Nat.{_+_, _≤_, _<_};
+ghost use lib.ListN.{length};
+ghost use Rattle.stream.specs.Feeding.{isValid};
+ghost use Rattle.block.specs.Blocks.{blockFor, feedBlockOf, dayOf, hundredthsOf, controlOf, fieldLeft};
+ghost use Rattle.block_part.specs.Rounds.{partOf, roundOf, Filled};
+ghost use Rattle.block_feed.specs.Whole.{refusedBlock, takenBlock};
+use block::BlockAnswer;
+use block::FedBlock;
+use block::Stop;
+use block_part::Round;
+use block_part::feed_part;
+use block_part::round_at;
+use stream::Reader;
+use stream::is_valid;
+use timecode::Refusal;
+
+// Where a part of the block that begins there ends.
+fn part_end(from: usize, end: usize) -> usize
+    requires { ⌜ from < end ⌝ }
+    ensures { λ r. ⌜ (from < r) × (r ≤ end) × (r ≤ from + 512) ⌝ }
+{
+    if end - from <= 512 {
+        return end;
+    }
+    from + 512
+}
+
+// The parts of a block one after the other, each with the reader that the part before gave back.
+fn feed_parts(
+    reader: Reader,
+    symbols: &[u8],
+    days: &mut [u16],
+    hundredths: &mut [u32],
+    controls: &mut [u64],
+) -> Round
+    requires { ⌜ (length (now hundredths) ≡ length (now days)) × (length (now controls) ≡ length (now days)) × (isValid reader ≡ true) ⌝ }
+    ensures { λ r. ⌜ r ≡ roundOf reader (now (symbols .entry)) 0 (length (now (days .entry))) ⌝ }
+    ensures { λ _. ⌜ Filled 0 (partOf reader (now (symbols .entry)) 0 (length (now (days .entry))) .reports) (now (days .entry)) (now (hundredths .entry)) (now (controls .entry)) (now (days .exit)) (now (hundredths .exit)) (now (controls .exit)) ⌝ }
+{
+    let mut current = reader;
+    let mut taken = 0;
+    let mut reports = 0;
+    while taken < symbols.len() {
+        let end = part_end(taken, symbols.len());
+        let part = &symbols[taken..end];
+        let fed = feed_part(current, part, reports, days, hundredths, controls);
+        let stop = fed.stop;
+        current = fed.reader;
+        taken += fed.taken;
+        reports = fed.reports;
+        if taken < end {
+            return round_at(current, taken, reports, stop);
+        }
+    }
+    round_at(current, taken, reports, Stop::AllTaken)
+}
+
+fn refuse(reader: Reader, refusal: Refusal) -> FedBlock
+    ensures { λ r. ⌜ r ≡ refusedBlock reader refusal ⌝ }
+{
+    FedBlock {
+        reader: reader,
+        answer: BlockAnswer::Refused(refusal),
+    }
+}
+
+fn taken_block(round: Round) -> FedBlock
+    ensures { λ r. ⌜ r ≡ takenBlock round ⌝ }
+{
+    let stop = round.stop;
+    let reader = round.reader;
+    FedBlock {
+        reader: reader,
+        answer: BlockAnswer::Taken(round.taken, round.reports, stop),
+    }
+}
+
+fn are_equal(first: usize, second: usize, third: usize) -> bool
+    ensures { λ r. ⌜ r ≡ (eqb second first && eqb third first) ⌝ }
+{
+    if second == first {
+        return third == first;
+    }
+    false
+}
+
+// Feeds a block of symbols. A report is a record of the lent list: its day, its hundredths and its control word, each at one index of its own list.
+pub fn feed_block(
+    reader: Reader,
+    symbols: &[u8],
+    days: &mut [u16],
+    hundredths: &mut [u32],
+    controls: &mut [u64],
+) -> FedBlock
+    ensures { λ r. ⌜ r ≡ feedBlockOf reader (now (symbols .entry)) (now (days .entry)) (now (hundredths .entry)) (now (controls .entry)) ⌝ }
+    ensures { λ _. ⌜ now (days .exit) ≡ fieldLeft dayOf (blockFor reader (now (symbols .entry)) (now (days .entry)) (now (hundredths .entry)) (now (controls .entry))) (now (days .entry)) ⌝ }
+    ensures { λ _. ⌜ now (hundredths .exit) ≡ fieldLeft hundredthsOf (blockFor reader (now (symbols .entry)) (now (days .entry)) (now (hundredths .entry)) (now (controls .entry))) (now (hundredths .entry)) ⌝ }
+    ensures { λ _. ⌜ now (controls .exit) ≡ fieldLeft controlOf (blockFor reader (now (symbols .entry)) (now (days .entry)) (now (hundredths .entry)) (now (controls .entry))) (now (controls .entry)) ⌝ }
+{
+    if is_valid(reader) {
+        if are_equal(days.len(), hundredths.len(), controls.len()) {
+            let fed = feed_parts(reader, symbols, days, hundredths, controls);
+            return taken_block(fed);
+        }
+        return refuse(reader, Refusal::WrongLength);
+    }
+    refuse(reader, Refusal::InvalidReader)
+}
+
+fn block_reader(fed: FedBlock) -> Reader
+    ensures { λ r. ⌜ r ≡ fed .reader ⌝ }
+{
+    fed.reader
+}
+
+fn block_answer(fed: FedBlock) -> BlockAnswer
+    ensures { λ r. ⌜ r ≡ fed .answer ⌝ }
+{
+    fed.answer
+}
+
+// Feeds a block to the recorder's own reader, which is changed in place.
+pub fn feed_block_in_place(
+    reader: &mut Reader,
+    symbols: &[u8],
+    days: &mut [u16],
+    hundredths: &mut [u32],
+    controls: &mut [u64],
+) -> BlockAnswer
+    ensures { λ r. ⌜ (r ≡ feedBlockOf (now (reader .entry)) (now (symbols .entry)) (now (days .entry)) (now (hundredths .entry)) (now (controls .entry)) .answer) × (now (reader .exit) ≡ feedBlockOf (now (reader .entry)) (now (symbols .entry)) (now (days .entry)) (now (hundredths .entry)) (now (controls .entry)) .reader) ⌝ }
+    ensures { λ _. ⌜ now (days .exit) ≡ fieldLeft dayOf (blockFor (now (reader .entry)) (now (symbols .entry)) (now (days .entry)) (now (hundredths .entry)) (now (controls .entry))) (now (days .entry)) ⌝ }
+    ensures { λ _. ⌜ now (hundredths .exit) ≡ fieldLeft hundredthsOf (blockFor (now (reader .entry)) (now (symbols .entry)) (now (days .entry)) (now (hundredths .entry)) (now (controls .entry))) (now (hundredths .entry)) ⌝ }
+    ensures { λ _. ⌜ now (controls .exit) ≡ fieldLeft controlOf (blockFor (now (reader .entry)) (now (symbols .entry)) (now (days .entry)) (now (hundredths .entry)) (now (controls .entry))) (now (controls .entry)) ⌝ }
+{
+    let fed = feed_block(*reader, symbols, days, hundredths, controls);
+    *reader = block_reader(fed);
+    block_answer(fed)
+}
