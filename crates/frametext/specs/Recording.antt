@@ -17,7 +17,8 @@ use Rattle.timecode.specs.Stream.{plainAnswers}
 use Rattle.timecode.specs.declared.Format.{Format}
 use Rattle.timecode.specs.declared.Time.{Time}
 use Rattle.lines.specs.Text.{space, newline}
-use Rattle.listing.specs.Printed.{formatIn, isSkipped, symbolOf, feedsOf, isFirstLine, printedFor, printed}
+use Rattle.listing.specs.Printed.{formatIn, isFirstLine, printedFor, printed}
+use Rattle.characters.specs.Symbols.{isSkipped, symbolOf, feedsOf}
 use Rattle.frametext.specs.Characters.{characterOf, opensGroup, elementText, frameText, lineOf, firstLine, framesText, recordingText}
 
 -- ---- a character is read as the symbol that it was put for

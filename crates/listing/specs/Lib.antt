@@ -1,5 +1,4 @@
 pub mod Printed
-pub mod Progress
+pub mod Calls
 pub mod Parts
-pub mod Hearing
 pub mod Whole

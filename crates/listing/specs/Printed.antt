@@ -1,5 +1,5 @@
 -- Document 01, timeread: what it prints for the bytes of standard input.
-use mathlib.Core.Bool.{Bool, cond, _&&_, _||_}
+use mathlib.Core.Bool.{Bool, cond, _&&_}
 use mathlib.Core.List.{List, [], _∷_, _++_}
 use Prim.Native.Nat.{ℕ, suc, _-_}
 use lib.Dec.{eqb, leb}
@@ -11,6 +11,7 @@ use Rattle.timecode.specs.declared.Answer.{Answer}
 use Rattle.timecode.specs.declared.Answer.the-variants.{Quiet, Report}
 use Rattle.timecode.specs.declared.Format.{Format}
 use Rattle.lines.specs.Text.{reportLine, countsLine, refusedLine}
+use Rattle.characters.specs.Symbols.{feedsOf}
 
 -- ---- the first line: letter, expression digit, newline
 
@@ -20,21 +21,6 @@ formatIn bytes = record { letter = getD bytes 0 0; expression = getD bytes 1 0 -
 -- its third byte is the newline, its second a digit, and the format is known
 unfoldable pub isFirstLine : List ℕ → Bool
 isFirstLine bytes = leb 3 (length bytes) && (eqb (getD bytes 2 0) 10 && (leb 48 (getD bytes 1 0) && known (formatIn bytes)))
-
--- ---- then characters 0 1 P - for symbols 0 1 2 3
-
--- space, CR, LF
-unfoldable pub isSkipped : ℕ → Bool
-isSkipped b = eqb b 32 || (eqb b 13 || eqb b 10)
-
--- Another character stands for no symbol: 4, which Feed refuses with the number 4.
-unfoldable pub symbolOf : ℕ → ℕ
-symbolOf b = cond (eqb b 48) 0 (cond (eqb b 49) 1 (cond (eqb b 80) 2 (cond (eqb b 45) 3 4)))
-
--- the list of Feeds that the bytes after the first line are
-unfoldable pub feedsOf : List ℕ → List ℕ
-feedsOf [] = []
-feedsOf (b ∷ bs) = cond (isSkipped b) (feedsOf bs) (symbolOf b ∷ feedsOf bs)
 
 -- ---- the lines: each report with its element's number, from 1; a refusal, and no other line; at the end the counts
 

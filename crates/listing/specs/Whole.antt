@@ -15,13 +15,17 @@ use Rattle.timecode.specs.declared.Answer.the-variants.{Quiet, Report}
 use Rattle.timecode.specs.declared.Refusal.{Refusal}
 use Rattle.timecode.specs.declared.Time.{Time}
 use Rattle.lines.specs.Text.{reportLine, refusedLine, together}
-use Rattle.stream.specs.Feeding.{freshReader, nextOf, answerOf, feedOf}
+use Rattle.stream.specs.Feeding.{nextOf, answerOf, feedOf, freshReader}
 use Rattle.stream.specs.Refinement.{answers, answers-are-plain}
 use Rattle.stream.specs.declared.Reader.{Reader}
-use Rattle.listing.specs.Parts.{feeds-few, step-fed, ended-stays, ended-silent, after-parts, text-parts}
-use Rattle.listing.specs.Printed.{formatIn, isFirstLine, feedsOf, printedFor, printed}
-use Rattle.listing.specs.Progress.{begunOf, goingOn, oneMore, answered, lineFor, stepOf, lineOf, afterFeeds, textFeeds, afterOf, textOf, endingOf}
-use Rattle.listing.specs.declared.Progress.{Progress}
+use Rattle.characters.specs.Symbols.{feedsOf}
+use Rattle.characters.specs.Decoding.{feeds-few}
+use Rattle.progress.specs.Progress.{goingOn, oneMore, answered, lineFor, stepOf, lineOf, afterFeeds, textFeeds}
+use Rattle.progress.specs.Steps.{step-fed, ended-stays, ended-silent}
+use Rattle.hearing.specs.Bytes.{afterOf, textOf, after-parts, text-parts}
+use Rattle.listing.specs.Printed.{formatIn, isFirstLine, printedFor, printed}
+use Rattle.listing.specs.Calls.{begunOf, endingOf}
+use Rattle.progress.specs.declared.Progress.{Progress}
 
 -- what is printed from a progress on: the lines of a list of Feeds and the last line
 unfoldable pub restFor : Progress → List ℕ → List ℕ

@@ -2,13 +2,13 @@
 // What a read brings and where a write goes is the C library's: beneath this crate nothing says which bytes they are.
 ghost use mathlib.Core.Path.{_≡_};
 ghost use mathlib.Core.Bool.{true, false};
-ghost use Rattle.listing.specs.Progress.{afterOf};
+ghost use Rattle.hearing.specs.Bytes.{afterOf};
 use lines::refused_line;
-use listing::Progress;
 use listing::begin;
 use listing::finish;
 use listing::list;
 use listing::start;
+use progress::Progress;
 use refusals::number_of;
 use stream::Made;
 use stream::Reader;

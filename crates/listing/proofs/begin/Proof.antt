@@ -3,7 +3,7 @@ use borrow.Author.Needs.{needs}
 use mathlib.Core.Path.{_∙_}
 use borrow.Author.Tests.{eq-eqb, ne-eqb, le-leb, lt-leb}
 use Rattle.listing.specs.Printed.{isFirstLine}
-use Rattle.listing.specs.Progress.{begunOf}
+use Rattle.listing.specs.Calls.{begunOf}
 use Rattle.stream.specs.Feeding.{madeOf}
 use Rattle.listing.proofs.begin.Statement.{statement}
 use Rattle.listing.proofs.begin.Tie as tie

@@ -11,7 +11,7 @@ use Rattle.listing.proofs.fill.Statement.{statement}
 use Rattle.listing.proofs.fill.Tie as tie
 use Rattle.listing.proofs.fill.Reads as reads
 use Rattle.listing.proofs.fill.Lts as lts
-use Rattle.listing.proofs.hear.Reads as hear-reads
+use Rattle.hearing.proofs.hear.Reads as hear-reads
 use Rattle.listing.proofs.part_end.Reads as part-end-reads
 
 abbrev Inv-loop : tie.InvT-loop

@@ -6,7 +6,7 @@ use mathlib.Core.Bool.{false≢true}
 use Prim.Native.Nat.{_-_, _≤_}
 use lib.ListN.{length, take}
 use Rattle.listing.specs.Parts.{reached-start, restOf, length-rest, reached-turn, reached-all}
-use Rattle.listing.specs.Progress.{afterOf}
+use Rattle.hearing.specs.Bytes.{afterOf}
 use Rattle.printing.proofs.print_part.Statement.{statement}
 use Rattle.printing.proofs.print_part.Tie as tie
 use Rattle.printing.proofs.print_part.Reads as reads
