@@ -3,6 +3,7 @@
 mod blocks;
 mod commands;
 mod cpu;
+mod frames;
 mod plain;
 mod tuned;
 
@@ -409,6 +410,10 @@ fn main() {
         Some("blocks") => return block_tables(),
         _ => {}
     }
+    if argument.as_deref() == Some("frames") {
+        frames::rows();
+        return;
+    }
     let formats = [
         ("B0", format(b'B', 0), 97),
         ("G1", format(b'G', 1), 98),
@@ -454,6 +459,7 @@ fn main() {
     }
     row("classify", "pulse", classify());
     row("classify_list, 4,096 pulses", "pulse", classify_list());
+    frames::rows();
 
     heading("feed B0 by length of the stream");
     let symbols = stream(format(b'B', 0), 10_000_000);

@@ -20,6 +20,7 @@ use Rattle.timecode.specs.declared.Reading.{Reading}
 use Rattle.timecode.specs.declared.Reading.the-variants.{Accepted}
 use Rattle.timecode.specs.declared.Time.{Time}
 use Rattle.layout.specs.Tables.{widthsOf}
+use Rattle.digits.specs.Splitting.{straight-width}
 
 -- the number of the two digits from j on
 abbrev pub two : List ℕ → ℕ → ℕ
@@ -178,10 +179,6 @@ time-bounds f ds h =
     }
 
 -- ---- straight binary seconds are carried where their run has a width
-
-straight-width : (f : Format) → getD (widthsOf f) 11 0 ≡ cond (hasSeconds f) 9 0
-unfolding widthsOf runs fields timeFields seconds minutes hours days tenths hundredths straightSeconds control
-straight-width f = refl
 
 pub no-width : (f : Format) (w : ℕ) → w ≡ getD (widthsOf f) 11 0 → w ≡ 0 → hasSeconds f ≡ false
 no-width f w e z = by-test (hasSeconds f) (λ y. let n : _≡_ {A = ℕ} 0 9 = sym z ∙ e ∙ straight-width f ∙ rw y in let none : ⊥ = omega arith in absurd none) (λ m. m)

@@ -1,18 +1,22 @@
--- Digits with more bits than their runs: only the low ones are written.
+-- A time and a control word as digits, one for each run of the format: the decimal digits of the time, straight binary seconds and the control word.
 use mathlib.Core.Path.{_≡_, refl, sym, ap, ap₂, _∙_}
-use mathlib.Core.Bool.{cond}
+use mathlib.Core.Bool.{Bool, true, cond, _&&_}
 use mathlib.Core.List.{List, [], _∷_, _++_}
 use Prim.Native.Nat.{ℕ, zero, suc, _+_, _*_, _-_, _/_, _%_, _^_, _<_, _≤_}
-use native.Mathlib.Nat.{mod-one, mod-eq-of-lt, mod-lt, div-eq-of-lt, lt-div-mul-add, mul-comm, mul-le-mul-left}
+use native.Mathlib.Nat.{mod-one, mod-eq-of-lt, div-eq-of-lt, div-one, lt-div-mul-add, mul-comm, mul-one, mul-le-mul-left, mul-div-cancel, mul-mod-left}
 use native.Mathlib.Omega.{arith}
-use borrow.Author.Tests.{ltb-true, ltb-false, leb-true, ne-eqb}
-use lib.Dec.{leb, ltb, eqb}
+use borrow.Author.Tests.{ltb-true, ltb-false, eqb-true, ne-eqb}
+use lib.Dec.{ltb, eqb}
 use lib.ListN.{getD, length, drop}
-use lib.Pow.{field, mod-mod-pow, pow-pos, pow-mono}
-use Rattle.timecode.specs.Formats.{size}
-use Rattle.timecode.specs.Frames.{totalWidth, written}
+use lib.Pow.{pow-pos, pow-mono, shl-exact, shr-lt}
+use Rattle.timecode.specs.Formats.{table, lookUp, rowOf, known, carriesControl}
+use Rattle.timecode.specs.Frames.{totalWidth}
+use Rattle.timecode.specs.Laws.Fields.{Binary}
+use Rattle.timecode.specs.Laws.Reading.{Valid, control-binary}
+use Rattle.timecode.specs.Laws.Table.{everyFormat, of-every}
 use Rattle.timecode.specs.Laws.Tests.{by-test, and-left, and-right}
-use Rattle.timecode.specs.Layout.{Run, seconds, minutes, hours, days, tenths, hundredths, hasSeconds, straightSeconds, controlRange, control, timeFields, fields, runs, second, minute, hour, timeNumbers, numbers, spread, inRun, bitOf, rest, symbolAt, tabulate, encode}
+use Rattle.timecode.specs.Laws.Times.{OnFormat}
+use Rattle.timecode.specs.Layout.{Run, Field, seconds, minutes, hours, days, tenths, hundredths, hasSeconds, straightSeconds, controlRange, control, timeFields, fields, runs, second, minute, hour, timeNumbers, numbers, digitsOf, spread}
 use Rattle.timecode.specs.declared.Format.{Format}
 use Rattle.timecode.specs.declared.Time.{Time}
 use Rattle.layout.specs.Tables.{widthsOf}
@@ -26,88 +30,137 @@ pub record Digits (ds : List ℕ) : Type 0 where
   pub long : length ds ≡ 18
   pub small : (j : ℕ) → getD ds j 0 < 512
 
--- the two lists of digits agree as far as the runs are wide
-abbrev pub LowBits : List Run → List ℕ → List ℕ → Type 0
-LowBits [] [] [] = Unit
-LowBits [] [] (y ∷ ys) = ⊥
-LowBits [] (x ∷ xs) ys = ⊥
-LowBits (r ∷ rs) [] ys = ⊥
-LowBits (r ∷ rs) (x ∷ xs) [] = ⊥
-LowBits (r ∷ rs) (x ∷ xs) (y ∷ ys) = (x % 2 ^ r .width ≡ y % 2 ^ r .width) × LowBits rs xs ys
+-- ---- the digits of the time
 
--- a bit below the width is one of the low bits
-low-bit : (x w b : ℕ) → b < w → x / 2 ^ b % 2 ≡ x % 2 ^ w / 2 ^ b % 2
-low-bit x w b h =
-    let above : w - b - 1 + 1 + b ≡ w = omega arith in
-    let a : x % 2 ^ (w - b - 1 + 1 + b) / 2 ^ b ≡ x / 2 ^ b % 2 ^ (w - b - 1 + 1) = field x (w - b - 1 + 1) b in
-    let one : x / 2 ^ b % 2 ^ (w - b - 1 + 1) % 2 ^ 1 ≡ x / 2 ^ b % 2 ^ 1 = mod-mod-pow (x / 2 ^ b) (w - b - 1) 1 in
-    sym (ap (λ (n : ℕ). x % 2 ^ n / 2 ^ b % 2) (sym above) ∙ ap (λ (n : ℕ). n % 2) a ∙ one)
+time-part : (f : Format) (t : Time) → OnFormat f t
+    → second (t .hundredths) % 10 ∷ second (t .hundredths) / 10 ∷ minute (t .hundredths) % 10 ∷ minute (t .hundredths) / 10 ∷ hour (t .hundredths) % 10 ∷ hour (t .hundredths) / 10
+    ∷ t .day % 10 ∷ t .day / 10 % 10 ∷ t .day / 10 / 10 ∷ t .hundredths / 10 % 10 ∷ t .hundredths % 10 ∷ []
+    ≡ spread (timeFields f) (timeNumbers t)
+unfolding timeFields timeNumbers seconds minutes hours days tenths hundredths
+time-part f t o =
+    let c = t .hundredths in
+    let seconds-tens : second c / 10 ≡ second c / 10 % 10 = omega (arith, o .below) in
+    let minutes-tens : minute c / 10 ≡ minute c / 10 % 10 = omega arith in
+    let hours-tens : hour c / 10 ≡ hour c / 10 % 10 = omega (arith, o .below) in
+    let days-hundreds : t .day / 10 / 10 ≡ t .day / 10 / 10 % 10 = omega (arith, o .last) in
+    let tenth : c / 10 % 10 ≡ c / 10 % 10 % 10 = omega arith in
+    let hundredth : c % 10 ≡ c % 10 % 10 = omega arith in
+    λ i.
+    second c % 10 ∷ seconds-tens i ∷ minute c % 10 ∷ minutes-tens i ∷ hour c % 10 ∷ hours-tens i ∷ t .day % 10 ∷ t .day / 10 % 10 ∷ days-hundreds i ∷ tenth i ∷ hundredth i ∷ []
 
-same-symbol : (rests : ℕ → ℕ) (rs : List Run) (xs ys : List ℕ) → LowBits rs xs ys → (i : ℕ) → symbolAt rests rs xs i ≡ symbolAt rests rs ys i
-unfolding symbolAt
-same-symbol rests [] [] [] l i = refl
-same-symbol rests [] [] (y ∷ ys) l i = absurd l
-same-symbol rests [] (x ∷ xs) ys l i = absurd l
-same-symbol rests (r ∷ rs) [] ys l i = absurd l
-same-symbol rests (r ∷ rs) (x ∷ xs) [] l i = absurd l
-same-symbol rests (r ∷ rs) (x ∷ xs) (y ∷ ys) l i =
-    by-test (inRun r i)
-    (λ h.
-    let from = leb-true (r .start) i (and-left (leb (r .start) i) (ltb i (r .start + r .width)) h) in
-    let below = ltb-true i (r .start + r .width) (and-right (leb (r .start) i) (ltb i (r .start + r .width)) h) in
-    let b : bitOf r i < r .width = omega arith in
-    rw h (low-bit x (r .width) (bitOf r i) b ∙ ap (λ (n : ℕ). n / 2 ^ bitOf r i % 2) (l .0) ∙ sym (low-bit y (r .width) (bitOf r i) b)))
-    (λ m. rw m (same-symbol rests rs xs ys (l .1) i))
+-- ---- straight binary seconds, where they are carried
 
-pub same-frame : (n : ℕ) (rests : ℕ → ℕ) (rs : List Run) (xs ys : List ℕ) → LowBits rs xs ys → encode n rests rs xs ≡ encode n rests rs ys
-unfolding encode
-same-frame n rests rs xs ys l = go n 0
-  where
-    go : (n i : ℕ) → tabulate n i (symbolAt rests rs xs) ≡ tabulate n i (symbolAt rests rs ys)
-    go zero i = refl
-    go (suc n) i = ap₂ (λ (s : ℕ) (ss : List ℕ). s ∷ ss) (same-symbol rests rs xs ys l i) (go n (suc i))
+pub straight-width : (f : Format) → getD (widthsOf f) 11 0 ≡ cond (hasSeconds f) 9 0
+unfolding widthsOf runs fields timeFields seconds minutes hours days tenths hundredths straightSeconds control
+straight-width f = refl
 
-pub low-written : (f : Format) (t : Time) (w : ℕ) (xs : List ℕ) → LowBits (runs f) xs (spread (fields f) (numbers t w)) → encode (size f) (rest f) (runs f) xs ≡ written f t w
-unfolding written
-low-written f t w xs l = same-frame (size f) (rest f) (runs f) xs (spread (fields f) (numbers t w)) l
+straight-part : (f : Format) (x straight : ℕ) → x < 131072 → straight ≡ cond (eqb (getD (widthsOf f) 11 0) 0) 0 x → straight % 512 ∷ straight / 512 ∷ [] ≡ digitsOf (straightSeconds f) x
+unfolding straightSeconds
+straight-part f x straight l e =
+    by-test (hasSeconds f)
+    (λ y.
+    let same : straight ≡ x = e ∙ rw (straight-width f, y) in
+    let top : x / 512 ≡ x / 512 % 256 = omega arith in
+    rw (y, same) (ap (λ (n : ℕ). x % 512 ∷ n ∷ []) top))
+    (λ m.
+    let none : straight ≡ 0 = e ∙ rw (straight-width f, m) in
+    rw (m, none) (ap₂ (λ (a b : ℕ). a ∷ b ∷ []) (sym (mod-one x)) (sym (mod-one (x / 1)))))
 
-pub low-length : (rs : List Run) (xs ys : List ℕ) → LowBits rs xs ys → length xs ≡ length rs
-low-length [] [] [] l = refl
-low-length [] [] (y ∷ ys) l = absurd l
-low-length [] (x ∷ xs) ys l = absurd l
-low-length (r ∷ rs) [] ys l = absurd l
-low-length (r ∷ rs) (x ∷ xs) [] l = absurd l
-low-length (r ∷ rs) (x ∷ xs) (y ∷ ys) l = ap suc (low-length rs xs ys (l .1))
+-- ---- the control word in ranges of nine bits
 
--- ---- the digits that the code makes
+-- the digits of x, nine bits each
+abbrev ninesOf : ℕ → ℕ → List ℕ
+ninesOf zero x = []
+ninesOf (suc n) x = x % 512 ∷ ninesOf n (x / 512)
 
-unfoldable pub rawDigits : Format → Time → ℕ → List ℕ
-rawDigits f t w =
-    second (t .hundredths) % 10 ∷ second (t .hundredths) / 10 % 10 ∷ minute (t .hundredths) % 10 ∷ minute (t .hundredths) / 10 % 10 ∷ hour (t .hundredths) % 10 ∷ hour (t .hundredths) / 10 % 10
-    ∷ t .day % 10 ∷ t .day / 10 % 10 ∷ t .day / 10 / 10 % 10 ∷ t .hundredths / 10 % 10 ∷ t .hundredths % 10
-    ∷ t .hundredths / 100 ∷ t .hundredths / 100 / 2 ^ 9
-    ∷ w ∷ w / 2 ^ getD (widthsOf f) 13 0 ∷ w / 2 ^ getD (widthsOf f) 13 0 / 2 ^ getD (widthsOf f) 14 0
-    ∷ w / 2 ^ getD (widthsOf f) 13 0 / 2 ^ getD (widthsOf f) 14 0 / 2 ^ getD (widthsOf f) 15 0
-    ∷ w / 2 ^ getD (widthsOf f) 13 0 / 2 ^ getD (widthsOf f) 14 0 / 2 ^ getD (widthsOf f) 15 0 / 2 ^ getD (widthsOf f) 16 0 ∷ []
+-- the ranges that are carried come first
+abbrev carriedFirst : Field → Bool
+carriedFirst [] = true
+carriedFirst (r ∷ rs) = cond (eqb (r .width) 9) (carriedFirst rs) (eqb (totalWidth (r ∷ rs)) 0)
 
-mod-twice : (x w : ℕ) → x % 2 ^ w ≡ x % 2 ^ w % 2 ^ w
-mod-twice x w = sym (mod-eq-of-lt (mod-lt x (pow-pos w)))
+-- ranges that are not carried have the digits of 0
+none-carried : (d : Field) → Binary d → totalWidth d ≡ 0 → digitsOf d 0 ≡ ninesOf (length d) 0
+none-carried [] b h = refl
+none-carried (r ∷ rs) b h =
+    let width : r .width ≡ 0 = omega arith in
+    let radix : r .radix ≡ 1 = b .0 ∙ ap (λ (n : ℕ). 2 ^ n) width in
+    rw radix (ap (λ (xs : List ℕ). 0 ∷ xs) (none-carried rs (b .1) (omega arith)))
 
-straight-high : (f : Format) (x : ℕ) → x / 2 ^ 9 % 2 ^ cond (hasSeconds f) 8 0 ≡ x / 2 ^ cond (hasSeconds f) 9 0 % 2 ^ cond (hasSeconds f) 8 0 % 2 ^ cond (hasSeconds f) 8 0
-straight-high f x = by-test (hasSeconds f) (λ y. rw y (mod-twice (x / 2 ^ 9) 8)) (λ m. rw m (mod-one (x / 2 ^ 9) ∙ sym (mod-one (x / 2 ^ 0 % 2 ^ 0))))
+nines : (d : Field) → Binary d → carriedFirst d ≡ true → (x : ℕ) → x < 2 ^ totalWidth d → digitsOf d x ≡ ninesOf (length d) x
+nines [] b h x l = refl
+nines (r ∷ rs) b h x l =
+    by-test (eqb (r .width) 9)
+    (λ y.
+    let width = eqb-true (r .width) 9 y in
+    let radix : r .radix ≡ 512 = b .0 ∙ ap (λ (n : ℕ). 2 ^ n) width in
+    let all : r .width + totalWidth rs ≡ totalWidth rs + 9 = omega arith in
+    rw radix (ap (λ (xs : List ℕ). x % 512 ∷ xs) (nines rs (b .1) (rw y at h) (x / 512) (shr-lt (totalWidth rs) 9 (rw all at l)))))
+    (λ m.
+    let width : r .width + totalWidth rs ≡ 0 = eqb-true (r .width + totalWidth rs) 0 (rw m at h) in
+    let none : x < 2 ^ 0 = rw width at l in
+    let zero-is : x ≡ 0 = omega arith in
+    rw zero-is (none-carried (r ∷ rs) b width))
 
--- a digit below ten is its own last digit
-digit-twice : (x w : ℕ) → x % 10 % 2 ^ w ≡ x % 10 % 10 % 2 ^ w
-digit-twice x w = ap (λ (n : ℕ). n % 2 ^ w) (omega arith)
+-- the ranges that are carried are in a row, and the first of all or the second begins it
+abbrev inRow : Field → Bool
+inRow [] = true
+inRow (r ∷ rs) = cond (eqb (r .width) 9) (carriedFirst rs) (eqb (r .width) 0 && carriedFirst rs)
 
-pub raw-low : (f : Format) (t : Time) (w : ℕ) → LowBits (runs f) (rawDigits f t w) (spread (fields f) (numbers t w))
-unfolding rawDigits widthsOf runs fields timeFields numbers timeNumbers seconds minutes hours days tenths hundredths straightSeconds control controlRange
-raw-low f t w =
-    let straight : LowBits (straightSeconds f ++ (control f ++ [])) (drop 11 (rawDigits f t w)) (drop 11 (spread (fields f) (numbers t w))) = (
-      mod-twice (t .hundredths / 100) _,
-      (straight-high f (t .hundredths / 100), (mod-twice _ _, (mod-twice _ _, (mod-twice _ _, (mod-twice _ _, (mod-twice _ _, tt)))))),
-    ) in
-    (refl, (refl, (refl, (refl, (refl, (refl, (refl, (refl, (refl, (digit-twice _ _, (digit-twice _ _, straight)))))))))))
+-- where the first is not carried, a word of nine more bits has the word's digits from the second on
+moved-nines : (r : Run) (rs : Field) → Binary (r ∷ rs) → inRow (r ∷ rs) ≡ true → (w word : ℕ) → w < 2 ^ totalWidth (r ∷ rs) → word ≡ w * 2 ^ (9 - r .width)
+    → word % 512 ∷ ninesOf (length rs) (word / 512) ≡ digitsOf (r ∷ rs) w
+moved-nines r rs b h w word l e =
+    by-test (eqb (r .width) 9)
+    (λ y.
+    let width = eqb-true (r .width) 9 y in
+    let radix : r .radix ≡ 512 = b .0 ∙ ap (λ (n : ℕ). 2 ^ n) width in
+    let same : word ≡ w = e ∙ ap (λ (n : ℕ). w * 2 ^ (9 - n)) width ∙ mul-one w in
+    let all : r .width + totalWidth rs ≡ totalWidth rs + 9 = omega arith in
+    rw (same, radix) (ap (λ (xs : List ℕ). w % 512 ∷ xs) (sym (nines rs (b .1) (rw y at h) (w / 512) (shr-lt (totalWidth rs) 9 (rw all at l))))))
+    (λ m.
+    let both : (eqb (r .width) 0 && carriedFirst rs) ≡ true = rw m at h in
+    let width = eqb-true (r .width) 0 (and-left (eqb (r .width) 0) (carriedFirst rs) both) in
+    let radix : r .radix ≡ 1 = b .0 ∙ ap (λ (n : ℕ). 2 ^ n) width in
+    let moved : word ≡ w * 512 = e ∙ ap (λ (n : ℕ). w * 2 ^ (9 - n)) width in
+    let all : r .width + totalWidth rs ≡ totalWidth rs = omega arith in
+    rw (moved, radix)
+    (ap₂ (λ (x : ℕ) (xs : List ℕ). x ∷ xs) (mul-mod-left w 512 ∙ sym (mod-one w))
+    (ap (ninesOf (length rs)) (mul-div-cancel w (omega arith) ∙ sym (div-one w)) ∙ sym (nines rs (b .1) (and-right (eqb (r .width) 0) (carriedFirst rs) both) (w / 1) (rw (div-one w, ← all) l)))))
+
+all-in-row : everyFormat (λ f. inRow (control f)) ≡ true
+unfolding everyFormat table control controlRange carriesControl rowOf lookUp
+all-in-row = refl
+
+control-part : (f : Format) → known f ≡ true → (w word : ℕ) → w < 2 ^ totalWidth (control f) → word ≡ w * 2 ^ (9 - getD (widthsOf f) 13 0)
+    → word % 512 ∷ word / 512 % 512 ∷ word / 512 / 512 % 512 ∷ word / 512 / 512 / 512 % 512 ∷ word / 512 / 512 / 512 / 512 % 512 ∷ [] ≡ digitsOf (control f) w
+unfolding widthsOf runs fields timeFields seconds minutes hours days tenths hundredths straightSeconds control
+control-part f k w word l e = moved-nines (controlRange f 50) (drop 1 (control f)) (control-binary f) (of-every (λ f. inRow (control f)) all-in-row f k) w word l e
+
+-- ---- all digits
+
+-- the digits that the code makes of a time, its straight binary seconds and a control word moved to its first range
+unfoldable pub splitDigits : Time → ℕ → ℕ → List ℕ
+splitDigits t straight word =
+    second (t .hundredths) % 10 ∷ second (t .hundredths) / 10 ∷ minute (t .hundredths) % 10 ∷ minute (t .hundredths) / 10 ∷ hour (t .hundredths) % 10 ∷ hour (t .hundredths) / 10
+    ∷ t .day % 10 ∷ t .day / 10 % 10 ∷ t .day / 10 / 10 ∷ t .hundredths / 10 % 10 ∷ t .hundredths % 10
+    ∷ straight % 512 ∷ straight / 512
+    ∷ word % 512 ∷ word / 512 % 512 ∷ word / 512 / 512 % 512 ∷ word / 512 / 512 / 512 % 512 ∷ word / 512 / 512 / 512 / 512 % 512 ∷ []
+
+pub split-digits : (f : Format) (t : Time) (w straight word : ℕ) → Valid f t w → straight ≡ cond (eqb (getD (widthsOf f) 11 0) 0) 0 (t .hundredths / 100) → word ≡ w * 2 ^ (9 - getD (widthsOf f) 13 0)
+    → splitDigits t straight word ≡ spread (fields f) (numbers t w)
+unfolding splitDigits fields timeFields numbers timeNumbers seconds minutes hours days tenths hundredths control
+split-digits f t w straight word v p q =
+    λ i. time-part f t (v .time) i ++ (straight-part f (t .hundredths / 100) straight (omega (arith, v .time .below)) p i ++ control-part f (v .format) w word (v .room) q i)
+
+pub total-control : (f : Format) → totalWidth (control f) ≡ getD (widthsOf f) 13 0 + getD (widthsOf f) 14 0 + getD (widthsOf f) 15 0 + getD (widthsOf f) 16 0 + getD (widthsOf f) 17 0
+unfolding widthsOf runs fields timeFields seconds minutes hours days tenths hundredths straightSeconds control
+total-control f = omega arith
+
+-- the control word moved loses no bit
+pub moved-fits : (f : Format) (w width : ℕ) → Widths (widthsOf f) → w < 2 ^ totalWidth (control f) → width ≤ 9 → w * 2 ^ (9 - width) % 18446744073709551616 ≡ w * 2 ^ (9 - width)
+moved-fits f w width s l n =
+    let room : totalWidth (control f) ≤ 45 = omega (arith, total-control f, s .small 13, s .small 14, s .small 15, s .small 16, s .small 17) in
+    shl-exact 45 (9 - width) 64 (omega (arith, l, pow-mono {i = totalWidth (control f)} {j = 45} room)) (omega arith)
 
 -- ---- the control word fits where nothing is left of it above the bits that are carried
 
@@ -119,10 +172,6 @@ fits-shift w n =
     let above = ltb-false w (2 ^ n) m in
     let close : w < w / 2 ^ n * 2 ^ n + 2 ^ n = lt-div-mul-add (pow-pos n) in
     rw (m, ne-eqb (w / 2 ^ n) 0 (λ q. let none : w < 0 * 2 ^ n + 2 ^ n = rw q at close in omega arith)))
-
-pub total-control : (f : Format) → totalWidth (control f) ≡ getD (widthsOf f) 13 0 + getD (widthsOf f) 14 0 + getD (widthsOf f) 15 0 + getD (widthsOf f) 16 0 + getD (widthsOf f) 17 0
-unfolding widthsOf runs fields timeFields seconds minutes hours days tenths hundredths straightSeconds control
-total-control f = omega arith
 
 -- a shift by at most 9 of a number that small loses nothing
 pub join-fits : (low width high : ℕ) → low < 512 → width ≤ 9 → high < 1000000000000 → (high * 2 ^ width % 18446744073709551616 ≡ 2 ^ width * high) × (low + 2 ^ width * high < 512 * (high + 1))

@@ -1,14 +1,16 @@
 // A time and a control word as the digits at a format's runs, and what digits say: numbers 7 and 8, the time and the control word.
-// Written digits may have more bits than their runs; read ones come from a frame in which nothing offends.
+// Written digits are those of a time and a control word that Write takes; read ones come from a frame in which nothing offends.
 ghost use mathlib.Core.Path.{_≡_};
-ghost use mathlib.Core.Bool.{true};
+ghost use mathlib.Core.Bool.{true, cond};
 ghost use Prim.Native.Nat.{_+_, _*_, _^_, _≤_, _<_};
+ghost use lib.Dec.{eqb};
 ghost use lib.ListN.{getD, length};
 ghost use Rattle.timecode.specs.Frames.{controlFits, lastSecond};
-ghost use Rattle.timecode.specs.Layout.{runs, fields, numbers, spread};
+ghost use Rattle.timecode.specs.Laws.Reading.{Valid};
+ghost use Rattle.timecode.specs.Layout.{fields, numbers, spread};
 ghost use Rattle.layout.specs.Tables.{widthsOf};
-ghost use Rattle.digits.specs.Saying.{two, dayOf, digitsFrom, isTimeOf, timeOf, agreeOf, controlOf, meaningOf};
-ghost use Rattle.digits.specs.Splitting.{Widths, Digits, LowBits};
+ghost use Rattle.digits.specs.Saying.{two, dayOf, digitsFrom, isTimeOf, timeOf, agreeOf, controlOf, meaningOf, Bounds};
+ghost use Rattle.digits.specs.Splitting.{Widths, Digits};
 use layout::carries_leap;
 use timecode::Format;
 use timecode::Reading;
@@ -36,11 +38,23 @@ pub fn control_fits(format: Format, widths: &[u8], control: u64) -> bool
     control >> bits == 0
 }
 
-// The digits of a time and a control word, right as far as the runs are wide. The added second is one more than the second
-// before it: 23:59:60.
+// The number where the format carries run j, else 0.
+fn carried(widths: &[u8], j: usize, x: u64) -> u64
+    requires { ⌜ Widths (now widths) × (j < 18) ⌝ }
+    ensures { λ r. ⌜ r ≡ cond (eqb (getD (now (widths .entry)) j 0) 0) 0 x ⌝ }
+{
+    if width(widths, j) == 0 {
+        return 0;
+    }
+    x
+}
+
+// The digits of a time and a control word. The added second is one more than the second before it: 23:59:60.
+// Where the first of its ranges is not carried, the control word is moved up to the second; a word that fits has no bits for
+// ranges behind the last that is carried.
 pub fn digits_of(format: Format, widths: &[u8], time: Time, control: u64) -> [u64; 18]
-    requires { ⌜ Widths (now widths) × (now widths ≡ widthsOf format) ⌝ }
-    ensures { λ r. ⌜ LowBits (runs format) r (spread (fields format) (numbers time control)) ⌝ }
+    requires { ⌜ Widths (now widths) × (now widths ≡ widthsOf format) × Valid format time control ⌝ }
+    ensures { λ r. ⌜ r ≡ spread (fields format) (numbers time control) ⌝ }
 {
     let day = time.day as u64;
     let c = time.hundredths as u64;
@@ -50,29 +64,27 @@ pub fn digits_of(format: Format, widths: &[u8], time: Time, control: u64) -> [u6
     let second = usual % 60 + added;
     let minute = usual / 60 % 60;
     let hour = usual / 60 / 60;
-    let control2 = control >> width(widths, 13);
-    let control3 = control2 >> width(widths, 14);
-    let control4 = control3 >> width(widths, 15);
-    let control5 = control4 >> width(widths, 16);
+    let straight = carried(widths, 11, seconds);
+    let word = control << (9 - width(widths, 13));
     [
         second % 10,
-        second / 10 % 10,
+        second / 10,
         minute % 10,
-        minute / 10 % 10,
+        minute / 10,
         hour % 10,
-        hour / 10 % 10,
+        hour / 10,
         day % 10,
         day / 10 % 10,
-        day / 10 / 10 % 10,
+        day / 10 / 10,
         c / 10 % 10,
         c % 10,
-        seconds,
-        seconds >> 9,
-        control,
-        control2,
-        control3,
-        control4,
-        control5,
+        straight % 512,
+        straight / 512,
+        word % 512,
+        word / 512 % 512,
+        word / 512 / 512 % 512,
+        word / 512 / 512 / 512 % 512,
+        word / 512 / 512 / 512 / 512 % 512,
     ]
 }
 
@@ -146,8 +158,8 @@ fn is_time(format: Format, digits: &[u64]) -> bool
     false
 }
 
-fn time_in(format: Format, digits: &[u64]) -> Time
-    requires { ⌜ Digits (now digits) × (isTimeOf format (now digits) ≡ true) ⌝ }
+fn time_in(digits: &[u64]) -> Time
+    requires { ⌜ Digits (now digits) × Bounds (now digits) ⌝ }
     ensures { λ r. ⌜ r ≡ timeOf (now (digits .entry)) ⌝ }
 {
     let hundredths = ((pair(digits, 4) * 60 + pair(digits, 2)) * 60 + pair(digits, 0)) * 100
@@ -197,7 +209,7 @@ pub fn meaning(format: Format, widths: &[u8], digits: &[u64]) -> Reading
     ensures { λ r. ⌜ r ≡ meaningOf format (now (digits .entry)) ⌝ }
 {
     if is_time(format, digits) {
-        let time = time_in(format, digits);
+        let time = time_in(digits);
         if seconds_agree(format, widths, digits, time) {
             return Reading::Accepted(time, control_in(format, widths, digits));
         }

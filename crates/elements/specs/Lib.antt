@@ -1,2 +1,4 @@
 pub mod Stamps
 pub mod Turns
+pub mod Packing
+pub mod Tens

@@ -1,22 +1,21 @@
 -- The format's runs one by one: what a turn of the loops over them does.
-use mathlib.Core.Path.{_≡_, refl, sym, ap, ap₂, _∙_}
-use mathlib.Core.Bool.{Bool, true, _&&_}
+use mathlib.Core.Path.{_≡_, refl, ap, ap₂, _∙_}
+use mathlib.Core.Bool.{Bool, true, cond, _&&_}
 use mathlib.Core.List.{List, [], _∷_, map}
 use Prim.Native.Nat.{ℕ, zero, suc, _+_, _*_, _-_, _<_, _≤_}
 use native.Mathlib.Omega.{arith}
-use borrow.Author.Tests.{leb-true}
-use lib.Dec.{leb}
-use lib.ListN.{getD, length, drop, drop-of-length-le, List·getD-map}
-use lib.Seq.{drop-cons}
+use borrow.Author.Tests.{leb-true, lt-ltb}
+use lib.Dec.{leb, ltb}
+use lib.ListN.{getD, length, List·getD-map}
+use lib.Pow.{pow-mono}
 use Rattle.timecode.specs.Formats.{table, lookUp, rowOf, known, size, carriesControl, carriesSeconds}
 use Rattle.timecode.specs.Laws.Digits.{decode}
-use Rattle.timecode.specs.Laws.Runs.{place-in, held-inside, held-at}
+use Rattle.timecode.specs.Laws.Runs.{Small, place-in, held-inside, held-at}
 use Rattle.timecode.specs.Laws.Table.{everyFormat, of-every, layout-proper}
 use Rattle.timecode.specs.Laws.Tests.{and-left, and-right}
-use Rattle.timecode.specs.Layout.{Run, seconds, minutes, hours, days, tenths, hundredths, hasSeconds, straightSeconds, controlRange, control, timeFields, fields, runs, rest, encode, tabulate, value}
+use Rattle.timecode.specs.Layout.{Run, seconds, minutes, hours, days, tenths, hundredths, hasSeconds, straightSeconds, controlRange, control, timeFields, fields, runs, rest, tabulate, value}
 use Rattle.timecode.specs.declared.Format.{Format}
 use Rattle.layout.specs.Tables.{startsOf, widthsOf}
-use Rattle.elements.specs.Stamps.{stamp, stamp-encode}
 
 abbrev noRun : Run
 noRun = record { start = 0; width = 0; radix = 1 }
@@ -31,6 +30,10 @@ length-runs f = refl
 pub length-widths : (f : Format) → length (widthsOf f) ≡ 18
 unfolding widthsOf runs fields timeFields seconds minutes hours days tenths hundredths straightSeconds control
 length-widths f = refl
+
+pub length-starts : (f : Format) → length (startsOf f) ≡ 18
+unfolding startsOf runs fields timeFields seconds minutes hours days tenths hundredths straightSeconds control
+length-starts f = refl
 
 start-at : (f : Format) (j : ℕ) → getD (startsOf f) j 0 ≡ runAt f j .start
 unfolding startsOf
@@ -73,25 +76,33 @@ pub runs-narrow : (f : Format) → known f ≡ true → Narrow (runs f)
 unfolding widthsOf
 runs-narrow f k = narrow (runs f) (of-every (λ f. allSmall (widthsOf f)) widths-small f k)
 
+pub small-digit : (rs : List Run) (xs : List ℕ) → Narrow rs → Small rs xs → (j : ℕ) → getD xs j 0 < 512
+small-digit [] [] n s j = omega arith
+small-digit [] (x ∷ xs) n s j = absurd s
+small-digit (r ∷ rs) [] n s j = omega arith
+small-digit (r ∷ rs) (x ∷ xs) n s zero = omega (arith, s .0, pow-mono {i = r .width} {j = 9} (n .0))
+small-digit (r ∷ rs) (x ∷ xs) n s (suc j) = small-digit rs xs (n .1) (s .1) j
+
 pub run-inside : (f : Format) → known f ≡ true → (j k : ℕ) → j < 18 → k < getD (widthsOf f) j 0 → getD (startsOf f) j 0 + k < size f
 run-inside f h j k b l =
     let w : k < runAt f j .width = rw (width-at f j) at l in
     rw (start-at f j)
     (held-inside (size f) (rest f) (runs f) (layout-proper f h) (runAt f j .start + k) (held-at (runs f) noRun j (runAt f j .start + k) (omega (arith, length-runs f)) (place-in (runAt f j) k w)) .0)
 
--- ---- writing, from the last run to the first
+-- ---- runs that begin before 60 begin by 50: nine bits that are moved there lose none
 
-pub fill-start : (n : ℕ) (f : Format) (xs : List ℕ) → length xs ≡ 18 → encode n (rest f) [] [] ≡ encode n (rest f) (drop 18 (runs f)) (drop 18 xs)
-fill-start n f xs l =
-    ap₂ (λ (rs : List Run) (ys : List ℕ). encode n (rest f) rs ys) (sym (drop-of-length-le (runs f) {i = 18} (omega (arith, length-runs f)))) (sym (drop-of-length-le xs {i = 18} (omega arith)))
+abbrev allNear : ℕ → ℕ → List ℕ → Bool
+allNear last to [] = true
+allNear last to (s ∷ ss) = cond (ltb s to) (leb s last) true && allNear last to ss
 
-pub fill-turn : (n : ℕ) (f : Format) (xs frame : List ℕ) (j s w : ℕ) → length xs ≡ 18 → 0 < j → j ≤ 18 → s ≡ getD (startsOf f) (j - 1) 0 → w ≡ getD (widthsOf f) (j - 1) 0
-    → frame ≡ encode n (rest f) (drop j (runs f)) (drop j xs) → stamp frame s w (getD xs (j - 1) 0) ≡ encode n (rest f) (drop (j - 1) (runs f)) (drop (j - 1) xs)
-fill-turn n f xs frame j s w l a b p q e =
-    let h : suc (j - 1) ≡ j = omega arith in
-    let front : drop (j - 1) (runs f) ≡ runAt f (j - 1) ∷ drop j (runs f) = rw h at (drop-cons (runs f) (j - 1) noRun (omega (arith, length-runs f))) in
-    let behind : drop (j - 1) xs ≡ getD xs (j - 1) 0 ∷ drop j xs = rw h at (drop-cons xs (j - 1) 0 (omega arith)) in
-    rw (e, p ∙ start-at f (j - 1), q ∙ width-at f (j - 1), front, behind) (stamp-encode n (rest f) (runAt f (j - 1)) (drop j (runs f)) (getD xs (j - 1) 0) (drop j xs))
+near-at : (last to : ℕ) (ss : List ℕ) → allNear last to ss ≡ true → (j : ℕ) → getD ss j 0 < to → getD ss j 0 ≤ last
+near-at last to [] h j l = omega arith
+near-at last to (s ∷ ss) h zero l = leb-true s last (rw (lt-ltb s to l) at (and-left (cond (ltb s to) (leb s last) true) (allNear last to ss) h))
+near-at last to (s ∷ ss) h (suc j) l = near-at last to ss (and-right (cond (ltb s to) (leb s last) true) (allNear last to ss) h) j l
+
+pub head-starts : (f : Format) (j : ℕ) → getD (startsOf f) j 0 < 60 → getD (startsOf f) j 0 ≤ 50
+unfolding startsOf runs fields timeFields seconds minutes hours days tenths hundredths straightSeconds control controlRange
+head-starts f = near-at 50 60 (startsOf f) refl
 
 -- ---- reading, from the first run to the last
 

@@ -1,19 +1,40 @@
 // Digits at their runs as the elements of a frame, and back: the layout's own writing and reading, without a time.
-// The calls here are the frame's own; they ask for a known format and for frames as long as the format's.
+// The calls here are the frame's own; they ask for a known format and for frames as long as the format's, in writing also of 100.
 ghost use mathlib.Core.Path.{_≡_};
-ghost use mathlib.Core.Bool.{true};
-ghost use mathlib.Core.List.{[]};
-ghost use Prim.Native.Nat.{ℕ, _+_, _*_, _≤_, _<_};
-ghost use lib.ListN.{getD, length, set};
+ghost use mathlib.Core.Bool.{true, false};
+ghost use Prim.Native.Nat.{ℕ, _+_, _*_, _-_, _/_, _%_, _^_, _≤_, _<_};
+ghost use lib.ListN.{getD, length};
 ghost use Rattle.timecode.specs.Formats.{known, size};
 ghost use Rattle.timecode.specs.Laws.Digits.{decode};
-ghost use Rattle.timecode.specs.Layout.{runs, rest, tabulate, encode, value};
+ghost use Rattle.timecode.specs.Laws.Runs.{Small};
+ghost use Rattle.timecode.specs.Layout.{runs, isMark, rest, encode, value};
 ghost use Rattle.timecode.specs.declared.Format.{Format};
-ghost use Rattle.layout.specs.Tables.{widthsOf};
-ghost use Rattle.elements.specs.Stamps.{zeros, stamp};
+ghost use Rattle.layout.specs.Tables.{startsOf, widthsOf, markPlaces};
+ghost use Rattle.elements.specs.Packing.{placedAt, packed};
+ghost use Rattle.elements.specs.Tens.{fourElements, ten, tens, IsFrame};
 use layout::mark_places;
 use layout::run_starts;
 use timecode::Format;
+
+// The four elements of each number below 16, a byte each, lowest weight first.
+const FOURS: [u32; 16] = [
+    0x0000_0000,
+    0x0000_0001,
+    0x0000_0100,
+    0x0000_0101,
+    0x0001_0000,
+    0x0001_0001,
+    0x0001_0100,
+    0x0001_0101,
+    0x0100_0000,
+    0x0100_0001,
+    0x0100_0100,
+    0x0100_0101,
+    0x0101_0000,
+    0x0101_0001,
+    0x0101_0100,
+    0x0101_0101,
+];
 
 fn wide(x: u8) -> usize
     ensures { λ r. ⌜ r ≡ x ⌝ }
@@ -21,62 +42,88 @@ fn wide(x: u8) -> usize
     x as usize
 }
 
-fn clear(frame: &mut [u8])
-    ensures { λ _. ⌜ now (frame .exit) ≡ tabulate (length (now (frame .entry))) 0 zeros ⌝ }
+// A digit's low nine bits, where its run begins from one index on and before the other; below 2^59, since no run begins late.
+fn placed(start: u8, digit: u64, from: u8, to: u8) -> u64
+    requires { ⌜ (start < to → start ≤ from + 50) ⌝ }
+    ensures { λ r. ⌜ (r ≡ placedAt from to start digit) × (r < 576460752303423488) ⌝ }
 {
-    let mut i = 0;
-    while i < frame.len() {
-        frame[i] = 0;
-        i += 1;
+    if start < from {
+        return 0;
     }
+    if to <= start {
+        return 0;
+    }
+    (digit % 512) << (start - from)
 }
 
-// A mark at that place, where the frame has it.
-fn mark(frame: &mut [u8], place: usize)
-    ensures { λ _. ⌜ now (frame .exit) ≡ set (now (frame .entry)) place 2 ⌝ }
+// The bits of all digits whose runs begin there.
+fn bits_from(digits: &[u64], from: u8, to: u8) -> u64
+    requires { ⌜ (length (now digits) ≡ 18) × ((f : Format) (j : ℕ) → getD (startsOf f) j 0 < to → getD (startsOf f) j 0 ≤ from + 50) ⌝ }
+    ensures { λ r. ⌜ ((f : Format) → r ≡ packed from to (startsOf f) (now (digits .entry))) ⌝ }
 {
-    if place < frame.len() {
-        frame[place] = 2;
-    }
-}
-
-// A frame of marks and index markers.
-fn blank(frame: &mut [u8])
-    requires { ⌜ length (now frame) ≤ 100 ⌝ }
-    ensures { λ _. ⌜ ((f : Format) → now (frame .exit) ≡ encode (length (now (frame .entry))) (rest f) [] []) ⌝ }
-{
-    clear(frame);
-    let places = mark_places();
-    let mut k = 0;
-    while k < 11 {
-        mark(frame, wide(places[k]));
-        k += 1;
-    }
-}
-
-// The low bits of x, as many as the run is wide, lowest first.
-fn put(frame: &mut [u8], start: usize, width: usize, x: u64)
-    requires { ⌜ (width ≤ 9) × ((k : ℕ) → k < width → start + k < length (now frame)) ⌝ }
-    ensures { λ _. ⌜ now (frame .exit) ≡ stamp (now (frame .entry)) start width x ⌝ }
-{
-    let mut k = 0;
-    while k < width {
-        frame[start + k] = ((x >> k) % 2) as u8;
-        k += 1;
-    }
-}
-
-// The digits at the format's runs, in a frame of the format or in a longer one.
-pub fn fill(format: Format, widths: &[u8], digits: &[u64], frame: &mut [u8])
-    requires { ⌜ (known format ≡ true) × (now widths ≡ widthsOf format) × (length (now digits) ≡ 18) × (size format ≤ length (now frame)) × (length (now frame) ≤ 100) ⌝ }
-    ensures { λ _. ⌜ now (frame .exit) ≡ encode (length (now (frame .entry))) (rest format) (runs format) (now (digits .entry)) ⌝ }
-{
-    blank(frame);
     let starts = run_starts();
+    let mut bits = 0;
     let mut j = 18;
     while 0 < j {
         j -= 1;
-        put(frame, wide(starts[j]), wide(widths[j]), digits[j]);
+        bits += placed(starts[j], digits[j], from, to);
+    }
+    bits
+}
+
+// Bit k of x, from the four elements that it stands among: the compiler stores those four at once.
+fn element(fours: &[u32], x: u64, k: usize) -> u8
+    requires { ⌜ (now fours ≡ fourElements) × (k < 8) ⌝ }
+    ensures { λ r. ⌜ r ≡ x / 2 ^ k % 2 ⌝ }
+{
+    let index = (x >> (k / 4 * 4)) % 16;
+    let four = fours[index as usize];
+    ((four >> (k % 4 * 8)) % 256) as u8
+}
+
+// Ten elements of a frame: nine bits and the mark behind them, and in the first ten the mark before them.
+fn put_ten(fours: &[u32], places: &[u8], frame: &mut [u8], k: usize, x: u64)
+    requires { ⌜ (now fours ≡ fourElements) × (now places ≡ markPlaces) × (10 * k + 10 ≤ length (now frame)) × (length (now frame) ≤ 100) ⌝ }
+    ensures { λ _. ⌜ now (frame .exit) ≡ ten (now (frame .entry)) k x ⌝ }
+{
+    let at = 10 * k;
+    let mut j = 0;
+    while j < 8 {
+        frame[at + j] = element(fours, x, j);
+        j += 1;
+    }
+    frame[at + 8] = (x / 256 % 2) as u8;
+    frame[wide(places[k + 1])] = 2;
+    if k == 0 {
+        frame[wide(places[k])] = 2;
+    }
+}
+
+// The tens from one on and before the other.
+fn put_tens(fours: &[u32], places: &[u8], frame: &mut [u8], from: usize, to: usize, bits: u64)
+    requires { ⌜ (now fours ≡ fourElements) × (now places ≡ markPlaces) × (10 * to ≤ length (now frame)) × (length (now frame) ≤ 100) × (from ≤ to) × (to ≤ from + 6) ⌝ }
+    ensures { λ _. ⌜ now (frame .exit) ≡ tens (now (frame .entry)) from to bits ⌝ }
+{
+    let mut k = from;
+    while k < to {
+        put_ten(fours, places, frame, k, bits >> (10 * (k - from)));
+        k += 1;
+    }
+}
+
+// The digits at the format's runs, in a frame of the format or of 100, from the digits and the tables alone: each right where
+// it fits its run, and in any case zeros, ones and marks.
+pub fn put_digits(format: Format, digits: &[u64], frame: &mut [u8])
+    requires { ⌜ (known format ≡ true) × (length (now digits) ≡ 18) × IsFrame (length (now frame)) ⌝ }
+    ensures { λ _. ⌜ (Small (runs format) (now (digits .entry)) → now (frame .exit) ≡ encode (length (now (frame .entry))) (rest format) (runs format) (now (digits .entry))) × ((i : ℕ) → i < length (now (frame .entry)) → isMark i ≡ false → getD (now (frame .exit)) i 0 < 2) × (length (now (frame .exit)) ≡ length (now (frame .entry))) ⌝ }
+{
+    let fours = FOURS;
+    let places = mark_places();
+    let head = bits_from(digits, 0, 60);
+    put_tens(&fours, &places, frame, 0, 6, head);
+    if frame.len() == 100 {
+        let tail = bits_from(digits, 60, 100);
+        put_tens(&fours, &places, frame, 6, 10, tail);
     }
 }
 

@@ -1,23 +1,26 @@
 // Write and Read: frames of all formats, each call equal to its definition for every input.
-// Read writes the digits that it finds again and compares; only a frame that differs is searched for what offends.
+// Write splits the time into digits once; the elements come from the digits alone. Read writes the digits that it finds again
+// and compares; only a frame that differs is searched for what offends.
 ghost use mathlib.Core.Path.{_≡_};
-ghost use mathlib.Core.Bool.{true};
+ghost use mathlib.Core.Bool.{true, _&&_};
 ghost use mathlib.Core.List.{List};
 ghost use Prim.Native.Nat.{ℕ, _≤_, _<_};
 ghost use lib.ListN.{getD, length};
 ghost use Rattle.timecode.specs.Formats.{known, size};
 ghost use Rattle.timecode.specs.Frames.{written, writeOf, writeLeaves, areSymbols, readOf};
 ghost use Rattle.timecode.specs.Laws.Digits.{decode};
+ghost use Rattle.timecode.specs.Laws.Reading.{Valid};
 ghost use Rattle.timecode.specs.Layout.{runs, rest, encode};
 ghost use Rattle.layout.specs.Tables.{widthsOf};
-ghost use Rattle.frame.specs.Offences.{shape, judged, offendedOf};
+ghost use Rattle.digits.specs.Splitting.{Widths};
+ghost use Rattle.frame.specs.Offences.{greatestDigits, shape, judged, offendedOf, offenceIn};
 use clock::on_format;
 use clock::second_carried;
 use digits::control_fits;
 use digits::digits_of;
 use digits::meaning;
 use elements::digits_in;
-use elements::fill;
+use elements::put_digits;
 use layout::frame_size;
 use layout::is_known;
 use layout::run_widths;
@@ -57,12 +60,12 @@ fn check_write(format: Format, time: Time, control: u64, bytes: usize) -> Writte
 }
 
 fn put_frame(format: Format, time: Time, control: u64, frame: &mut [u8])
-    requires { ⌜ (known format ≡ true) × (length (now frame) ≡ size format) ⌝ }
+    requires { ⌜ Valid format time control × (length (now frame) ≡ size format) ⌝ }
     ensures { λ _. ⌜ now (frame .exit) ≡ written format time control ⌝ }
 {
     let widths = run_widths(format);
     let digits = digits_of(format, &widths, time, control);
-    fill(format, &widths, &digits, frame);
+    put_digits(format, &digits, frame);
 }
 
 // Writes a time and a control word; every byte is set, or, where it refuses, none.
@@ -79,18 +82,26 @@ pub fn write(format: Format, time: Time, control: u64, frame: &mut [u8]) -> Writ
     }
 }
 
-// No symbol is above 3.
+fn both(first: bool, second: bool) -> bool
+    ensures { λ r. ⌜ r ≡ (first && second) ⌝ }
+{
+    if first {
+        return second;
+    }
+    false
+}
+
+// No symbol is above 3. Like `agree` it looks at every element: without a way out the compiler takes many at a time.
 fn are_symbols(frame: &[u8]) -> bool
     ensures { λ r. ⌜ r ≡ areSymbols (now (frame .entry)) ⌝ }
 {
+    let mut all = true;
     let mut i = 0;
     while i < frame.len() {
-        if 3 < frame[i] {
-            return false;
-        }
+        all = both(all, frame[i] <= 3);
         i += 1;
     }
-    true
+    all
 }
 
 // What is wrong with a symbol where the format's shape has this one: 0 nothing, else 5 or 6.
@@ -137,40 +148,32 @@ fn lowest_offence(form: &[u8], frame: &[u8]) -> Offence
     Offence::Nothing
 }
 
+// The greatest digit of each run.
+fn greatest_digits(widths: &[u8]) -> [u64; 18]
+    requires { ⌜ Widths (now widths) ⌝ }
+    ensures { λ r. ⌜ ((f : Format) → now (widths .entry) ≡ widthsOf f → r ≡ greatestDigits (runs f)) ⌝ }
+{
+    let mut digits = [0u64; 18];
+    let mut j = 0;
+    while j < 18 {
+        digits[j] = (1 << widths[j]) - 1;
+        j += 1;
+    }
+    digits
+}
+
 // The format's shape: 1 where a digit or bit stands, 2 at a mark, 0 at an index marker.
 fn shape_of(format: Format, widths: &[u8]) -> [u8; 100]
     requires { ⌜ (known format ≡ true) × (now widths ≡ widthsOf format) ⌝ }
     ensures { λ r. ⌜ r ≡ shape format ⌝ }
 {
-    let ones = [511u64; 18];
+    let digits = greatest_digits(widths);
     let mut form = [0u8; 100];
-    fill(format, widths, &ones, &mut form);
+    put_digits(format, &digits, &mut form);
     form
 }
 
-// The exact answer for a frame of symbols, by a search for what offends.
-fn search(format: Format, widths: &[u8], digits: &[u64], frame: &[u8]) -> Reading
-    requires { ⌜ (known format ≡ true) × (length (now frame) ≡ size format) × (areSymbols (now frame) ≡ true) × (now widths ≡ widthsOf format) × (now digits ≡ decode (runs format) (now frame)) ⌝ }
-    ensures { λ r. ⌜ r ≡ readOf format (now (frame .entry)) ⌝ }
-{
-    let form = shape_of(format, widths);
-    let offence = lowest_offence(&form, frame);
-    match offence {
-        Offence::At(refusal) => Reading::Refused(refusal),
-        Offence::Nothing => meaning(format, widths, digits),
-    }
-}
-
-fn and_equal(before: bool, first: u8, second: u8) -> bool
-    ensures { λ r. ⌜ (r ≡ true → (before ≡ true) × (first ≡ second)) ⌝ }
-{
-    if first == second {
-        return before;
-    }
-    false
-}
-
-// The two agree as far as the frame goes. It looks at every element: without a way out the compiler takes many at a time.
+// The two agree as far as the frame goes.
 fn agree(form: &[u8], frame: &[u8]) -> bool
     requires { ⌜ length (now frame) ≤ length (now form) ⌝ }
     ensures { λ r. ⌜ (r ≡ true → (k : ℕ) → k < length (now (frame .entry)) → getD (now (frame .entry)) k 0 ≡ getD (now (form .entry)) k 0) ⌝ }
@@ -178,20 +181,35 @@ fn agree(form: &[u8], frame: &[u8]) -> bool
     let mut same = true;
     let mut i = 0;
     while i < frame.len() {
-        same = and_equal(same, frame[i], form[i]);
+        same = both(same, frame[i] == form[i]);
         i += 1;
     }
     same
 }
 
-// The frame is the one in which these digits stand.
-fn is_written(format: Format, widths: &[u8], digits: &[u64], frame: &[u8]) -> bool
-    requires { ⌜ (known format ≡ true) × (length (now frame) ≡ size format) × (now widths ≡ widthsOf format) × (length (now digits) ≡ 18) ⌝ }
-    ensures { λ r. ⌜ (r ≡ true → now (frame .entry) ≡ encode (size format) (rest format) (runs format) (now (digits .entry))) ⌝ }
+// The frame is the one in which its digits stand.
+fn is_written(format: Format, digits: &[u64], frame: &[u8]) -> bool
+    requires { ⌜ (known format ≡ true) × (length (now frame) ≡ size format) × (now digits ≡ decode (runs format) (now frame)) ⌝ }
+    ensures { λ r. ⌜ (r ≡ true → now (frame .entry) ≡ encode (size format) (rest format) (runs format) (decode (runs format) (now (frame .entry)))) ⌝ }
 {
     let mut form = [0u8; 100];
-    fill(format, widths, digits, &mut form);
+    put_digits(format, digits, &mut form);
     agree(&form, frame)
+}
+
+// What offends in the frame: a symbol above 3, or the element of the lowest index that offends.
+fn offence_in(format: Format, widths: &[u8], digits: &[u64], frame: &[u8]) -> Offence
+    requires { ⌜ (known format ≡ true) × (length (now frame) ≡ size format) × (now widths ≡ widthsOf format) × (now digits ≡ decode (runs format) (now frame)) ⌝ }
+    ensures { λ r. ⌜ r ≡ offenceIn format (now (frame .entry)) ⌝ }
+{
+    if is_written(format, digits, frame) {
+        return Offence::Nothing;
+    }
+    if are_symbols(frame) {
+        let form = shape_of(format, widths);
+        return lowest_offence(&form, frame);
+    }
+    Offence::At(Refusal::UnknownSymbol)
 }
 
 fn read_frame(format: Format, frame: &[u8]) -> Reading
@@ -200,13 +218,11 @@ fn read_frame(format: Format, frame: &[u8]) -> Reading
 {
     let widths = run_widths(format);
     let digits = digits_in(format, &widths, frame);
-    if is_written(format, &widths, &digits, frame) {
-        return meaning(format, &widths, &digits);
+    let offence = offence_in(format, &widths, &digits, frame);
+    match offence {
+        Offence::At(refusal) => Reading::Refused(refusal),
+        Offence::Nothing => meaning(format, &widths, &digits),
     }
-    if are_symbols(frame) {
-        return search(format, &widths, &digits, frame);
-    }
-    Reading::Refused(Refusal::UnknownSymbol)
 }
 
 // The time and the control word that the frame's elements say.

@@ -1,10 +1,12 @@
--- `digits_of` meets its contract.
+-- `digits_of` meets its contract: what it makes of the time, its seconds and the control word are the digits.
 use borrow.Author.Needs.{needs}
-use native.Mathlib.Omega.{arith}
-use mathlib.Core.Path.{refl, subst}
-use Rattle.digits.specs.Splitting.{rawDigits, raw-low}
-use Rattle.digits.specs.Splitting.{LowBits}
-use Rattle.timecode.specs.Layout.{runs, fields, numbers, spread}
+use mathlib.Core.Bool.{cond}
+use mathlib.Core.Path.{_≡_, ap, subst, _∙_}
+use Prim.Native.Nat.{_*_, _-_, _/_, _^_}
+use lib.Dec.{eqb}
+use lib.ListN.{getD}
+use Rattle.layout.specs.Tables.{widthsOf}
+use Rattle.digits.specs.Splitting.{Widths, splitDigits, split-digits, moved-fits}
 use Rattle.digits.proofs.digits_of.Statement.{statement}
 use Rattle.digits.proofs.digits_of.Tie as tie
 
@@ -15,44 +17,34 @@ cast-c : tie.Need-cast-c
 cast-c c = search needs
 
 sub-usual : tie.Need-sub-usual
-sub-usual c = omega arith
+sub-usual c = search needs
 
 add-second : tie.Need-add-second
-add-second c = omega arith
+add-second c = search needs
+
+carried-requires : tie.Need-carried-requires
+carried-requires c κs = search needs
 
 width-requires : tie.Need-width-requires
 width-requires c κs = search needs
 
-shr-control2 : tie.Need-shr-control2
-shr-control2 c = search needs
+sub-word : tie.Need-sub-word
+sub-word c = search needs
 
-width-requires-2 : tie.Need-width-requires-2
-width-requires-2 c κs = search needs
-
-shr-control3 : tie.Need-shr-control3
-shr-control3 c = search needs
-
-width-requires-3 : tie.Need-width-requires-3
-width-requires-3 c κs = search needs
-
-shr-control4 : tie.Need-shr-control4
-shr-control4 c = search needs
-
-width-requires-4 : tie.Need-width-requires-4
-width-requires-4 c κs = search needs
-
-shr-control5 : tie.Need-shr-control5
-shr-control5 c = search needs
+shl-word : tie.Need-shl-word
+shl-word c = search needs
 
 returns : tie.Need-returns
-unfolding rawDigits
+unfolding splitDigits
 returns c =
-    let f = c .before .before .before .before .before .before .before .args .format in
-    let t = c .before .before .before .before .before .before .before .args .time in
-    let w = c .before .before .before .before .before .before .before .args .control in
-    let same = c .before .before .before .before .before .before .before .pre .1 in
-    subst (λ ds. LowBits (runs f) ds (spread (fields f) (numbers t w)))
-    (rw (← same, ← c .before .before .before .width .ensures .0, ← c .before .before .width2 .ensures .0, ← c .before .width3 .ensures .0, ← c .width4 .ensures .0) refl) (raw-low f t w)
+    let a = c .before .before .before .before .before .args in
+    let given = c .before .before .before .before .before .pre in
+    let f = a .format in
+    let w = a .control in
+    let width : c .width .result ≡ getD (widthsOf f) 13 0 = c .width .ensures .0 ∙ ap (λ ws. getD ws 13 0) (given .1) in
+    split-digits f (a .time) w (c .before .carried .result) _ (given .2)
+    (c .before .carried .ensures ∙ ap (λ ws. cond (eqb (getD ws 11 0) 0) 0 (a .time .hundredths / 100)) (given .1))
+    (moved-fits f w (c .width .result) (subst Widths (given .1) (given .0)) (given .2 .room) (c .width .ensures .1) ∙ ap (λ n. w * 2 ^ (9 - n)) width)
 
 pub digits-of-spec : {M : Type 1} → statement M
 digits-of-spec =
@@ -62,12 +54,8 @@ digits-of-spec =
     cast-c
     sub-usual
     add-second
+    carried-requires
     width-requires
-    shr-control2
-    width-requires-2
-    shr-control3
-    width-requires-3
-    shr-control4
-    width-requires-4
-    shr-control5
+    sub-word
+    shl-word
     returns)

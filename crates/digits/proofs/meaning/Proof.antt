@@ -1,7 +1,7 @@
 -- `meaning` meets its contract: each way out is the definition's.
 use borrow.Author.Needs.{needs}
 use mathlib.Core.Path.{sym, _∙_}
-use Rattle.digits.specs.Saying.{meaningOf}
+use Rattle.digits.specs.Saying.{meaningOf, time-bounds}
 use Rattle.digits.proofs.meaning.Statement.{statement}
 use Rattle.digits.proofs.meaning.Tie as tie
 
@@ -9,7 +9,9 @@ is-time-requires : tie.Need-is-time-requires
 is-time-requires c κs = search needs
 
 time-in-requires : tie.Need-time-in-requires
-time-in-requires c κs = (c .before .before .before .before .pre .2, sym (c .before .is-time .ensures) ∙ c .if1 .taken)
+time-in-requires c κs =
+    let start = c .before .before .before .before in
+    (start .pre .2, time-bounds (start .args .format) (start .args .digits .now) (sym (c .before .is-time .ensures) ∙ c .if1 .taken))
 
 seconds-agree-requires : tie.Need-seconds-agree-requires
 seconds-agree-requires c κs = search needs

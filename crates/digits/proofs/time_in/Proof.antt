@@ -1,7 +1,7 @@
 -- `time_in` meets its contract: what is_time let pass fits.
 use borrow.Author.Needs.{needs}
 use native.Mathlib.Omega.{arith}
-use Rattle.digits.specs.Saying.{timeOf, time-bounds}
+use Rattle.digits.specs.Saying.{timeOf}
 use Rattle.digits.proofs.time_in.Statement.{statement}
 use Rattle.digits.proofs.time_in.Tie as tie
 
@@ -47,11 +47,11 @@ add-hundredths-4 c = omega (arith, c .before .before .before .before .before .be
 day-in-requires : tie.Need-day-in-requires
 day-in-requires c κs = search needs
 
-cast-t19 : tie.Need-cast-t19
-cast-t19 c = let b = time-bounds (c .before .before .before .before .before .before .before .args .format) (c .before .before .before .before .before .before .before .args .digits .now) (c .before .before .before .before .before .before .before .pre .1) in omega (arith, b .day, c .day-in .ensures)
+cast-t18 : tie.Need-cast-t18
+cast-t18 c = let b = c .before .before .before .before .before .before .before .pre .1 in omega (arith, b .day, c .day-in .ensures)
 
-cast-t20 : tie.Need-cast-t20
-cast-t20 c = let b = time-bounds (c .before .before .before .before .before .before .before .args .format) (c .before .before .before .before .before .before .before .args .digits .now) (c .before .before .before .before .before .before .before .pre .1) in omega (arith, b .hour, b .minute, b .second, b .tenth, b .hundredth, c .before .before .before .before .before .pair .ensures, c .before .before .before .before .pair2 .ensures, c .before .before .before .pair3 .ensures)
+cast-t19 : tie.Need-cast-t19
+cast-t19 c = let b = c .before .before .before .before .before .before .before .pre .1 in omega (arith, b .hour, b .minute, b .second, b .tenth, b .hundredth, c .before .before .before .before .before .pair .ensures, c .before .before .before .before .pair2 .ensures, c .before .before .before .pair3 .ensures)
 
 returns : tie.Need-returns
 unfolding timeOf
@@ -75,6 +75,6 @@ time-in-spec =
     shared-slice-read-hundredths-2
     add-hundredths-4
     day-in-requires
+    cast-t18
     cast-t19
-    cast-t20
     returns)

@@ -1,12 +1,12 @@
--- `put_frame` meets its contract.
+-- `put_frame` meets its contract: the digits of the time fit their runs, and the elements are theirs.
 use borrow.Author.Needs.{needs}
-use native.Mathlib.Omega.{arith}
-use mathlib.Core.Path.{ap, _∙_}
-use Rattle.digits.specs.Splitting.{low-length, low-written}
-use Rattle.elements.specs.Turns.{length-runs}
-use Rattle.timecode.specs.Laws.Table.{size-range}
-use Rattle.timecode.specs.Layout.{runs, rest, encode, fields, numbers, spread}
-use Rattle.frame.specs.Ways.{are-widths}
+use mathlib.Core.Path.{_≡_, sym, ap₂, subst, _∙_}
+use lib.ListN.{length}
+use Rattle.timecode.specs.Frames.{written}
+use Rattle.timecode.specs.Laws.Runs.{Small}
+use Rattle.timecode.specs.Laws.Writing.{written-small}
+use Rattle.timecode.specs.Layout.{runs, rest, encode}
+use Rattle.frame.specs.Ways.{are-widths, is-frame}
 use Rattle.frame.proofs.put_frame.Statement.{statement}
 use Rattle.frame.proofs.put_frame.Tie as tie
 
@@ -17,29 +17,31 @@ slice-aggregate-digits-of : tie.Need-slice-aggregate-digits-of
 slice-aggregate-digits-of c = search needs
 
 digits-of-requires : tie.Need-digits-of-requires
-digits-of-requires c κs = (are-widths (c .before .before .before .args .format) (c .before .before .before .pre .0) (c .before .run-widths .result) (c .before .run-widths .ensures), c .before .run-widths .ensures)
+digits-of-requires c κs =
+    let start = c .before .before .before in
+    let widths = c .before .run-widths in
+    (are-widths (start .args .format) (start .pre .0 .format) (widths .result) (widths .ensures), widths .ensures, start .pre .0)
 
-slice-aggregate-fill : tie.Need-slice-aggregate-fill
-slice-aggregate-fill c = search needs
+slice-aggregate-put-digits : tie.Need-slice-aggregate-put-digits
+slice-aggregate-put-digits c = search needs
 
-slice-aggregate-fill-2 : tie.Need-slice-aggregate-fill-2
-slice-aggregate-fill-2 c = search needs
-
-fill-requires : tie.Need-fill-requires
-fill-requires c κs =
-    let start = c .before .before .before .before .before .before .before in
-    let f = start .args .format in
-    let long = low-length (runs f) (c .before .before .before .digits-of .result) (spread (fields f) (numbers (start .args .time) (start .args .control))) (c .before .before .before .digits-of .ensures) ∙ length-runs f in
-    (start .pre .0, c .before .before .before .before .before .run-widths .ensures, long, omega (arith, start .pre .1), omega (arith, start .pre .1, size-range f))
+put-digits-requires : tie.Need-put-digits-requires
+put-digits-requires c κs =
+    let start = c .before .before .before .before .before .before in
+    let long : length (c .before .before .digits-of .result) ≡ 18 = search needs in
+    (start .pre .0 .format, long, is-frame (start .args .format) (length (start .args .frame .now)) (start .pre .1))
 
 same-length : tie.Need-same-length
 same-length c = search needs
 
 returns : tie.Need-returns
+unfolding written
 returns c =
-    let start = c .before .before .before .before .before .before .before .before .before .before in
+    let start = c .before .before .before .before .before .before .before .before .before in
     let f = start .args .format in
-    c .before .before .fill .ensures ∙ ap (λ n. encode n (rest f) (runs f) (c .before .before .before .before .before .before .digits-of .result)) (start .pre .1) ∙ low-written f (start .args .time) (start .args .control) (c .before .before .before .before .before .before .digits-of .result) (c .before .before .before .before .before .before .digits-of .ensures)
+    let digits = c .before .before .before .before .before .digits-of in
+    c .before .before .put-digits .ensures .0 (subst (Small (runs f)) (sym (digits .ensures)) (written-small f (start .args .time) (start .args .control) (start .pre .0)))
+    ∙ ap₂ (λ n xs. encode n (rest f) (runs f) xs) (start .pre .1) (digits .ensures)
 
 pub put-frame-spec : {M : Type 1} → statement M
 put-frame-spec =
@@ -48,8 +50,7 @@ put-frame-spec =
     run-widths-requires
     slice-aggregate-digits-of
     digits-of-requires
-    slice-aggregate-fill
-    slice-aggregate-fill-2
-    fill-requires
+    slice-aggregate-put-digits
+    put-digits-requires
     same-length
     returns)

@@ -15,7 +15,8 @@ enum-told c = search needs
 put-frame-requires : tie.Need-put-frame-requires
 put-frame-requires c κs =
     let start = c .before .before .before .before .before in
-    let t = taken (start .args .format) (start .args .time) (start .args .control) (start .args .frame .now) (sym (c .before .before .before .check-write .ensures (start .args .frame .now) refl) ∙ c .before .enum-told .given .1) in (t .0 .format, t .1)
+    let t = taken (start .args .format) (start .args .time) (start .args .control) (start .args .frame .now) (sym (c .before .before .before .check-write .ensures (start .args .frame .now) refl) ∙ c .before .enum-told .given .1) in
+    (t .0, t .1)
 
 enum-known-answer : tie.Need-enum-known-answer
 enum-known-answer c = search needs

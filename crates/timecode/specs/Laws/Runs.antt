@@ -66,7 +66,7 @@ length-encode n rests rs xs = length-tabulate n 0 (symbolAt rests rs xs)
 
 -- ---- one run
 
-in-run : (r : Run) (i : ℕ) → inRun r i ≡ true → (r .start ≤ i) × (i < r .start + r .width)
+pub in-run : (r : Run) (i : ℕ) → inRun r i ≡ true → (r .start ≤ i) × (i < r .start + r .width)
 in-run r i h = (
   leb-true (r .start) i (and-left (leb (r .start) i) (ltb i (r .start + r .width)) h),
   ltb-true i (r .start + r .width) (and-right (leb (r .start) i) (ltb i (r .start + r .width)) h),
@@ -134,9 +134,14 @@ module _ (n : ℕ) (rests : ℕ → ℕ) where
       let p = place-of-bit r i h in
       rw (p .0) at (clear-at rs (r .start) (r .width) (and-left (clear n rests rs (r .start) (r .width)) (proper n rests rs) t) (bitOf r i) (p .1))
 
-  later-proper : (rs : List Run) (r : Run) → proper n rests (r ∷ rs) ≡ true → proper n rests rs ≡ true
+  pub later-proper : (rs : List Run) (r : Run) → proper n rests (r ∷ rs) ≡ true → proper n rests rs ≡ true
   unfolding proper
   later-proper rs r t = and-right (clear n rests rs (r .start) (r .width)) (proper n rests rs) t
+
+  -- no later run holds an element of this one
+  pub held-once : (rs : List Run) (r : Run) → proper n rests (r ∷ rs) ≡ true → (i : ℕ) → inRun r i ≡ true → held rs i ≡ false
+  unfolding Clear
+  held-once rs r t i h = clear-in rs r t i h .2
 
   pub held-inside : (rs : List Run) → proper n rests rs ≡ true → (i : ℕ) → held rs i ≡ true → (i < n) × (eqb (rests i) 2 ≡ false)
   unfolding Clear

@@ -1,0 +1,93 @@
+//! Write over a million frames of G1 in succession: the library, and an earlier one where it is linked, beside Rust.
+
+use crate::plain::{self, Format, Time};
+use crate::{compare, format, heading, random, row, tuned, write_with, Side};
+
+const FRAMES: usize = 1_000_000;
+
+#[cfg(before)]
+extern "C" {
+    /// `duskveyra_write` of the library in DUSKVEYRA_BEFORE, under the name that build.rs gives it.
+    fn before_write(
+        letter: u8,
+        expression: u8,
+        day: u16,
+        hundredths: u32,
+        control: u64,
+        frame: *mut u8,
+        frame_length: usize,
+    ) -> u8;
+}
+
+/// Times in succession over a midnight, each with a control word of 36 bits.
+fn times() -> Vec<(Time, u64)> {
+    let mut state = 7;
+    (0..FRAMES as u32)
+        .map(|frame| {
+            let hundredths = (8_000_000 + frame) % 8_640_000;
+            let day = 300 + ((8_000_000 + frame) / 8_640_000) as u16;
+            let control = random(&mut state) & ((1 << 36) - 1);
+            (Time { day, hundredths }, control)
+        })
+        .collect()
+}
+
+/// A library's Write beside plain and tuned Rust.
+fn beside(
+    g: Format,
+    times: &[(Time, u64)],
+    write: impl Fn(Time, u64, &mut [u8]) -> bool,
+) -> Vec<Side> {
+    let library = |all| write_with(times, all, 100, &write);
+    let plain = |all| {
+        write_with(times, all, 100, |time, control, frame| {
+            plain::write(g, time, control, frame).is_ok()
+        })
+    };
+    let tuned = |all| {
+        write_with(times, all, 100, |time, control, frame| {
+            tuned::write(g, time, control, frame).is_ok()
+        })
+    };
+    assert!(library(true) == plain(true) && library(true) == tuned(true));
+    compare(
+        FRAMES,
+        &[&|| library(false), &|| plain(false), &|| tuned(false)],
+    )
+}
+
+pub fn rows() {
+    let g = format(b'G', 1);
+    let times = times();
+    heading("write, a million frames of G1");
+    #[cfg(before)]
+    row(
+        "before",
+        "frame",
+        beside(g, &times, |time, control, frame| {
+            let Time { day, hundredths } = time;
+            let (bytes, length) = (frame.as_mut_ptr(), frame.len());
+            // SAFETY: the pointer and the length are those of one slice.
+            let refused = unsafe {
+                before_write(
+                    g.letter,
+                    g.expression,
+                    day,
+                    hundredths,
+                    control,
+                    bytes,
+                    length,
+                )
+            };
+            refused == 0
+        }),
+    );
+    row(
+        "now",
+        "frame",
+        beside(g, &times, |time, control, frame| {
+            let (g, time) = (crate::library_format(g), crate::library_time(time));
+            duskveyra::write(g, time, control, frame).is_ok()
+        }),
+    );
+}

@@ -1,0 +1,92 @@
+-- `put_digits` meets its contract: the tens of the head, and in a frame of 100 those of the tail, are the digits' bits.
+use borrow.Author.Needs.{needs}
+use mathlib.Core.Path.{refl, sym, ap, ap₂, _∙_}
+use native.Mathlib.Omega.{arith}
+use lib.ListN.{length}
+use Rattle.timecode.specs.Layout.{tabulate}
+use Rattle.layout.specs.Tables.{startsOf}
+use Rattle.elements.specs.Packing.{packed, elementAt, digits-put}
+use Rattle.elements.specs.Tens.{frame-range, not-100, tens, length-tens, frame-of-60, frame-of-100}
+use Rattle.elements.specs.Turns.{head-starts}
+use Rattle.elements.proofs.put_digits.Statement.{statement}
+use Rattle.elements.proofs.put_digits.Tie as tie
+
+mark-places-requires : tie.Need-mark-places-requires
+mark-places-requires c κs = search needs
+
+bits-from-requires : tie.Need-bits-from-requires
+bits-from-requires c κs = (c .before .before .before .pre .1, λ f j h. head-starts f j (omega arith))
+
+slice-aggregate-put-tens : tie.Need-slice-aggregate-put-tens
+slice-aggregate-put-tens c = search needs
+
+slice-aggregate-put-tens-2 : tie.Need-slice-aggregate-put-tens-2
+slice-aggregate-put-tens-2 c = search needs
+
+put-tens-requires : tie.Need-put-tens-requires
+put-tens-requires c κs =
+    let start = c .before .before .before .before .before .before .before in
+    let n = frame-range (length (start .args .frame .now)) (start .pre .2) in
+    (refl, c .before .before .before .before .mark-places .ensures, omega (arith, n), omega (arith, n), omega arith, omega arith)
+
+bits-from-requires-2 : tie.Need-bits-from-requires-2
+bits-from-requires-2 c κs = (c .before .before .before .before .before .before .before .before .before .before .before .pre .1, λ f j h. omega arith)
+
+slice-aggregate-put-tens-3 : tie.Need-slice-aggregate-put-tens-3
+slice-aggregate-put-tens-3 c = search needs
+
+slice-aggregate-put-tens-4 : tie.Need-slice-aggregate-put-tens-4
+slice-aggregate-put-tens-4 c = search needs
+
+put-tens-requires-2 : tie.Need-put-tens-requires-2
+put-tens-requires-2 c κs = (refl, c .before .before .before .before .before .before .before .before .before .before .before .before .mark-places .ensures, omega (arith, c .before .before .before .before .if1 .taken), omega (arith, c .before .before .before .before .if1 .taken), omega arith, omega arith)
+
+same-length : tie.Need-same-length
+same-length c = ap length (c .before .before .put-tens2 .ensures) ∙ length-tens _ _ _ _ ∙ ap length (c .before .before .before .before .before .before .before .before .before .before .put-tens .ensures) ∙ length-tens _ _ _ _
+
+returns : tie.Need-returns
+returns c =
+    let start = c .before .before .before .before .before .before .before .before .before .before .before .before .before .before .before .before .before .before in
+    let f = start .args .format in
+    let frame = start .args .frame .now in
+    let head = c .before .before .before .before .before .before .before .before .before .before .before .before .before .before .bits-from in
+    let tail = c .before .before .before .before .before .before .bits-from2 in
+    let put = c .before .before .before .before .before .before .before .before .before .before .put-tens .ensures in
+    let n = sym (ap length put ∙ length-tens _ _ _ _) ∙ c .before .before .before .before .before .before .before .if1 .taken in
+    digits-put f (start .pre .0) (start .args .digits .now) (length frame) _ (omega arith)
+    (c .before .before .put-tens2 .ensures ∙ ap (λ ss. tens ss 6 10 (tail .result)) put ∙ frame-of-100 frame (head .result) (tail .result) n
+    ∙ ap₂ (λ h t. tabulate (length frame) 0 (elementAt h t)) (head .ensures f) (tail .ensures f))
+
+same-length-2 : tie.Need-same-length-2
+same-length-2 c = search needs
+
+returns-2 : tie.Need-returns-2
+returns-2 c =
+    let start = c .before .before .before .before .before .before .before .before .before .before .before in
+    let f = start .args .format in
+    let frame = start .args .frame .now in
+    let digits = start .args .digits .now in
+    let tail = packed 60 100 (startsOf f) digits in
+    let head = c .before .before .before .before .before .before .before .bits-from in
+    let put = c .before .before .before .put-tens .ensures in
+    let n = not-100 (length frame) (start .pre .2) (λ q. c .if1 .left (ap length put ∙ length-tens _ _ _ _ ∙ q)) in
+    digits-put f (start .pre .0) digits (length frame) _ (omega arith)
+    (put ∙ frame-of-60 frame (head .result) tail n ∙ ap (λ h. tabulate (length frame) 0 (elementAt h tail)) (head .ensures f))
+
+pub put-digits-spec : {M : Type 1} → statement M
+put-digits-spec =
+    tie.close
+    (tie.spec
+    mark-places-requires
+    bits-from-requires
+    slice-aggregate-put-tens
+    slice-aggregate-put-tens-2
+    put-tens-requires
+    bits-from-requires-2
+    slice-aggregate-put-tens-3
+    slice-aggregate-put-tens-4
+    put-tens-requires-2
+    same-length
+    returns
+    same-length-2
+    returns-2)
