@@ -37,7 +37,7 @@ part-hear-end c = omega (arith, c .part-end .ensures .1)
 
 hear-requires : tie.Need-hear-requires Inv-loop μ-loop
 hear-requires c κs = let long = length-part (c .before .before .before .before .before .before .before .before .args .bytes .now) (c .before .before .before .before .before .loop .taken) (c .before .before .part-end .result - c .before .before .before .before .before .loop .taken) (omega (arith, c .before .before .part-end .ensures .0, c .before .before .part-end .ensures .1)) in
-    (omega (arith, long, c .before .before .part-end .ensures .2), omega (arith, leb-true (c .before .before .before .before .before .loop .filled) 32704 (c .before .before .before .if1 .taken)), c .before .before .before .before .before .loop .inv .2)
+    (omega (arith, long, c .before .before .part-end .ensures .2), omega (arith, leb-true (c .before .before .before .before .before .loop .filled) _ (c .before .before .before .if1 .taken)), c .before .before .before .before .before .loop .inv .2)
 
 loop-less : tie.Need-loop-less Inv-loop μ-loop
 loop-less c = omega (arith, c .before .before .before .before .before .before .part-end .ensures .0, c .before .before .before .before .before .before .part-end .ensures .1)
@@ -50,7 +50,7 @@ same-length c = omega (arith, c .before .before .loop .inv .2, c .before .before
 
 returns : tie.Need-returns Inv-loop μ-loop
 returns c = let t = c .before .before .loop .inv .3 in
-    (c .before .before .loop .inv .2, t .reached, t .told, c .before .before .loop .inv .0, c .before .before .loop .inv .1, λ h. let n : ⊥ = omega (arith, leb-false (c .before .before .loop .filled) 32704 (c .if1 .left)) in absurd n, λ h. some-taken _ _ _ (c .before .before .loop .inv .4) (leb-false _ _ (c .if1 .left)))
+    (c .before .before .loop .inv .2, t .reached, t .told, c .before .before .loop .inv .0, c .before .before .loop .inv .1, λ h. let n : ⊥ = omega (arith, leb-false (c .before .before .loop .filled) _ (c .if1 .left)) in absurd n, λ h. some-taken _ _ _ (c .before .before .loop .inv .4) (leb-false _ _ (c .if1 .left)))
 
 same-length-2 : tie.Need-same-length-2 Inv-loop μ-loop
 same-length-2 c = omega (arith, c .before .loop .inv .2, c .before .before .before .before .pre)
