@@ -91,7 +91,7 @@ block-takes (suc room) (Report t w ∷ as′) =
 -- The reports stand in the first entries, in their order.
 pub left-first : (field : Reported → ℕ) (b : Block) (entries : List ℕ) (k : ℕ) → k < length (b .reports) → getD (fieldLeft field b entries) k 0 ≡ getD (map field (b .reports)) k 0
 unfolding fieldLeft
-left-first field b entries k h = List·getD-append (map field (b .reports)) (drop (length (map field (b .reports))) entries) 0 k (omega (arith, length-map (b .reports) field))
+left-first field b entries k h = List·getD-append (map field (b .reports)) _ 0 k (omega (arith, length-map (b .reports) field))
 
 -- The entries past the last report are as they were.
 pub left-past : (field : Reported → ℕ) (b : Block) (entries : List ℕ) (k : ℕ) → getD (fieldLeft field b entries) (length (b .reports) + k) 0 ≡ getD entries (length (b .reports) + k) 0

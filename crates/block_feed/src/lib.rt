@@ -3,7 +3,6 @@
 ghost use mathlib.Core.Path.{_≡_};
 ghost use mathlib.Core.Bool.{true, _&&_};
 ghost use lib.Dec.{eqb};
-ghost use Prim.Native.Nat.{_+_, _≤_, _<_};
 ghost use lib.ListN.{length};
 ghost use Rattle.stream.specs.Feeding.{isValid};
 ghost use Rattle.block.specs.Blocks.{blockFor, feedBlockOf, dayOf, hundredthsOf, controlOf, fieldLeft};
@@ -15,20 +14,10 @@ use block::Stop;
 use block_part::Round;
 use block_part::feed_part;
 use block_part::round_at;
+use parts::part_end;
 use stream::Reader;
 use stream::is_valid;
 use timecode::Refusal;
-
-// Where a part of the block that begins there ends.
-fn part_end(from: usize, end: usize) -> usize
-    requires { ⌜ from < end ⌝ }
-    ensures { λ r. ⌜ (from < r) × (r ≤ end) × (r ≤ from + 512) ⌝ }
-{
-    if end - from <= 512 {
-        return end;
-    }
-    from + 512
-}
 
 // The parts of a block one after the other, each with the reader that the part before gave back.
 fn feed_parts(

@@ -230,13 +230,13 @@ module _ (put at : ℕ) (rs : List Reported) (days₀ hundredths₀ controls₀ 
   unfolding putFrom
   filled-more t w = filled-behind (record { time = t; control = w } ∷ []) (set days at (t .day)) (set hundredths at (t .hundredths)) (set controls at w) (record { days-are = refl; hundredths-are = refl; controls-are = refl })
 
-  -- the lists are as long as before
-  pub filled-long : (length days ≡ length days₀) × (length hundredths ≡ length hundredths₀) × (length controls ≡ length controls₀)
-  filled-long = (
-    ap length (f .days-are) ∙ length-put put (map dayOf rs) days₀,
-    ap length (f .hundredths-are) ∙ length-put put (map hundredthsOf rs) hundredths₀,
-    ap length (f .controls-are) ∙ length-put put (map controlOf rs) controls₀,
-  )
+-- the lists are as long as before
+pub filled-long : {put : ℕ} {rs : List Reported} {days₀ hundredths₀ controls₀ days hundredths controls : List ℕ} → Filled put rs days₀ hundredths₀ controls₀ days hundredths controls → (length days ≡ length days₀) × (length hundredths ≡ length hundredths₀) × (length controls ≡ length controls₀)
+filled-long {put} {rs} {days₀} {hundredths₀} {controls₀} f = (
+  ap length (f .days-are) ∙ length-put put (map dayOf rs) days₀,
+  ap length (f .hundredths-are) ∙ length-put put (map hundredthsOf rs) hundredths₀,
+  ap length (f .controls-are) ∙ length-put put (map controlOf rs) controls₀,
+)
 
 -- ---- the state of a part: i answers are taken, so many reports are put in, and the lists hold them
 
@@ -257,7 +257,7 @@ module _ {as′ : List Answer} {put : ℕ} {days₀ hundredths₀ controls₀ : 
   module _ {i reports : ℕ} {days hundredths controls : List ℕ} (s : Standing as′ put days₀ hundredths₀ controls₀ i reports days hundredths controls) where
     -- the lists are as long as they were, and the reports fit
     pub standing-long : (length days ≡ length days₀) × (length hundredths ≡ length hundredths₀) × (length controls ≡ length controls₀)
-    standing-long = filled-long put reports (soFar (length days₀ - put) as′ i) days₀ hundredths₀ controls₀ days hundredths controls (s .counted) (s .filled)
+    standing-long = filled-long (s .filled)
 
     pub standing-room : (put ≤ length days₀) × (length hundredths₀ ≡ length days₀) × (length controls₀ ≡ length days₀) → (reports ≤ length days) × (length hundredths ≡ length days) × (length controls ≡ length days)
     standing-room pre = (omega (arith, pre, standing-long, s .counted, reached-fits (length days₀ - put) as′ i), omega (arith, pre, standing-long), omega (arith, pre, standing-long))

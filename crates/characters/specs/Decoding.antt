@@ -1,7 +1,7 @@
 -- Laws of the characters, and their symbols laid behind those that a reader holds.
 use mathlib.Core.Path.{_≡_, refl, sym, ap, subst, _∙_}
 use mathlib.Core.Bool.{true, cond}
-use mathlib.Core.List.{List, [], _∷_, _++_, append-assoc, append-nil}
+use mathlib.Core.List.{List, [], _∷_, _++_, append-nil}
 use Prim.Native.Nat.{ℕ, suc, _+_, _<_, _≤_, _/_, _%_}
 use native.Mathlib.Nat.{add-zero}
 use native.Mathlib.Numerals.{add-one}
@@ -9,13 +9,13 @@ use native.Mathlib.Omega.{arith}
 use borrow.Author.Tests.{eqb-true, eqb-false, ne-eqb}
 use lib.Dec.{eqb}
 use lib.ListN.{getD, length, take, drop, set, length-set, length-append, length-drop}
-use lib.Seq.{take-suc, take-suc-set, take-set-le, take-length}
+use lib.Seq.{take-suc, take-set-le, take-length}
 use Rattle.timecode.specs.Laws.Tests.{by-test}
 use Rattle.search.specs.Accepted.{acceptedIn}
 use Rattle.search.specs.Ends.{part}
 use Rattle.stream.specs.Feeding.{isValid}
 use Rattle.stream.specs.declared.Reader.{Reader}
-use Rattle.parts.specs.Behind.{Behind, Laid, laid-behind, laid-part, length-past, past}
+use Rattle.parts.specs.Behind.{Behind, Laid, laid-behind, laid-part, length-past, past, laid-more, laid-none}
 use Rattle.characters.specs.Symbols.{isSkipped, symbolOf, feedsOf, symbolsIn}
 
 -- ---- characters
@@ -62,7 +62,7 @@ pub record LaidTo (entry bytes : List ℕ) (i count : ℕ) (held : List ℕ) : T
 
 pub laid-start : (entry bytes : List ℕ) → LaidTo entry bytes 0 0 entry
 unfolding feedsOf
-laid-start entry bytes = record { within = omega arith; few = omega arith; counted = refl; laid = record { long = refl; behind = sym (append-nil (take 224 entry)) } }
+laid-start entry bytes = record { within = omega arith; few = omega arith; counted = refl; laid = laid-none entry }
 
 pub laid-turn : (entry bytes : List ℕ) (i count : ℕ) (held : List ℕ) → i < length bytes → 224 + length bytes ≤ length entry → LaidTo entry bytes i count held → LaidTo entry bytes (i + 1) (count + symbolsIn (getD bytes i 0)) (set held (224 + count) (symbolOf (getD bytes i 0)))
 laid-turn entry bytes i count held h room to =
@@ -81,15 +81,11 @@ laid-turn entry bytes i count held h room to =
     (λ n.
     let more : feedsOf (take (i + 1) bytes) ≡ ss ++ (symbolOf b ∷ []) = feeds-next bytes i h ∙ rw n in
     let longer : length (ss ++ (symbolOf b ∷ [])) ≡ count + 1 = length-append ss (symbolOf b ∷ []) ∙ omega (arith, to .counted) in
-    let index : 224 + (count + 1) ≡ suc (224 + count) = omega arith in
     record {
       within = omega arith;
       few = rw n (omega (arith, to .few));
       counted = rw (n, more) (sym longer);
-      laid = rw more (record {
-        long = long ∙ to .laid .long;
-        behind = rw (longer, index) (take-suc-set held (224 + count) (symbolOf b) (omega (arith, to .few, to .laid .long)) ∙ ap (λ (xs : List ℕ). xs ++ (symbolOf b ∷ [])) (ap (λ (k : ℕ). take (224 + k) held) (to .counted) ∙ to .laid .behind) ∙ append-assoc (take 224 entry) ss (symbolOf b ∷ []));
-      });
+      laid = rw (more, to .counted) (laid-more entry ss held (symbolOf b) (omega (arith, to .few, to .counted)) (to .laid));
     })
 
 pub laid-end : (entry bytes : List ℕ) (i count : ℕ) (held : List ℕ) → i ≡ length bytes → LaidTo entry bytes i count held → (count ≡ length (feedsOf bytes)) × Laid entry (feedsOf bytes) held

@@ -1,6 +1,6 @@
 // timeread's work: a recording in characters becomes the list of Feeds that it is, and its reports lines.
 ghost use mathlib.Core.Path.{_≡_};
-ghost use Prim.Native.Nat.{_+_, _≤_, _<_};
+ghost use Prim.Native.Nat.{_≤_};
 ghost use lib.ListN.{length, take};
 ghost use Rattle.lines.specs.Text.{countsLine};
 ghost use Rattle.progress.specs.Progress.{goingOn};
@@ -8,6 +8,7 @@ ghost use Rattle.listing.specs.Calls.{begunOf, Lists, Ends};
 use hearing::hear;
 use lines::counts_line;
 use lines::put_text;
+use parts::part_end;
 use progress::Progress;
 use progress::progress_at;
 use stream::Made;
@@ -44,17 +45,6 @@ pub fn start(reader: Reader) -> Progress
     ensures { λ r. ⌜ r ≡ goingOn reader 0 0 ⌝ }
 {
     progress_at(reader, 0, 0)
-}
-
-// Where a part of the bytes that begins there ends.
-fn part_end(from: usize, end: usize) -> usize
-    requires { ⌜ from < end ⌝ }
-    ensures { λ r. ⌜ (from < r) × (r ≤ end) × (r ≤ from + 512) ⌝ }
-{
-    if end - from <= 512 {
-        return end;
-    }
-    from + 512
 }
 
 // A part has no more reports than symbols: below half of the lent memory there is room for their lines.

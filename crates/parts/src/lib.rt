@@ -14,6 +14,17 @@ use search::accepted;
 use stream::Reader;
 use stream::is_valid;
 
+// Where a part that begins there ends: a part has at most 512 symbols.
+pub fn part_end(from: usize, end: usize) -> usize
+    requires { ⌜ from < end ⌝ }
+    ensures { λ r. ⌜ (from < r) × (r ≤ end) × (r ≤ from + 512) ⌝ }
+{
+    if end - from <= 512 {
+        return end;
+    }
+    from + 512
+}
+
 // How many of the symbols a reader takes before it refuses one: none, if it is invalid.
 pub fn taken_by(reader: Reader, symbols: &[u8]) -> usize
     ensures { λ r. ⌜ r ≡ takenBy reader (now (symbols .entry)) ⌝ }

@@ -1,6 +1,6 @@
 -- `feed_block` meets its contract: 13, then 3, then the parts.
 use borrow.Author.Needs.{needs}
-use mathlib.Core.Path.{refl, sym, _∙_}
+use mathlib.Core.Path.{sym, _∙_}
 use Rattle.timecode.specs.declared.Refusal.the-variants.{WrongLength, InvalidReader}
 use Rattle.block.specs.Blocks.{blockAnswer}
 use Rattle.block_part.specs.Rounds.{filled-long}
@@ -31,16 +31,13 @@ taken-block-requires : tie.Need-taken-block-requires
 taken-block-requires c κs = search needs
 
 same-length : tie.Need-same-length
-same-length c =
-    let a = c .before .before .before .before .before .before .before .before .before .before .before .before .before .before .before .before .before .before .before .args in filled-long 0 _ _ (a .days .now) (a .hundredths .now) (a .controls .now) _ _ _ refl (c .before .before .before .before .before .before .before .feed-parts .ensures .1) .0
+same-length c = filled-long (c .before .before .before .before .before .before .before .feed-parts .ensures .1) .0
 
 same-length-2 : tie.Need-same-length-2
-same-length-2 c =
-    let a = c .before .before .before .before .before .before .before .before .before .before .before .before .before .before .before .before .before .before .before .args in filled-long 0 _ _ (a .days .now) (a .hundredths .now) (a .controls .now) _ _ _ refl (c .before .before .before .before .before .before .before .feed-parts .ensures .1) .1
+same-length-2 c = filled-long (c .before .before .before .before .before .before .before .feed-parts .ensures .1) .1
 
 same-length-3 : tie.Need-same-length-3
-same-length-3 c =
-    let a = c .before .before .before .before .before .before .before .before .before .before .before .before .before .before .before .before .before .before .before .args in filled-long 0 _ _ (a .days .now) (a .hundredths .now) (a .controls .now) _ _ _ refl (c .before .before .before .before .before .before .before .feed-parts .ensures .1) .2
+same-length-3 c = filled-long (c .before .before .before .before .before .before .before .feed-parts .ensures .1) .2
 
 returns : tie.Need-returns
 returns c =

@@ -10,7 +10,7 @@ use Rattle.block_feed.proofs.feed_parts.Tie as tie
 use Rattle.block_feed.proofs.feed_parts.Reads as reads
 use Rattle.block_feed.proofs.feed_parts.Lts as lts
 use Rattle.block_part.proofs.feed_part.Reads as feed-part-reads
-use Rattle.block_feed.proofs.part_end.Reads as part-end-reads
+use Rattle.parts.proofs.part_end.Reads as part-end-reads
 use Rattle.block_part.proofs.round_at.Reads as round-at-reads
 
 abbrev Inv-loop : tie.InvT-loop

@@ -12,7 +12,7 @@ use Rattle.listing.proofs.fill.Tie as tie
 use Rattle.listing.proofs.fill.Reads as reads
 use Rattle.listing.proofs.fill.Lts as lts
 use Rattle.hearing.proofs.hear.Reads as hear-reads
-use Rattle.listing.proofs.part_end.Reads as part-end-reads
+use Rattle.parts.proofs.part_end.Reads as part-end-reads
 
 abbrev Inv-loop : tie.InvT-loop
 Inv-loop bytes out₀ current₀ taken₀ filled₀ out current taken filled = (taken ≤ length bytes) × (filled ≤ 65536) × (length out ≡ 65536) × Told current₀ current bytes out taken filled × (taken ≡ 0 → filled ≡ 0)
