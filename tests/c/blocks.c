@@ -1,31 +1,16 @@
 /* duskveyra_feed_block from C: the same as duskveyra_feed symbol by symbol, at every split of a recording and with any
  * room; what stops it; its refusals and their order; and the memory that it must leave. Also compiles as C++. */
+#include "check.h"
 #include "duskveyra.h"
 
 #include <stdio.h>
 #include <stdlib.h>
 #include <string.h>
 
-static unsigned long checks = 0;
-static unsigned long failed = 0;
-
-static void check(int holds, int line, const char *what)
-{
-    checks++;
-    if (!holds) {
-        failed++;
-        if (failed <= 20)
-            printf("blocks.c:%d: %s\n", line, what);
-    }
-}
-
-#define CHECK(condition) check((condition) != 0, __LINE__, #condition)
-
 #define FRAMES 10
 #define REPORTS (FRAMES - 1)
 #define ROOM (REPORTS + 2)
 #define LONGEST (2 + DUSKVEYRA_LONGEST_FRAME * FRAMES)
-#define FILL 0xa5
 
 static const struct format {
     uint8_t letter;

@@ -1,31 +1,15 @@
 /* Every function of duskveyra.h but duskveyra_feed_block, which blocks.c calls: its answers, each refusal it can give,
  * their order, and the memory it must leave. What is expected stands in documents 01 and 02: the examples, the table of
  * places, the rules. Also compiles as C++. */
+#include "check.h"
 #include "duskveyra.h"
 
 #include <stdio.h>
 #include <stdlib.h>
 #include <string.h>
 
-static unsigned long checks = 0;
-static unsigned long failed = 0;
-
-static void check(int holds, int line, const char *what)
-{
-    checks++;
-    if (!holds) {
-        failed++;
-        if (failed <= 20)
-            printf("calls.c:%d: %s\n", line, what);
-    }
-}
-
-#define CHECK(condition) check((condition) != 0, __LINE__, #condition)
-
 /* Out-parameters with guard words around each. All bytes start as FILL, the expected ones are set with SET in a second
  * struct, and the two are compared whole, so that anything else that was touched shows. */
-#define FILL 0xa5
-
 struct outs {
     uint64_t guard0;
     uint8_t flag;
