@@ -126,17 +126,19 @@ uint8_t duskveyra_feed(duskveyra_reader *reader, uint8_t symbol, uint8_t *report
                        uint32_t *hundredths, uint64_t *control);
 
 /* Feeds a block of symbols as duskveyra_feed does one after the other, and puts their reports, in their order, into a
- * list of records, which is three lists of one length: report k, counted from 0, is days[k], hundredths[k] and
- * controls[k]. Entries past the last report stay as they were. It stops only before the first symbol above 3, or before
- * the first whose report finds no room left; *reader is then as before that symbol. Sets *taken to the number of
- * symbols taken, *reports to the number of reports put in, and *stop to DUSKVEYRA_ALL_TAKEN,
+ * list of records, which is four lists of one length: report k, counted from 0, is indexes[k], days[k], hundredths[k]
+ * and controls[k]. indexes[k] is the index in this block, counted from 0, of the symbol that brought it: the last of
+ * the frame with this time. Entries past the last report stay as they were. It stops only before the first symbol
+ * above 3, or before the first whose report finds no room left; *reader is then as before that symbol. Sets *taken to
+ * the number of symbols taken, *reports to the number of reports put in, and *stop to DUSKVEYRA_ALL_TAKEN,
  * DUSKVEYRA_BEFORE_UNKNOWN_SYMBOL or DUSKVEYRA_BEFORE_REPORT; where the last symbol's report just fills the list, all
  * were taken.
- * Refuses with 13; 3 where the lengths of days, hundredths and controls are not one; in this order, and then feeds
- * nothing and leaves all. A symbol above 3 stops it and is no refusal. */
-uint8_t duskveyra_feed_block(duskveyra_reader *reader, const uint8_t *symbols, size_t symbols_length, uint16_t *days,
-                             size_t days_length, uint32_t *hundredths, size_t hundredths_length, uint64_t *controls,
-                             size_t controls_length, size_t *taken, size_t *reports, uint8_t *stop);
+ * Refuses with 13; 3 where the lengths of indexes, days, hundredths and controls are not one; in this order, and then
+ * feeds nothing and leaves all. A symbol above 3 stops it and is no refusal. */
+uint8_t duskveyra_feed_block(duskveyra_reader *reader, const uint8_t *symbols, size_t symbols_length, size_t *indexes,
+                             size_t indexes_length, uint16_t *days, size_t days_length, uint32_t *hundredths,
+                             size_t hundredths_length, uint64_t *controls, size_t controls_length, size_t *taken,
+                             size_t *reports, uint8_t *stop);
 
 /* Classifies one pulse by its width and its period, in the ticks of the nominal element interval: sets *symbol.
  * Refuses with 10, and then leaves it. */

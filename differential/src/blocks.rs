@@ -10,45 +10,49 @@ use reference::{Format, Stop, Time};
 /// How many blocks of any reader go with a stream.
 const TURNS: usize = 10;
 
-/// A report, or an entry of the lent list.
-type Record = (u16, u32, u64);
+/// A report with the index of the symbol that brought it, or an entry of the lent list.
+type Record = (usize, u16, u32, u64);
 
 /// What stands in a lent list before a call: no report has it.
-const UNTOUCHED: Record = (0xa5a5, 0xa5a5_a5a5, 0xa5a5_a5a5_a5a5_a5a5);
+const UNTOUCHED: Record = (usize::MAX, 0xa5a5, 0xa5a5_a5a5, 0xa5a5_a5a5_a5a5_a5a5);
 
 /// Symbols taken, reports put in, and why it stopped; or the number of a refusal.
 type Block = Result<(usize, usize, Stop), u8>;
 
-/// The library's lent list: a list for each field, one of them perhaps of another length.
+/// The library's lent list: a list for each field, one or two of them perhaps of another length.
 #[derive(Debug, PartialEq)]
 struct Lists {
+    indexes: Vec<usize>,
     days: Vec<u16>,
     hundredths: Vec<u32>,
     controls: Vec<u64>,
 }
 
 impl Lists {
-    fn new(lengths: [usize; 3]) -> Lists {
+    fn new(lengths: [usize; 4]) -> Lists {
         Lists {
-            days: vec![UNTOUCHED.0; lengths[0]],
-            hundredths: vec![UNTOUCHED.1; lengths[1]],
-            controls: vec![UNTOUCHED.2; lengths[2]],
+            indexes: vec![UNTOUCHED.0; lengths[0]],
+            days: vec![UNTOUCHED.1; lengths[1]],
+            hundredths: vec![UNTOUCHED.2; lengths[2]],
+            controls: vec![UNTOUCHED.3; lengths[3]],
         }
     }
 
     fn of(records: &[Record]) -> Lists {
         Lists {
-            days: records.iter().map(|record| record.0).collect(),
-            hundredths: records.iter().map(|record| record.1).collect(),
-            controls: records.iter().map(|record| record.2).collect(),
+            indexes: records.iter().map(|record| record.0).collect(),
+            days: records.iter().map(|record| record.1).collect(),
+            hundredths: records.iter().map(|record| record.2).collect(),
+            controls: records.iter().map(|record| record.3).collect(),
         }
     }
 }
 
-fn by_block(reader: &mut duskveyra::Reader, symbols: &[u8], lengths: [usize; 3]) -> (Block, Lists) {
+fn by_block(reader: &mut duskveyra::Reader, symbols: &[u8], lengths: [usize; 4]) -> (Block, Lists) {
     let mut lists = Lists::new(lengths);
     let block = reader.feed_block(
         symbols,
+        &mut lists.indexes,
         &mut lists.days,
         &mut lists.hundredths,
         &mut lists.controls,
@@ -72,8 +76,8 @@ fn by_single_feeds(reader: &mut duskveyra::Reader, symbols: &[u8], room: usize) 
         let before = reader.clone();
         let stopped = match fed(reader.feed(symbol)) {
             Ok(None) => continue,
-            Ok(Some(report)) if reports < room => {
-                records[reports] = report;
+            Ok(Some((day, hundredths, control))) if reports < room => {
+                records[reports] = (taken, day, hundredths, control);
                 reports += 1;
                 continue;
             }
@@ -90,14 +94,14 @@ fn by_single_feeds(reader: &mut duskveyra::Reader, symbols: &[u8], room: usize) 
 
 fn by_reference(reader: &mut reference::Reader, symbols: &[u8], room: usize) -> (Block, Lists) {
     let untouched = Time {
-        day: UNTOUCHED.0,
-        hundredths: UNTOUCHED.1,
+        day: UNTOUCHED.1,
+        hundredths: UNTOUCHED.2,
     };
-    let mut records = vec![(untouched, UNTOUCHED.2); room];
+    let mut records = vec![(UNTOUCHED.0, untouched, UNTOUCHED.3); room];
     let block = reader.feed_block(symbols, &mut records);
     let records: Vec<Record> = records
         .iter()
-        .map(|(time, control)| (time.day, time.hundredths, *control))
+        .map(|(index, time, control)| (*index, time.day, time.hundredths, *control))
         .collect();
     let answer = block.map(|block| (block.taken, block.reports, block.stop));
     (
@@ -141,7 +145,7 @@ impl Readers {
 
     /// One block to all three: symbols taken, reports put in, and why it stopped.
     fn feed_block(&mut self, symbols: &[u8], room: usize) -> Result<(usize, usize, Stop), String> {
-        let block = by_block(&mut self.block, symbols, [room; 3]);
+        let block = by_block(&mut self.block, symbols, [room; 4]);
         let plain = by_reference(&mut self.plain, symbols, room);
         agree(|| "the block of reference".to_string(), &block, &plain)?;
         let single = by_single_feeds(&mut self.single, symbols, room);
@@ -215,16 +219,18 @@ fn any_block(
     let from = random.index(symbols.len() + 1);
     let to = (from + size(random)).min(symbols.len());
     let part = &symbols[from..to];
-    let mut lengths = [random.index(4); 3];
+    let mut lengths = [random.index(4); 4];
     if random.once_in(2) {
-        lengths[random.index(3)] = random.index(4);
+        for _ in 0..2 {
+            lengths[random.index(4)] = random.index(4);
+        }
     }
     let mut reader = duskveyra::Reader::from_words(words);
     let block = by_block(&mut reader, part, lengths);
     let mut expected_reader = duskveyra::Reader::from_words(words);
     let expected = if !is_valid(&words) {
         (Err(13), Lists::new(lengths))
-    } else if lengths != [lengths[0]; 3] {
+    } else if lengths != [lengths[0]; 4] {
         (Err(3), Lists::new(lengths))
     } else {
         by_single_feeds(&mut expected_reader, part, lengths[0])

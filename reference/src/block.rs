@@ -22,12 +22,13 @@ pub struct Block {
 
 impl Reader {
     /// Feeds the symbols one by one and puts the reports into `records` from its
-    /// start. It stops before a symbol above 3 and before one whose report would
-    /// not fit, with the reader as before that symbol.
+    /// start, each with the index of the symbol that brought it. It stops before
+    /// a symbol above 3 and before one whose report would not fit, with the
+    /// reader as before that symbol.
     pub fn feed_block(
         &mut self,
         symbols: &[u8],
-        records: &mut [(Time, u64)],
+        records: &mut [(usize, Time, u64)],
     ) -> Result<Block, Refusal> {
         let mut reports = 0;
         for (taken, &symbol) in symbols.iter().enumerate() {
@@ -38,7 +39,7 @@ impl Reader {
                 Answer::Refused(refusal) => return Err(refusal),
                 Answer::Report(..) if reports == records.len() => Some(Stop::NoRoom),
                 Answer::Report(time, control) => {
-                    records[reports] = (time, control);
+                    records[reports] = (taken, time, control);
                     reports += 1;
                     None
                 }

@@ -775,7 +775,7 @@ fn plain_machine() {
 #[test]
 fn blocks() {
     let mut random = Random(6);
-    let empty = (time(0, 1), 2);
+    let empty = (usize::MAX, time(0, 1), 2);
     let mut stops = [0; 3];
     for name in FORMATS {
         let format = format(name);
@@ -801,7 +801,7 @@ fn blocks() {
                 let stop = match plain.feed(symbol) {
                     Answer::Quiet => continue,
                     Answer::Report(time, control) if block.reports < room => {
-                        expected[block.reports] = (time, control);
+                        expected[block.reports] = (taken, time, control);
                         block.reports += 1;
                         continue;
                     }

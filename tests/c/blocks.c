@@ -25,11 +25,13 @@ static const struct format {
 };
 
 /* The format under test; its recording, the last two symbols of a frame and then frames in succession; and what single
- * feeds make of the recording: the reader after each number of symbols, and the reports in their order. */
+ * feeds make of the recording: the reader after each number of symbols, and the reports in their order, each with the
+ * index of the symbol that brings it. */
 static struct format format;
 static uint8_t recording[LONGEST];
 static size_t length;
 static duskveyra_reader after[LONGEST + 1];
+static size_t indexes[REPORTS];
 static uint16_t days[REPORTS];
 static uint32_t hundredths[REPORTS];
 static uint64_t controls[REPORTS];
@@ -55,10 +57,11 @@ struct outs {
     uint8_t guard3[15];
 };
 
-/* One block: its reader, its lent list of records as three lists, and its out-parameters. */
+/* One block: its reader, its lent list of records as four lists, and its out-parameters. */
 struct block {
     duskveyra_reader reader;
     size_t room;
+    size_t *indexes;
     uint16_t *days;
     uint32_t *hundredths;
     uint64_t *controls;
@@ -71,6 +74,7 @@ static struct block make(const duskveyra_reader *reader, size_t room)
     memset(&made, FILL, sizeof made);
     made.reader = *reader;
     made.room = room;
+    made.indexes = (size_t *)memory(room * sizeof *made.indexes);
     made.days = (uint16_t *)memory(room * sizeof *made.days);
     made.hundredths = (uint32_t *)memory(room * sizeof *made.hundredths);
     made.controls = (uint64_t *)memory(room * sizeof *made.controls);
@@ -79,6 +83,7 @@ static struct block make(const duskveyra_reader *reader, size_t room)
 
 static void release(struct block *block)
 {
+    free(block->indexes);
     free(block->days);
     free(block->hundredths);
     free(block->controls);
@@ -91,9 +96,9 @@ static uint8_t feed(struct block *block, const uint8_t *symbols, size_t count, s
     size_t left = block->room - from;
     uint8_t number;
     memcpy(lent, symbols, count);
-    number = duskveyra_feed_block(&block->reader, lent, count, block->days + from, left, block->hundredths + from, left,
-                                  block->controls + from, left, &block->outs.taken, &block->outs.reports,
-                                  &block->outs.stop);
+    number = duskveyra_feed_block(&block->reader, lent, count, block->indexes + from, left, block->days + from, left,
+                                  block->hundredths + from, left, block->controls + from, left, &block->outs.taken,
+                                  &block->outs.reports, &block->outs.stop);
     CHECK(memcmp(lent, symbols, count) == 0);
     free(lent);
     return number;
@@ -104,18 +109,21 @@ static int same_reader(const duskveyra_reader *first, const duskveyra_reader *se
     return memcmp(first, second, sizeof *first) == 0;
 }
 
-/* Whether the lists hold the recording's first reports, and all past them is untouched. */
-static int holds(const struct block *block, size_t reports)
+/* Whether the lists hold the recording's first reports, and all past them is untouched. The reports from `later` on
+ * came with a block that began at the symbol `start`, those before with one that began at symbol 0. */
+static int holds(const struct block *block, size_t reports, size_t later, size_t start)
 {
     size_t index;
     if (reports > block->room || reports > REPORTS)
         return 0;
     for (index = 0; index < reports; index++)
-        if (block->days[index] != days[index] || block->hundredths[index] != hundredths[index] ||
+        if (block->indexes[index] != indexes[index] - (index < later ? 0 : start) ||
+            block->days[index] != days[index] || block->hundredths[index] != hundredths[index] ||
             block->controls[index] != controls[index])
             return 0;
     for (; index < block->room; index++)
-        if (block->days[index] != 0xa5a5 || block->hundredths[index] != UINT32_C(0xa5a5a5a5) ||
+        if (block->indexes[index] != (size_t)UINT64_C(0xa5a5a5a5a5a5a5a5) || block->days[index] != 0xa5a5 ||
+            block->hundredths[index] != UINT32_C(0xa5a5a5a5) ||
             block->controls[index] != UINT64_C(0xa5a5a5a5a5a5a5a5))
             return 0;
     return 1;
@@ -165,6 +173,8 @@ static void record(void)
         CHECK(duskveyra_feed(&reader, recording[index], &reported, &day, &hundredth, &control) == DUSKVEYRA_OK);
         after[index + 1] = reader;
         if (reported && reports < REPORTS) {
+            CHECK(index == report_at(reports));
+            indexes[reports] = index;
             days[reports] = day;
             hundredths[reports] = hundredth;
             controls[reports] = control;
@@ -176,7 +186,8 @@ static void record(void)
     CHECK(reports == REPORTS);
 }
 
-/* The recording as two blocks, cut at every symbol, into one list. */
+/* The recording as two blocks, cut at every symbol, into one list: the second block's indexes are less by the first's
+ * length. */
 static void splits(void)
 {
     size_t split;
@@ -186,11 +197,11 @@ static void splits(void)
         CHECK(feed(&block, recording, split, 0) == DUSKVEYRA_OK);
         CHECK(says(&block, split, first, DUSKVEYRA_ALL_TAKEN));
         CHECK(same_reader(&block.reader, &after[split]));
-        CHECK(holds(&block, first));
+        CHECK(holds(&block, first, first, 0));
         CHECK(feed(&block, recording + split, length - split, first) == DUSKVEYRA_OK);
         CHECK(says(&block, length - split, REPORTS - first, DUSKVEYRA_ALL_TAKEN));
         CHECK(same_reader(&block.reader, &after[length]));
-        CHECK(holds(&block, REPORTS));
+        CHECK(holds(&block, REPORTS, first, split));
         release(&block);
     }
 }
@@ -202,7 +213,7 @@ static void one(const uint8_t *symbols, size_t count, size_t room, size_t taken,
     CHECK(feed(&block, symbols, count, 0) == DUSKVEYRA_OK);
     CHECK(says(&block, taken, reports_in(taken), stop));
     CHECK(same_reader(&block.reader, &after[taken]));
-    CHECK(holds(&block, reports_in(taken)));
+    CHECK(holds(&block, reports_in(taken), 0, 0));
     release(&block);
 }
 
@@ -254,7 +265,7 @@ static void goes_on(void)
     CHECK(feed(&next, recording + report_at(0), length - report_at(0), 0) == DUSKVEYRA_OK);
     CHECK(says(&next, length - report_at(0), REPORTS, DUSKVEYRA_ALL_TAKEN));
     CHECK(same_reader(&next.reader, &after[length]));
-    CHECK(holds(&next, REPORTS));
+    CHECK(holds(&next, REPORTS, 0, report_at(0)));
     release(&block);
     release(&next);
 }
@@ -265,12 +276,12 @@ static void refused(const duskveyra_reader *reader, const size_t *lengths, uint8
     size_t count;
     for (count = 0; count <= length; count += length) {
         struct block block = make(reader, ROOM), before = block;
-        CHECK(duskveyra_feed_block(&block.reader, recording, count, block.days, lengths[0], block.hundredths,
-                                   lengths[1], block.controls, lengths[2], &block.outs.taken, &block.outs.reports,
-                                   &block.outs.stop) == number);
+        CHECK(duskveyra_feed_block(&block.reader, recording, count, block.indexes, lengths[0], block.days, lengths[1],
+                                   block.hundredths, lengths[2], block.controls, lengths[3], &block.outs.taken,
+                                   &block.outs.reports, &block.outs.stop) == number);
         CHECK(same_reader(&block.reader, reader));
         CHECK(memcmp(&block.outs, &before.outs, sizeof block.outs) == 0);
-        CHECK(holds(&block, 0));
+        CHECK(holds(&block, 0, 0, 0));
         release(&block);
     }
 }
@@ -281,11 +292,21 @@ static void refusals(void)
     const uint64_t wrong[][2] = {{0, 'C'},      {0, 256 + (uint64_t)format.letter},
                                  {1, 4},        {1, 256 + (uint64_t)format.expression},
                                  {2, format.n}, {2, UINT64_MAX}};
-    static const size_t equal[] = {ROOM, ROOM, ROOM};
-    static const size_t unequal[][3] = {{ROOM, ROOM, ROOM - 1}, {ROOM, ROOM - 1, ROOM}, {ROOM - 1, ROOM, ROOM},
-                                        {ROOM, ROOM, 0},        {ROOM, 0, ROOM},        {0, ROOM, ROOM},
-                                        {0, 0, ROOM},           {0, ROOM, 0},           {ROOM, 0, 0},
-                                        {ROOM - 2, ROOM - 1, ROOM}};
+    static const size_t equal[] = {ROOM, ROOM, ROOM, ROOM};
+    /* One list shorter or longer than the others, by one or by all; two of one length and two of another; four. */
+    static const size_t unequal[][4] = {
+        {ROOM - 1, ROOM, ROOM, ROOM},         {ROOM, ROOM - 1, ROOM, ROOM},
+        {ROOM, ROOM, ROOM - 1, ROOM},         {ROOM, ROOM, ROOM, ROOM - 1},
+        {ROOM, ROOM - 1, ROOM - 1, ROOM - 1}, {ROOM - 1, ROOM, ROOM - 1, ROOM - 1},
+        {ROOM - 1, ROOM - 1, ROOM, ROOM - 1}, {ROOM - 1, ROOM - 1, ROOM - 1, ROOM},
+        {0, ROOM, ROOM, ROOM},                {ROOM, 0, ROOM, ROOM},
+        {ROOM, ROOM, 0, ROOM},                {ROOM, ROOM, ROOM, 0},
+        {ROOM, 0, 0, 0},                      {0, ROOM, 0, 0},
+        {0, 0, ROOM, 0},                      {0, 0, 0, ROOM},
+        {ROOM, ROOM, 0, 0},                   {ROOM, 0, ROOM, 0},
+        {ROOM, 0, 0, ROOM},                   {0, ROOM, ROOM, 0},
+        {0, ROOM, 0, ROOM},                   {0, 0, ROOM, ROOM},
+        {ROOM - 3, ROOM - 2, ROOM - 1, ROOM}, {ROOM, ROOM - 1, ROOM - 2, ROOM - 3}};
     size_t which, lists;
     for (lists = 0; lists < sizeof unequal / sizeof unequal[0]; lists++)
         refused(&after[0], unequal[lists], DUSKVEYRA_WRONG_LENGTH);

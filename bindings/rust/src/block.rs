@@ -25,12 +25,13 @@ pub struct Block {
 }
 
 impl Reader {
-    /// Feeds a block of symbols, as [`feed`](Reader::feed) would one after the other, and puts its reports into three
-    /// lists of one length: the k-th report's day, hundredths and control word at index k of each. Entries past the last
-    /// report stay as they were. It stops only before the first symbol above 3, or before the first whose report would
-    /// not fit; the reader is then as before that symbol.
+    /// Feeds a block of symbols, as [`feed`](Reader::feed) would one after the other, and puts its reports into four
+    /// lists of one length. Entry k of each, counted from 0, is report k: the index in this block, counted from 0, of
+    /// the symbol that brought it, which is the last of its frame; then its day, hundredths and control word. Entries
+    /// past the last report stay as they were. It stops only before the first symbol above 3, or before the first whose
+    /// report would not fit; the reader is then as before that symbol.
     ///
-    /// Refuses with 13; 3 where the three lengths are not one; in this order, and then feeds nothing and leaves all.
+    /// Refuses with 13; 3 where the four lengths are not one; in this order, and then feeds nothing and leaves all.
     ///
     /// ```
     /// use duskveyra::{write, Block, Format, Reader, Stop, Time, MARK};
@@ -41,16 +42,19 @@ impl Reader {
     /// write(format, Time { day: 191, hundredths: 5_094_000 }, 0b101, &mut symbols[61..])?;
     ///
     /// let mut reader = Reader::fresh(format)?;
-    /// let (mut days, mut hundredths, mut controls) = ([0; 2], [0; 2], [0; 2]);
-    /// let block = reader.feed_block(&symbols, &mut days, &mut hundredths, &mut controls)?;
+    /// let (mut indexes, mut days, mut hundredths, mut controls) = ([0; 2], [0; 2], [0; 2], [0; 2]);
+    /// let block =
+    ///     reader.feed_block(&symbols, &mut indexes, &mut days, &mut hundredths, &mut controls)?;
     /// assert_eq!(block, Block { taken: 121, reports: 1, stop: Stop::AllTaken });
-    /// assert_eq!((days, hundredths, controls), ([191, 0], [5_094_000, 0], [0b101, 0]));
+    /// assert_eq!((indexes, days), ([120, 0], [191, 0]));
+    /// assert_eq!((hundredths, controls), ([5_094_000, 0], [0b101, 0]));
     /// # Ok::<(), duskveyra::Refusal>(())
     /// ```
     #[inline]
     pub fn feed_block(
         &mut self,
         symbols: &[u8],
+        indexes: &mut [usize],
         days: &mut [u16],
         hundredths: &mut [u32],
         controls: &mut [u64],
@@ -63,6 +67,8 @@ impl Reader {
                 &mut self.words,
                 symbols.as_ptr(),
                 symbols.len(),
+                indexes.as_mut_ptr(),
+                indexes.len(),
                 days.as_mut_ptr(),
                 days.len(),
                 hundredths.as_mut_ptr(),

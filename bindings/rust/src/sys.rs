@@ -70,6 +70,8 @@ extern "C" {
         reader: *mut [u64; 10],
         symbols: *const u8,
         symbols_length: usize,
+        indexes: *mut usize,
+        indexes_length: usize,
         days: *mut u16,
         days_length: usize,
         hundredths: *mut u32,

@@ -2,15 +2,17 @@
 //! what refuses them, and what they leave.
 
 use duskveyra::{write, Block, Format, Reader, Refusal, Report, Stop, Time};
+use std::ops::Range;
 
 /// An entry that no report makes.
-const UNTOUCHED: (u16, u32, u64) = (0xa5a5, 0xa5a5_a5a5, 0xa5a5_a5a5_a5a5_a5a5);
+const UNTOUCHED: (usize, u16, u32, u64) = (usize::MAX, 0xa5a5, 0xa5a5_a5a5, 0xa5a5_a5a5_a5a5_a5a5);
 /// Entries behind the lent ones.
 const GUARD: usize = 3;
 
-/// The lent list of records, as three lists.
+/// The lent list of records, as four lists.
 struct Lists {
     room: usize,
+    indexes: Vec<usize>,
     days: Vec<u16>,
     hundredths: Vec<u32>,
     controls: Vec<u64>,
@@ -20,9 +22,10 @@ impl Lists {
     fn new(room: usize) -> Lists {
         Lists {
             room,
-            days: vec![UNTOUCHED.0; room + GUARD],
-            hundredths: vec![UNTOUCHED.1; room + GUARD],
-            controls: vec![UNTOUCHED.2; room + GUARD],
+            indexes: vec![UNTOUCHED.0; room + GUARD],
+            days: vec![UNTOUCHED.1; room + GUARD],
+            hundredths: vec![UNTOUCHED.2; room + GUARD],
+            controls: vec![UNTOUCHED.3; room + GUARD],
         }
     }
 
@@ -31,16 +34,18 @@ impl Lists {
         let lent = from..self.room;
         reader.feed_block(
             symbols,
+            &mut self.indexes[lent.clone()],
             &mut self.days[lent.clone()],
             &mut self.hundredths[lent.clone()],
             &mut self.controls[lent],
         )
     }
 
-    /// The first entries as reports; all others must be untouched.
-    fn reports(&self, count: usize) -> Vec<Report> {
+    /// The first entries as indexes and reports; all others must be untouched.
+    fn reports(&self, count: usize) -> Vec<(usize, Report)> {
         for index in count..self.room + GUARD {
             let record = (
+                self.indexes[index],
                 self.days[index],
                 self.hundredths[index],
                 self.controls[index],
@@ -48,12 +53,13 @@ impl Lists {
             assert_eq!(record, UNTOUCHED);
         }
         (0..count)
-            .map(|index| Report {
-                time: Time {
+            .map(|index| {
+                let time = Time {
                     day: self.days[index],
                     hundredths: self.hundredths[index],
-                },
-                control: self.controls[index],
+                };
+                let control = self.controls[index];
+                (self.indexes[index], Report { time, control })
             })
             .collect()
     }
@@ -104,17 +110,19 @@ impl Recording {
         }
     }
 
-    /// The reports of the first symbols.
-    fn reports_of(&self, symbols: usize) -> Vec<Report> {
-        let those = self.reports.iter().filter(|(index, _)| *index < symbols);
-        those.map(|(_, report)| *report).collect()
+    /// The reports that these symbols bring, with indexes that count from the first of them.
+    fn reports_of(&self, symbols: Range<usize>) -> Vec<(usize, Report)> {
+        let all = self.reports.iter();
+        all.filter(|(index, _)| symbols.contains(index))
+            .map(|(index, report)| (index - symbols.start, *report))
+            .collect()
     }
 
     /// One block of a fresh reader: it must take so many symbols, with their reports, and stop so.
     fn check(&self, symbols: &[u8], room: usize, taken: usize, stop: Stop) {
         let mut reader = self.after[0].clone();
         let mut lists = Lists::new(room);
-        let reports = self.reports_of(taken);
+        let reports = self.reports_of(0..taken);
         let expected = Block {
             taken,
             reports: reports.len(),
@@ -131,6 +139,7 @@ fn recordings(frames: u32) -> [Recording; 3] {
         .map(|(letter, expression)| Recording::new(letter, expression, frames))
 }
 
+/// The second block's indexes are less by the first's length.
 #[test]
 fn every_split_gives_what_single_feeds_give() {
     for recording in recordings(12) {
@@ -141,14 +150,15 @@ fn every_split_gives_what_single_feeds_give() {
             let mut lists = Lists::new(16);
             let one = lists.feed(&mut reader, first, 0).expect("a reader");
             assert_eq!((one.taken, one.stop), (first.len(), Stop::AllTaken));
-            assert_eq!(lists.reports(one.reports), recording.reports_of(split));
+            let mut expected = recording.reports_of(0..split);
+            assert_eq!(lists.reports(one.reports), expected);
             assert_eq!(reader, recording.after[split]);
             let two = lists
                 .feed(&mut reader, second, one.reports)
                 .expect("a reader");
             assert_eq!((two.taken, two.stop), (second.len(), Stop::AllTaken));
-            let reports = lists.reports(one.reports + two.reports);
-            assert_eq!(reports, recording.reports_of(symbols.len()));
+            expected.extend(recording.reports_of(split..symbols.len()));
+            assert_eq!(lists.reports(one.reports + two.reports), expected);
             assert_eq!(reader, recording.after[symbols.len()]);
         }
     }
@@ -162,15 +172,26 @@ fn blocks_of_any_size_give_what_single_feeds_give() {
     for size in sizes {
         let mut reader = recording.after[0].clone();
         let mut lists = Lists::new(64);
-        let mut count = 0;
+        let mut expected = Vec::new();
+        let (mut taken, mut count) = (0, 0);
         for part in symbols.chunks(size) {
             let block = lists.feed(&mut reader, part, count).expect("a reader");
             assert_eq!((block.taken, block.stop), (part.len(), Stop::AllTaken));
+            expected.extend(recording.reports_of(taken..taken + part.len()));
+            taken += part.len();
             count += block.reports;
         }
-        assert_eq!(lists.reports(count), recording.reports_of(symbols.len()));
+        assert_eq!(lists.reports(count), expected);
         assert_eq!(reader, recording.after[symbols.len()]);
     }
+}
+
+/// Indexes above 65,535.
+#[test]
+fn a_long_block_gives_what_single_feeds_give() {
+    let recording = Recording::new(b'B', 0, 700);
+    let symbols = &recording.symbols;
+    recording.check(symbols, 699, symbols.len(), Stop::AllTaken);
 }
 
 /// With every room from none on, and every length: where the last symbol just fills the list, all are taken.
@@ -206,7 +227,7 @@ fn it_goes_on_after_it_stopped() {
         let symbol = &recording.symbols[taken..=taken];
         let block = one.feed(&mut reader, symbol, 0).expect("a reader");
         assert_eq!((block.taken, block.stop), (1, Stop::AllTaken));
-        assert_eq!(one.reports(block.reports), [*report]);
+        assert_eq!(one.reports(block.reports), [(0, *report)]);
         taken += 1;
     }
     assert_eq!((taken, &reader), (whole, &recording.after[whole]));
@@ -253,15 +274,16 @@ fn no_symbols_change_nothing() {
 }
 
 /// A refused block, of all symbols and of none: the number, and nothing changed.
-fn refused(recording: &Recording, reader: &Reader, lengths: [usize; 3], refusal: Refusal) {
+fn refused(recording: &Recording, reader: &Reader, lengths: [usize; 4], refusal: Refusal) {
     for symbols in [&recording.symbols[..], &[], &[255]] {
         let mut fed = reader.clone();
         let mut lists = Lists::new(8);
         let block = fed.feed_block(
             symbols,
-            &mut lists.days[..lengths[0]],
-            &mut lists.hundredths[..lengths[1]],
-            &mut lists.controls[..lengths[2]],
+            &mut lists.indexes[..lengths[0]],
+            &mut lists.days[..lengths[1]],
+            &mut lists.hundredths[..lengths[2]],
+            &mut lists.controls[..lengths[3]],
         );
         assert_eq!(block, Err(refusal));
         assert_eq!(&fed, reader);
@@ -273,14 +295,11 @@ fn refused(recording: &Recording, reader: &Reader, lengths: [usize; 3], refusal:
 fn refusals_change_nothing() {
     let recording = Recording::new(b'H', 1, 6);
     let fresh = &recording.after[0];
-    for days in 0..=8 {
-        for hundredths in 0..=8 {
-            for controls in 0..=8 {
-                if days != hundredths || days != controls {
-                    let lengths = [days, hundredths, controls];
-                    refused(&recording, fresh, lengths, Refusal::WrongLength);
-                }
-            }
+    // Each of the four lengths from 0 to 8.
+    for number in 0..9_usize.pow(4) {
+        let lengths = [0, 1, 2, 3].map(|list| number / 9_usize.pow(list) % 9);
+        if lengths != [lengths[0]; 4] {
+            refused(&recording, fresh, lengths, Refusal::WrongLength);
         }
     }
     // A letter or an expression that is none, or no byte, or a place past a frame's end; with wrong lengths too.
@@ -296,8 +315,15 @@ fn refusals_change_nothing() {
         let mut words = recording.after[100].words();
         words[word] = value;
         let invalid = Reader::from_words(words);
-        for lengths in [[8; 3], [0; 3], [8, 7, 8], [8, 8, 7], [7, 8, 8], [0, 1, 2]] {
-            refused(&recording, &invalid, lengths, Refusal::InvalidReader);
+        refused(&recording, &invalid, [8; 4], Refusal::InvalidReader);
+        refused(&recording, &invalid, [0; 4], Refusal::InvalidReader);
+        refused(&recording, &invalid, [0, 1, 2, 3], Refusal::InvalidReader);
+        for list in 0..4 {
+            for (common, odd) in [(8, 7), (7, 8)] {
+                let mut lengths = [common; 4];
+                lengths[list] = odd;
+                refused(&recording, &invalid, lengths, Refusal::InvalidReader);
+            }
         }
     }
 }

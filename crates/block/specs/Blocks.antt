@@ -17,8 +17,9 @@ use Rattle.block.specs.declared.FedBlock.{FedBlock}
 use Rattle.block.specs.declared.Stop.{Stop}
 use Rattle.block.specs.declared.Stop.the-variants.{AllTaken, UnknownSymbol, NoRoom}
 
--- a record of the lent list
+-- a record of the lent list: the index of a symbol in the block, and what its Feed reported
 pub record Reported : Type 0 where
+  pub index : ℕ
   pub time : Time
   pub control : ℕ
 
@@ -35,31 +36,69 @@ stopped why = record { taken = 0; reports = []; stop = why }
 abbrev pub onward : List Reported → Block → Block
 onward rs b = record { taken = suc (b .taken); reports = rs ++ b .reports; stop = b .stop }
 
--- The Feeds with these answers, and room for so many reports: it stops only before the first that is refused or whose report would not fit.
-unfoldable pub blockIn : ℕ → List Answer → Block
-blockIn room [] = stopped AllTaken
-blockIn room (Quiet ∷ as′) = onward [] (blockIn room as′)
-blockIn room (Answer.Refused x ∷ as′) = stopped UnknownSymbol
-blockIn zero (Report t w ∷ as′) = stopped NoRoom
-blockIn (suc room) (Report t w ∷ as′) = onward (record { time = t; control = w } ∷ []) (blockIn room as′)
+abbrev pub reportAt : ℕ → Time → ℕ → Reported
+reportAt i t w = record { index = i; time = t; control = w }
+
+-- The Feeds with these answers, the first of them at index i, and room for so many reports: it stops only before the first that is refused or whose report would not fit.
+unfoldable pub blockIn : ℕ → ℕ → List Answer → Block
+blockIn i room [] = stopped AllTaken
+blockIn i room (Quiet ∷ as′) = onward [] (blockIn (suc i) room as′)
+blockIn i room (Answer.Refused x ∷ as′) = stopped UnknownSymbol
+blockIn i zero (Report t w ∷ as′) = stopped NoRoom
+blockIn i (suc room) (Report t w ∷ as′) = onward (reportAt i t w ∷ []) (blockIn (suc i) room as′)
 
 -- the block of a valid reader
 abbrev pub blockOf : Reader → ℕ → List ℕ → Block
-blockOf r room ss = blockIn room (answers r ss)
+blockOf r room ss = blockIn 0 room (answers r ss)
 
--- The lent list of records is a list for each field, all of one length.
-abbrev pub areRecords : List ℕ → List ℕ → List ℕ → Bool
-areRecords days hundredths controls = eqb (length hundredths) (length days) && eqb (length controls) (length days)
+-- ---- the lent list of records: a list for each field, all of one length
+
+pub record Lists : Type 0 where
+  pub indexes : List ℕ
+  pub days : List ℕ
+  pub hundredths : List ℕ
+  pub controls : List ℕ
+
+abbrev pub lists : List ℕ → List ℕ → List ℕ → List ℕ → Lists
+lists indexes days hundredths controls = record { indexes = indexes; days = days; hundredths = hundredths; controls = controls }
+
+-- room for so many reports
+abbrev pub roomIn : Lists → ℕ
+roomIn l = length (l .indexes)
+
+abbrev pub areRecords : Lists → Bool
+areRecords l = eqb (length (l .days)) (roomIn l) && (eqb (length (l .hundredths)) (roomIn l) && eqb (length (l .controls)) (roomIn l))
+
+-- a field's list afterwards: the reports from its start, and the entries past the last report as they were
+unfoldable pub fieldLeft : (Reported → ℕ) → Block → List ℕ → List ℕ
+fieldLeft field b entries = map field (b .reports) ++ drop (length (b .reports)) entries
+
+abbrev pub indexOf : Reported → ℕ
+indexOf r = r .index
+
+abbrev pub dayOf : Reported → ℕ
+dayOf r = r .time .day
+
+abbrev pub hundredthsOf : Reported → ℕ
+hundredthsOf r = r .time .hundredths
+
+abbrev pub controlOf : Reported → ℕ
+controlOf r = r .control
+
+abbrev pub listsLeft : Block → Lists → Lists
+listsLeft b l = lists (fieldLeft indexOf b (l .indexes)) (fieldLeft dayOf b (l .days)) (fieldLeft hundredthsOf b (l .hundredths)) (fieldLeft controlOf b (l .controls))
+
+-- ---- the call
 
 -- The block checks 13, then 3; where it refuses, nothing is taken.
-unfoldable pub blockFor : Reader → List ℕ → List ℕ → List ℕ → List ℕ → Block
-blockFor r ss days hundredths controls = cond (isValid r && areRecords days hundredths controls) (blockOf r (length days) ss) (stopped AllTaken)
+unfoldable pub blockFor : Reader → List ℕ → Lists → Block
+blockFor r ss l = cond (isValid r && areRecords l) (blockOf r (roomIn l) ss) (stopped AllTaken)
 
-unfoldable pub blockAnswer : Reader → List ℕ → List ℕ → List ℕ → List ℕ → BlockAnswer
-blockAnswer r ss days hundredths controls =
+unfoldable pub blockAnswer : Reader → List ℕ → Lists → BlockAnswer
+blockAnswer r ss l =
     check BlockAnswer.Refused 13 (isValid r)
-    (check BlockAnswer.Refused 3 (areRecords days hundredths controls)
-    (BlockAnswer.Taken (blockOf r (length days) ss .taken) (length (blockOf r (length days) ss .reports)) (blockOf r (length days) ss .stop)))
+    (check BlockAnswer.Refused 3 (areRecords l)
+    (BlockAnswer.Taken (blockOf r (roomIn l) ss .taken) (length (blockOf r (roomIn l) ss .reports)) (blockOf r (roomIn l) ss .stop)))
 
 -- what the answer says: the symbols taken, the reports put in, and why it stopped (0 all taken, 1 before a symbol above 3, 2 no room)
 abbrev pub stopNumber : Stop → ℕ
@@ -72,25 +111,5 @@ blockSaid (BlockAnswer.Taken taken reports why) = said (pos taken ∷ pos report
 blockSaid (BlockAnswer.Refused x) = refused x
 
 -- the reader after the symbols taken, and the answer
-unfoldable pub feedBlockOf : Reader → List ℕ → List ℕ → List ℕ → List ℕ → FedBlock
-feedBlockOf r ss days hundredths controls =
-    record {
-      reader = readerAfter r (take (blockFor r ss days hundredths controls .taken) ss);
-      answer = blockAnswer r ss days hundredths controls;
-    }
-
--- a field's list afterwards: the reports from its start, and the entries past the last report as they were
-abbrev pub putIn : List ℕ → List ℕ → List ℕ
-putIn xs entries = xs ++ drop (length xs) entries
-
-abbrev pub dayOf : Reported → ℕ
-dayOf r = r .time .day
-
-abbrev pub hundredthsOf : Reported → ℕ
-hundredthsOf r = r .time .hundredths
-
-abbrev pub controlOf : Reported → ℕ
-controlOf r = r .control
-
-unfoldable pub fieldLeft : (Reported → ℕ) → Block → List ℕ → List ℕ
-fieldLeft field b entries = putIn (map field (b .reports)) entries
+unfoldable pub feedBlockOf : Reader → List ℕ → Lists → FedBlock
+feedBlockOf r ss l = record { reader = readerAfter r (take (blockFor r ss l .taken) ss); answer = blockAnswer r ss l }

@@ -1,13 +1,13 @@
 -- The whole block: its parts one after the other, and each way out of the call, with the lent lists.
 use mathlib.Core.Path.{_≡_, refl, sym, ap, _∙_}
 use mathlib.Core.Bool.{true, false, _&&_}
-use mathlib.Core.List.{List, [], _∷_, map}
+use mathlib.Core.List.{List, [], _∷_}
 use Prim.Native.Nat.{ℕ, zero, suc, _+_, _-_, _<_, _≤_}
 use native.Mathlib.Nat.{zero-add}
 use native.Mathlib.Omega.{arith}
 use borrow.Author.Tests.{eqb-true}
 use lib.Dec.{eqb}
-use lib.ListN.{length, take, drop, length-drop, length-map}
+use lib.ListN.{length, take, drop, length-drop}
 use lib.Seq.{length-take-le, take-add, take-take}
 use Rattle.timecode.specs.Laws.Tests.{and-left, and-right}
 use Rattle.timecode.specs.declared.Refusal.{Refusal}
@@ -15,9 +15,9 @@ use Rattle.stream.specs.Feeding.{isValid, feedOf}
 use Rattle.stream.specs.Refinement.{answers, readerAfter}
 use Rattle.stream.specs.declared.Reader.{Reader}
 use Rattle.parts.specs.Feeds.{answers-take, length-answers, reader-append, valid-after}
-use Rattle.block.specs.Blocks.{Reported, Block, blockIn, blockOf, areRecords, blockFor, blockAnswer, feedBlockOf, putIn, dayOf, hundredthsOf, controlOf, fieldLeft}
+use Rattle.block.specs.Blocks.{Block, blockIn, blockOf, Lists, roomIn, areRecords, fieldLeft, listsLeft, blockFor, blockAnswer, feedBlockOf}
 use Rattle.block.specs.Folds.{block-takes}
-use Rattle.block_part.specs.Rounds.{putFrom, put-start, roundAt, roundOf, Leaves, standing-room, standing-part, standing-stops, FedTo, fed-stops}
+use Rattle.block_part.specs.Rounds.{Even, put-left, roundAt, roundOf, Leaves, standing-room, standing-part, standing-stops, FedTo, fed-stops}
 use Rattle.block.specs.declared.BlockAnswer.{BlockAnswer}
 use Rattle.block.specs.declared.FedBlock.{FedBlock}
 use Rattle.block_part.specs.declared.Round.{Round}
@@ -32,8 +32,7 @@ answers-drop r (s ∷ ss) zero = refl
 answers-drop r (s ∷ ss) (suc i) = answers-drop (feedOf r s .reader) ss i
 
 -- a part from the symbol i to another
-module _ {r : Reader} {ss : List ℕ} {put : ℕ} {days₀ hundredths₀ controls₀ : List ℕ} {i reports : ℕ} {days hundredths controls : List ℕ} {current : Reader} (g : FedTo r ss put days₀ hundredths₀ controls₀ i reports days hundredths controls current)
-    {end : ℕ} (bounds : (i < end) × (end ≤ length ss) × (end ≤ i + 512)) where
+module _ {r : Reader} {ss : List ℕ} {l₀ : Lists} {i reports : ℕ} {l : Lists} {current : Reader} (g : FedTo r ss 0 0 l₀ i reports l current) {end : ℕ} (bounds : (i < end) × (end ≤ length ss) × (end ≤ i + 512)) where
   abbrev m : ℕ
   m = end - i
 
@@ -41,42 +40,46 @@ module _ {r : Reader} {ss : List ℕ} {put : ℕ} {days₀ hundredths₀ control
   symbols = take m (drop i ss)
 
   -- what is asked of it
-  pub part-asks : (put ≤ length days₀) × (length hundredths₀ ≡ length days₀) × (length controls₀ ≡ length days₀) → isValid r ≡ true → (reports ≤ length days) × (length hundredths ≡ length days) × (length controls ≡ length days) × (isValid current ≡ true) × (length symbols ≤ 512)
-  part-asks pre v =
-      let room = standing-room (g .standing) pre in
+  pub part-asks : Even l₀ → isValid r ≡ true → length ss ≤ 18446744073709551615 → (isValid current ≡ true) × (length symbols ≤ 512) × (i + length symbols ≤ 18446744073709551615) × (reports ≤ roomIn l) × Even l
+  part-asks even v few =
+      let room = standing-room (g .standing) (omega arith, even) in
       let long : length symbols ≡ m = length-take-le m (drop i ss) (omega (arith, bounds, length-drop i ss)) in
-      (room .0, room .1, room .2, rw (g .reader) (valid-after r (take i ss) v), omega (arith, long, bounds))
+      (rw (g .reader) (valid-after r (take i ss) v), omega (arith, long, bounds), omega (arith, long, bounds), room .0, room .1)
 
   part-answers : answers current symbols ≡ take m (drop i (answers r ss))
   part-answers = answers-take current (drop i ss) m ∙ ap (take m) (ap (λ (q : Reader). answers q (drop i ss)) (g .reader) ∙ answers-drop r ss i)
 
   abbrev block : Block
-  block = blockIn (length days - reports) (take m (drop i (answers r ss)))
+  block = blockIn i (roomIn l - reports) (take m (drop i (answers r ss)))
 
   within-answers : i + m ≤ length (answers r ss)
   within-answers = omega (arith, bounds, length-answers r ss)
 
-  module _ {result : Round} {days₁ hundredths₁ controls₁ : List ℕ} (leaves : Leaves current symbols reports days hundredths controls result days₁ hundredths₁ controls₁) where
+  -- its first symbol stands at index i
+  from-there : blockIn (0 + i) (roomIn l - reports) (take m (drop i (answers r ss))) ≡ block
+  from-there = ap (λ (k : ℕ). blockIn k (roomIn l - reports) (take m (drop i (answers r ss)))) (zero-add i)
+
+  module _ {result : Round} {l₁ : Lists} (leaves : Leaves current symbols i reports l result l₁) where
     result-is : result ≡ roundAt (readerAfter current (take (block .taken) symbols)) (block .taken) (reports + length (block .reports)) (block .stop)
     unfolding roundOf
     result-is = rw part-answers at (leaves .0)
 
     pub part-within : result .taken ≤ m
-    part-within = rw result-is (omega (arith, block-takes (length days - reports) (take m (drop i (answers r ss))) .within, length-take-le m (drop i (answers r ss)) (omega (arith, within-answers, length-drop i (answers r ss)))))
+    part-within = rw result-is (omega (arith, block-takes i (roomIn l - reports) (take m (drop i (answers r ss))) .within, length-take-le m (drop i (answers r ss)) (omega (arith, within-answers, length-drop i (answers r ss)))))
 
-    pub part-fed : FedTo r ss put days₀ hundredths₀ controls₀ (i + result .taken) (result .reports) days₁ hundredths₁ controls₁ (result .reader)
+    pub part-fed : FedTo r ss 0 0 l₀ (i + result .taken) (result .reports) l₁ (result .reader)
     part-fed =
         let few : block .taken ≤ m = rw result-is at part-within in
         record {
-          standing = rw result-is (standing-part (g .standing) m within-answers days₁ hundredths₁ controls₁ (rw part-answers at (leaves .1)));
+          standing = rw result-is (rw from-there at (standing-part (g .standing) m within-answers l₁ (rw from-there (rw part-answers at (leaves .1)))));
           reader = rw (result-is, g .reader, take-take (block .taken) m (drop i ss) few, take-add i (block .taken) ss) (sym (reader-append r (take i ss) (take (block .taken) (drop i ss))));
         }
 
     -- where it stopped before its end, the whole stops
-    pub part-ends : {whole : Round} → i + result .taken < end → whole ≡ roundAt (result .reader) (i + result .taken) (result .reports) (result .stop) → Leaves r ss put days₀ hundredths₀ controls₀ whole days₁ hundredths₁ controls₁
+    pub part-ends : {whole : Round} → i + result .taken < end → whole ≡ roundAt (result .reader) (i + result .taken) (result .reports) (result .stop) → Leaves r ss 0 0 l₀ whole l₁
     part-ends h e =
         let early : result .taken < m = omega arith in
-        fed-stops part-fed (rw result-is (standing-stops (g .standing) m within-answers days₁ hundredths₁ controls₁ (rw result-is at early))) e
+        fed-stops part-fed (rw result-is (rw from-there at (standing-stops (g .standing) m within-answers (rw from-there (rw result-is at early))))) e
 
 -- ---- the call
 
@@ -86,47 +89,30 @@ refusedBlock r x = record { reader = r; answer = BlockAnswer.Refused x }
 abbrev pub takenBlock : Round → FedBlock
 takenBlock q = record { reader = q .reader; answer = BlockAnswer.Taken (q .taken) (q .reports) (q .stop) }
 
-pub records-long : (days hundredths controls : List ℕ) → areRecords days hundredths controls ≡ true → (length hundredths ≡ length days) × (length controls ≡ length days)
-records-long days hundredths controls h =
-    let second = eqb (length hundredths) (length days) in
-    let third = eqb (length controls) (length days) in
-    (eqb-true (length hundredths) (length days) (and-left second third h), eqb-true (length controls) (length days) (and-right second third h))
+pub records-even : (l : Lists) → areRecords l ≡ true → Even l
+records-even l h =
+    let second = eqb (length (l .days)) (roomIn l) in
+    let third = eqb (length (l .hundredths)) (roomIn l) in
+    let fourth = eqb (length (l .controls)) (roomIn l) in
+    let others = and-right second (third && fourth) h in
+    (eqb-true (length (l .days)) (roomIn l) (and-left second (third && fourth) h), eqb-true (length (l .hundredths)) (roomIn l) (and-left third fourth others), eqb-true (length (l .controls)) (roomIn l) (and-right third fourth others))
 
 -- what the call gives and leaves
-pub record Gives (r : Reader) (ss days hundredths controls : List ℕ) (fed : FedBlock) (days₁ hundredths₁ controls₁ : List ℕ) : Type 0 where
-  pub given : fed ≡ feedBlockOf r ss days hundredths controls
-  pub days-left : days₁ ≡ fieldLeft dayOf (blockFor r ss days hundredths controls) days
-  pub hundredths-left : hundredths₁ ≡ fieldLeft hundredthsOf (blockFor r ss days hundredths controls) hundredths
-  pub controls-left : controls₁ ≡ fieldLeft controlOf (blockFor r ss days hundredths controls) controls
+abbrev pub Gives : Reader → List ℕ → Lists → FedBlock → Lists → Type 0
+Gives r ss l fed l₁ = (fed ≡ feedBlockOf r ss l) × (l₁ ≡ listsLeft (blockFor r ss l) l)
 
-module _ (r : Reader) (ss days hundredths controls : List ℕ) where
-  pub block-refused : (x : Refusal) → (isValid r && areRecords days hundredths controls) ≡ false → BlockAnswer.Refused x ≡ blockAnswer r ss days hundredths controls → Gives r ss days hundredths controls (refusedBlock r x) days hundredths controls
+module _ (r : Reader) (ss : List ℕ) (l : Lists) where
+  pub block-refused : (x : Refusal) → (isValid r && areRecords l) ≡ false → BlockAnswer.Refused x ≡ blockAnswer r ss l → Gives r ss l (refusedBlock r x) l
   unfolding feedBlockOf blockFor fieldLeft readerAfter
-  block-refused x n e =
-      record {
-        given = rw n (ap (λ (a : BlockAnswer). record { reader = r; answer = a }) e);
-        days-left = rw n;
-        hundredths-left = rw n;
-        controls-left = rw n;
-      }
+  block-refused x n e = (rw n (ap (λ (a : BlockAnswer). record { reader = r; answer = a }) e), rw n)
 
-  field-put : (field : Reported → ℕ) (rs : List Reported) (entries values : List ℕ) → length rs ≤ length entries → values ≡ putFrom 0 (map field rs) entries → values ≡ putIn (map field rs) entries
-  field-put field rs entries values h e = e ∙ put-start (map field rs) entries (omega (arith, length-map rs field))
-
-  pub block-taken : (q : Round) (days₁ hundredths₁ controls₁ : List ℕ) → isValid r ≡ true → areRecords days hundredths controls ≡ true
-      → Leaves r ss 0 days hundredths controls q days₁ hundredths₁ controls₁ → Gives r ss days hundredths controls (takenBlock q) days₁ hundredths₁ controls₁
-  unfolding feedBlockOf blockFor blockAnswer fieldLeft roundOf
-  block-taken q days₁ hundredths₁ controls₁ v same leaves =
-      let room : length days - 0 ≡ length days = omega arith in
-      let long = records-long days hundredths controls same in
-      let fits = block-takes (length days) (answers r ss) .fits in
+  pub block-taken : (q : Round) (l₁ : Lists) → isValid r ≡ true → areRecords l ≡ true → Leaves r ss 0 0 l q l₁ → Gives r ss l (takenBlock q) l₁
+  unfolding feedBlockOf blockFor blockAnswer roundOf
+  block-taken q l₁ v same leaves =
+      let room : roomIn l - 0 ≡ roomIn l = omega arith in
+      let b = blockOf r (roomIn l) ss in
       let is = rw room at (leaves .0) in
-      let put = rw room at (leaves .1) in
-      record {
-        given =
-            ap takenBlock is
-            ∙ rw (v, same) (ap (λ (k : ℕ). takenBlock (record { reader = readerAfter r (take (blockOf r (length days) ss .taken) ss); taken = blockOf r (length days) ss .taken; reports = k; stop = blockOf r (length days) ss .stop })) (zero-add (length (blockOf r (length days) ss .reports))));
-        days-left = rw (v, same) (field-put dayOf (blockOf r (length days) ss .reports) days days₁ fits (put .days-are));
-        hundredths-left = rw (v, same) (field-put hundredthsOf (blockOf r (length days) ss .reports) hundredths hundredths₁ (omega (arith, fits, long)) (put .hundredths-are));
-        controls-left = rw (v, same) (field-put controlOf (blockOf r (length days) ss .reports) controls controls₁ (omega (arith, fits, long)) (put .controls-are));
-      }
+      let put = rw room at (leaves .1) in (
+        ap takenBlock is ∙ rw (v, same) (ap (λ (k : ℕ). takenBlock (record { reader = readerAfter r (take (b .taken) ss); taken = b .taken; reports = k; stop = b .stop })) (zero-add (length (b .reports)))),
+        rw (v, same) (put ∙ put-left b l (block-takes 0 (roomIn l) (answers r ss) .fits) (records-even l same)),
+      )

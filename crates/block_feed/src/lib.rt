@@ -5,8 +5,8 @@ ghost use mathlib.Core.Bool.{true, _&&_};
 ghost use lib.Dec.{eqb};
 ghost use lib.ListN.{length};
 ghost use Rattle.stream.specs.Feeding.{isValid};
-ghost use Rattle.block.specs.Blocks.{blockFor, feedBlockOf, dayOf, hundredthsOf, controlOf, fieldLeft};
-ghost use Rattle.block_part.specs.Rounds.{partOf, roundOf, Filled};
+ghost use Rattle.block.specs.Blocks.{lists, blockFor, feedBlockOf, listsLeft};
+ghost use Rattle.block_part.specs.Rounds.{putFrom, Even, partOf, roundOf};
 ghost use Rattle.block_feed.specs.Whole.{refusedBlock, takenBlock};
 use block::BlockAnswer;
 use block::FedBlock;
@@ -23,13 +23,14 @@ use timecode::Refusal;
 fn feed_parts(
     reader: Reader,
     symbols: &[u8],
+    indexes: &mut [usize],
     days: &mut [u16],
     hundredths: &mut [u32],
     controls: &mut [u64],
 ) -> Round
-    requires { ⌜ (length (now hundredths) ≡ length (now days)) × (length (now controls) ≡ length (now days)) × (isValid reader ≡ true) ⌝ }
-    ensures { λ r. ⌜ r ≡ roundOf reader (now (symbols .entry)) 0 (length (now (days .entry))) ⌝ }
-    ensures { λ _. ⌜ Filled 0 (partOf reader (now (symbols .entry)) 0 (length (now (days .entry))) .reports) (now (days .entry)) (now (hundredths .entry)) (now (controls .entry)) (now (days .exit)) (now (hundredths .exit)) (now (controls .exit)) ⌝ }
+    requires { ⌜ (isValid reader ≡ true) × Even (lists (now indexes) (now days) (now hundredths) (now controls)) ⌝ }
+    ensures { λ r. ⌜ r ≡ roundOf reader (now (symbols .entry)) 0 0 (length (now (indexes .entry))) ⌝ }
+    ensures { λ _. ⌜ lists (now (indexes .exit)) (now (days .exit)) (now (hundredths .exit)) (now (controls .exit)) ≡ putFrom 0 (partOf reader (now (symbols .entry)) 0 0 (length (now (indexes .entry))) .reports) (lists (now (indexes .entry)) (now (days .entry)) (now (hundredths .entry)) (now (controls .entry))) ⌝ }
 {
     let mut current = reader;
     let mut taken = 0;
@@ -37,7 +38,16 @@ fn feed_parts(
     while taken < symbols.len() {
         let end = part_end(taken, symbols.len());
         let part = &symbols[taken..end];
-        let fed = feed_part(current, part, reports, days, hundredths, controls);
+        let fed = feed_part(
+            current,
+            part,
+            taken,
+            reports,
+            indexes,
+            days,
+            hundredths,
+            controls,
+        );
         let stop = fed.stop;
         current = fed.reader;
         taken += fed.taken;
@@ -69,31 +79,33 @@ fn taken_block(round: Round) -> FedBlock
     }
 }
 
-fn are_equal(first: usize, second: usize, third: usize) -> bool
-    ensures { λ r. ⌜ r ≡ (eqb second first && eqb third first) ⌝ }
+fn are_equal(first: usize, second: usize, third: usize, fourth: usize) -> bool
+    ensures { λ r. ⌜ r ≡ (eqb second first && (eqb third first && eqb fourth first)) ⌝ }
 {
     if second == first {
-        return third == first;
+        if third == first {
+            return fourth == first;
+        }
     }
     false
 }
 
-// Feeds a block of symbols. A report is a record of the lent list: its day, its hundredths and its control word, each at one index of its own list.
+// Feeds a block of symbols. A report is a record of the lent list: the index of its symbol in the block, its day, its hundredths
+// and its control word, each at one entry of a list of its own.
 pub fn feed_block(
     reader: Reader,
     symbols: &[u8],
+    indexes: &mut [usize],
     days: &mut [u16],
     hundredths: &mut [u32],
     controls: &mut [u64],
 ) -> FedBlock
-    ensures { λ r. ⌜ r ≡ feedBlockOf reader (now (symbols .entry)) (now (days .entry)) (now (hundredths .entry)) (now (controls .entry)) ⌝ }
-    ensures { λ _. ⌜ now (days .exit) ≡ fieldLeft dayOf (blockFor reader (now (symbols .entry)) (now (days .entry)) (now (hundredths .entry)) (now (controls .entry))) (now (days .entry)) ⌝ }
-    ensures { λ _. ⌜ now (hundredths .exit) ≡ fieldLeft hundredthsOf (blockFor reader (now (symbols .entry)) (now (days .entry)) (now (hundredths .entry)) (now (controls .entry))) (now (hundredths .entry)) ⌝ }
-    ensures { λ _. ⌜ now (controls .exit) ≡ fieldLeft controlOf (blockFor reader (now (symbols .entry)) (now (days .entry)) (now (hundredths .entry)) (now (controls .entry))) (now (controls .entry)) ⌝ }
+    ensures { λ r. ⌜ r ≡ feedBlockOf reader (now (symbols .entry)) (lists (now (indexes .entry)) (now (days .entry)) (now (hundredths .entry)) (now (controls .entry))) ⌝ }
+    ensures { λ _. ⌜ lists (now (indexes .exit)) (now (days .exit)) (now (hundredths .exit)) (now (controls .exit)) ≡ listsLeft (blockFor reader (now (symbols .entry)) (lists (now (indexes .entry)) (now (days .entry)) (now (hundredths .entry)) (now (controls .entry)))) (lists (now (indexes .entry)) (now (days .entry)) (now (hundredths .entry)) (now (controls .entry))) ⌝ }
 {
     if is_valid(reader) {
-        if are_equal(days.len(), hundredths.len(), controls.len()) {
-            let fed = feed_parts(reader, symbols, days, hundredths, controls);
+        if are_equal(indexes.len(), days.len(), hundredths.len(), controls.len()) {
+            let fed = feed_parts(reader, symbols, indexes, days, hundredths, controls);
             return taken_block(fed);
         }
         return refuse(reader, Refusal::WrongLength);
@@ -117,16 +129,15 @@ fn block_answer(fed: FedBlock) -> BlockAnswer
 pub fn feed_block_in_place(
     reader: &mut Reader,
     symbols: &[u8],
+    indexes: &mut [usize],
     days: &mut [u16],
     hundredths: &mut [u32],
     controls: &mut [u64],
 ) -> BlockAnswer
-    ensures { λ r. ⌜ (r ≡ feedBlockOf (now (reader .entry)) (now (symbols .entry)) (now (days .entry)) (now (hundredths .entry)) (now (controls .entry)) .answer) × (now (reader .exit) ≡ feedBlockOf (now (reader .entry)) (now (symbols .entry)) (now (days .entry)) (now (hundredths .entry)) (now (controls .entry)) .reader) ⌝ }
-    ensures { λ _. ⌜ now (days .exit) ≡ fieldLeft dayOf (blockFor (now (reader .entry)) (now (symbols .entry)) (now (days .entry)) (now (hundredths .entry)) (now (controls .entry))) (now (days .entry)) ⌝ }
-    ensures { λ _. ⌜ now (hundredths .exit) ≡ fieldLeft hundredthsOf (blockFor (now (reader .entry)) (now (symbols .entry)) (now (days .entry)) (now (hundredths .entry)) (now (controls .entry))) (now (hundredths .entry)) ⌝ }
-    ensures { λ _. ⌜ now (controls .exit) ≡ fieldLeft controlOf (blockFor (now (reader .entry)) (now (symbols .entry)) (now (days .entry)) (now (hundredths .entry)) (now (controls .entry))) (now (controls .entry)) ⌝ }
+    ensures { λ r. ⌜ (r ≡ feedBlockOf (now (reader .entry)) (now (symbols .entry)) (lists (now (indexes .entry)) (now (days .entry)) (now (hundredths .entry)) (now (controls .entry))) .answer) × (now (reader .exit) ≡ feedBlockOf (now (reader .entry)) (now (symbols .entry)) (lists (now (indexes .entry)) (now (days .entry)) (now (hundredths .entry)) (now (controls .entry))) .reader) ⌝ }
+    ensures { λ _. ⌜ lists (now (indexes .exit)) (now (days .exit)) (now (hundredths .exit)) (now (controls .exit)) ≡ listsLeft (blockFor (now (reader .entry)) (now (symbols .entry)) (lists (now (indexes .entry)) (now (days .entry)) (now (hundredths .entry)) (now (controls .entry)))) (lists (now (indexes .entry)) (now (days .entry)) (now (hundredths .entry)) (now (controls .entry))) ⌝ }
 {
-    let fed = feed_block(*reader, symbols, days, hundredths, controls);
+    let fed = feed_block(*reader, symbols, indexes, days, hundredths, controls);
     *reader = block_reader(fed);
     block_answer(fed)
 }

@@ -25,22 +25,22 @@ use Rattle.stream.specs.Refinement.{answers, readerAfter}
 use Rattle.stream.specs.declared.Reader.{Reader}
 use Rattle.parts.specs.Behind.{past, length-past, Behind, small-there, Laid, laid-more, laid-behind, Agrees, behind-agrees}
 use Rattle.parts.specs.Feeds.{answers-at, length-answers, valid-after, refused-above}
-use Rattle.block.specs.Blocks.{blockIn}
+use Rattle.block.specs.Blocks.{blockIn, reportAt, Lists, roomIn}
 use Rattle.block.specs.declared.Stop.{Stop}
 use Rattle.block.specs.declared.Stop.the-variants.{AllTaken, UnknownSymbol, NoRoom}
-use Rattle.block_part.specs.Rounds.{stopsAt, roundAt, Leaves, Standing, standing-start, standing-long, standing-quiet, standing-report, standing-full, standing-refused, standing-end, FedTo, fed-stops}
+use Rattle.block_part.specs.Rounds.{setRecord, AsLong, stopsAt, partOf, roundAt, Leaves, Standing, standing-start, standing-long, standing-quiet, standing-report, standing-full, standing-refused, standing-end, FedTo, fed-stops}
 use Rattle.block_part.specs.declared.Heard.{Heard}
 use Rattle.block_part.specs.declared.Round.{Round}
 
--- ---- the reports among symbols from index 224 on
+-- ---- the reports among symbols from index 224 on, the first of them at the index `first` of the block
 
 -- how far the reports are put in: up to an index, or before a report with no room left
-pub record Hears (as′ : List Answer) (put : ℕ) (days₀ hundredths₀ controls₀ : List ℕ) (to : ℕ) (found : Heard) (days hundredths controls : List ℕ) : Type 0 where
+pub record Hears (as′ : List Answer) (first put : ℕ) (l₀ : Lists) (to : ℕ) (found : Heard) (l : Lists) : Type 0 where
   pub from : 224 ≤ found .at
   pub until : found .at ≤ to
-  pub standing : Standing as′ put days₀ hundredths₀ controls₀ (found .at - 224) (found .reports) days hundredths controls
+  pub standing : Standing as′ first put l₀ (found .at - 224) (found .reports) l
   pub ended : found .full ≡ false → found .at ≡ to
-  pub full : found .full ≡ true → blockIn (length days₀ - put) as′ ≡ stopsAt (length days₀ - put) as′ (found .at - 224) NoRoom
+  pub full : found .full ≡ true → blockIn first (roomIn l₀ - put) as′ ≡ stopsAt first (roomIn l₀ - put) as′ (found .at - 224) NoRoom
 
 -- the answers themselves agree
 abbrev pub heldAnswers : Format → List ℕ → ℕ → List Answer
@@ -54,34 +54,33 @@ heardTo at reports full = record { at = at; reports = reports; full = full }
 
 -- ---- the search has come to an index, and of the frame that ends before another the time is known
 
-pub record Searched (f : Format) (held : List ℕ) (to put : ℕ) (days₀ hundredths₀ controls₀ : List ℕ) (at reports known : ℕ) (time : Time) (days hundredths controls : List ℕ) : Type 0 where
+pub record Searched (f : Format) (held : List ℕ) (to first put : ℕ) (l₀ : Lists) (at reports known : ℕ) (time : Time) (l : Lists) : Type 0 where
   pub from : 224 ≤ at
   pub until : at ≤ to
   pub knows : Knows f held known time
-  pub standing : (as′ : List Answer) → Agrees f held to as′ → Standing as′ put days₀ hundredths₀ controls₀ (at - 224) reports days hundredths controls
+  pub standing : (as′ : List Answer) → Agrees f held to as′ → Standing as′ first put l₀ (at - 224) reports l
 
-pub searched-start : (f : Format) (held : List ℕ) {to put : ℕ} {days₀ hundredths₀ controls₀ : List ℕ} (time : Time) → 224 ≤ to → Searched f held to put days₀ hundredths₀ controls₀ 224 put 0 time days₀ hundredths₀ controls₀
+pub searched-start : (f : Format) (held : List ℕ) {to first put : ℕ} {l₀ : Lists} (time : Time) → 224 ≤ to → Searched f held to first put l₀ 224 put 0 time l₀
 searched-start f held time h = record { from = omega arith; until = h; knows = none-known f held time; standing = λ as′ a. standing-start }
 
-module _ {f : Format} {held : List ℕ} {to put : ℕ} {days₀ hundredths₀ controls₀ : List ℕ} {at reports known : ℕ} {time : Time} {days hundredths controls : List ℕ}
-    (g : Searched f held to put days₀ hundredths₀ controls₀ at reports known time days hundredths controls) where
-  pub searched-standing : Standing (heldAnswers f held to) put days₀ hundredths₀ controls₀ (at - 224) reports days hundredths controls
+module _ {f : Format} {held : List ℕ} {to first put : ℕ} {l₀ : Lists} {at reports known : ℕ} {time : Time} {l : Lists} (g : Searched f held to first put l₀ at reports known time l) where
+  pub searched-standing : Standing (heldAnswers f held to) first put l₀ (at - 224) reports l
   searched-standing = g .standing (heldAnswers f held to) (held-agrees f held to (omega (arith, g .from, g .until)))
 
   -- Quiet answers are passed
   module _ (as′ : List Answer) (a : Agrees f held to as′) (next : ℕ) (h : at ≤ next) (b : next ≤ to) (q : QuietFrom f held at next) where
-    passed-by : (k : ℕ) → at + k ≤ next → Standing as′ put days₀ hundredths₀ controls₀ (at + k - 224) reports days hundredths controls
+    passed-by : (k : ℕ) → at + k ≤ next → Standing as′ first put l₀ (at + k - 224) reports l
     passed-by zero u = rw (add-zero at) (g .standing as′ a)
     passed-by (suc k) u =
         let on : at + suc k - 224 ≡ at + k - 224 + 1 = omega (arith, g .from) in
         let index : 224 + (at + k - 224) ≡ at + k = omega (arith, g .from) in
         rw on (standing-quiet (passed-by k (omega arith)) (omega (arith, a .0, g .from)) Quiet (a .1 (at + k - 224) (omega (arith, g .from)) ∙ ap (answerAt f held) index ∙ q (at + k) (omega arith) (omega arith)))
 
-    passed : Standing as′ put days₀ hundredths₀ controls₀ (next - 224) reports days hundredths controls
+    passed : Standing as′ first put l₀ (next - 224) reports l
     passed = let whole : at + (next - at) - 224 ≡ next - 224 = omega arith in rw whole at (passed-by (next - at) (omega arith))
 
   -- no report is left
-  pub searched-quiet : {found : Heard} → QuietFrom f held at to → found ≡ heardTo to reports false → (as′ : List Answer) → Agrees f held to as′ → Hears as′ put days₀ hundredths₀ controls₀ to found days hundredths controls
+  pub searched-quiet : {found : Heard} → QuietFrom f held at to → found ≡ heardTo to reports false → (as′ : List Answer) → Agrees f held to as′ → Hears as′ first put l₀ to found l
   searched-quiet q e as′ a = rw e
       (record {
         from = omega (arith, g .from, g .until);
@@ -91,11 +90,11 @@ module _ {f : Format} {held : List ℕ} {to put : ℕ} {days₀ hundredths₀ co
         full = λ x. absurd (false≢true x);
       })
 
-  pub searched-end : {found : Heard} → to ≤ at → found ≡ heardTo to reports false → (as′ : List Answer) → Agrees f held to as′ → Hears as′ put days₀ hundredths₀ controls₀ to found days hundredths controls
+  pub searched-end : {found : Heard} → to ≤ at → found ≡ heardTo to reports false → (as′ : List Answer) → Agrees f held to as′ → Hears as′ first put l₀ to found l
   searched-end h e = searched-quiet (λ j b c. let n : ⊥ = omega arith in absurd n) e
 
   module _ {i : ℕ} {t : Time} {w : ℕ} (finds : (at ≤ i) × (i < to) × QuietFrom f held at i × (answerAt f held i ≡ Report t w)) where
-    reached-it : (as′ : List Answer) → Agrees f held to as′ → Standing as′ put days₀ hundredths₀ controls₀ (i - 224) reports days hundredths controls
+    reached-it : (as′ : List Answer) → Agrees f held to as′ → Standing as′ first put l₀ (i - 224) reports l
     reached-it as′ a = passed as′ a i (finds .0) (omega (arith, finds .1)) (finds .2)
 
     said : (as′ : List Answer) → Agrees f held to as′ → (i - 224 < length as′) × (getD as′ (i - 224) Quiet ≡ Report t w)
@@ -104,7 +103,7 @@ module _ {f : Format} {held : List ℕ} {to put : ℕ} {days₀ hundredths₀ co
         (omega (arith, a .0, g .from, finds .0, finds .1), a .1 (i - 224) (omega (arith, index, finds .1)) ∙ ap (answerAt f held) index ∙ finds .3)
 
     -- a report with no room left
-    pub searched-full : {found : Heard} → reports ≡ length days → found ≡ heardTo i reports true → (as′ : List Answer) → Agrees f held to as′ → Hears as′ put days₀ hundredths₀ controls₀ to found days hundredths controls
+    pub searched-full : {found : Heard} → reports ≡ roomIn l → found ≡ heardTo i reports true → (as′ : List Answer) → Agrees f held to as′ → Hears as′ first put l₀ to found l
     searched-full full e as′ a = rw e
         (record {
           from = omega (arith, g .from, finds .0);
@@ -115,15 +114,14 @@ module _ {f : Format} {held : List ℕ} {to put : ℕ} {days₀ hundredths₀ co
         })
 
     -- a report that is put in
-    pub searched-more : {days₁ hundredths₁ controls₁ : List ℕ} → to ≤ length held → reports < length days → (days₁ ≡ set days reports (t .day)) × (hundredths₁ ≡ set hundredths reports (t .hundredths)) × (controls₁ ≡ set controls reports w)
-        → Searched f held to put days₀ hundredths₀ controls₀ (i + 1) (reports + 1) (i + 1) t days₁ hundredths₁ controls₁
+    pub searched-more : {l₁ : Lists} → to ≤ length held → reports < roomIn l → l₁ ≡ setRecord l reports (reportAt (first + (i - 224)) t w) → Searched f held to first put l₀ (i + 1) (reports + 1) (i + 1) t l₁
     searched-more long left stored =
         let on : i + 1 - 224 ≡ i - 224 + 1 = omega (arith, g .from, finds .0) in
         record {
           from = omega (arith, g .from, finds .0);
           until = omega (arith, finds .1);
           knows = reported-known f held i t w (omega (arith, g .from, finds .0, size-range f)) (omega (arith, finds .1)) (finds .3);
-          standing = λ as′ a. rw (on, stored .0, stored .1, stored .2) (standing-report (reached-it as′ a) (said as′ a .0) Quiet t w (said as′ a .1) left);
+          standing = λ as′ a. rw (on, stored) (standing-report (reached-it as′ a) (said as′ a .0) Quiet t w (said as′ a .1) left);
         }
 
 -- ---- a part, by the search among its symbols
@@ -146,12 +144,11 @@ together r ss front held count v few unpacked laid counted =
     let long : length held ≡ 736 = laid .long ∙ ap length unpacked ∙ length-append (past (r .heard)) (drop 224 zeros) ∙ omega (arith, length-past (r .heard), length-drop 224 zeros, length-replicate {A = ℕ} 736 0) in
     record { counted = counted; behind = rw counted (laid-behind r ss zeros front held v unpacked laid); room = omega (arith, long, counted, accepted-within ss) }
 
-module _ {r : Reader} {ss held : List ℕ} {count : ℕ} (t : Together r ss held count) {put : ℕ} {days₀ hundredths₀ controls₀ : List ℕ} {found : Heard} {days hundredths controls : List ℕ}
-    (hears : (as′ : List Answer) → Agrees (r .format) held (224 + count) as′ → Hears as′ put days₀ hundredths₀ controls₀ (224 + count) found days hundredths controls) where
+module _ {r : Reader} {ss held : List ℕ} {count : ℕ} (t : Together r ss held count) {first put : ℕ} {l₀ : Lists} {found : Heard} {l : Lists} (hears : (as′ : List Answer) → Agrees (r .format) held (224 + count) as′ → Hears as′ first put l₀ (224 + count) found l) where
   abbrev taken : ℕ
   taken = found .at - 224
 
-  pub together-hears : Hears (answers r ss) put days₀ hundredths₀ controls₀ (224 + count) found days hundredths controls
+  pub together-hears : Hears (answers r ss) first put l₀ (224 + count) found l
   together-hears = hears (answers r ss) (behind-agrees r ss held count (t .behind))
 
   taken-few : taken ≤ count
@@ -161,14 +158,14 @@ module _ {r : Reader} {ss held : List ℕ} {count : ℕ} (t : Together r ss held
   pub together-packs : (224 + taken ≤ length held) × (1 ≤ taken → (isValid r ≡ true) × ((k : ℕ) → k < 224 + taken → getD held k 0 < 4))
   together-packs = (omega (arith, taken-few, t .room), λ some. (t .behind .valid, λ k b. small-there r ss held count (t .behind) k (omega (arith, taken-few))))
 
-  pub together-long : (length days ≡ length days₀) × (length hundredths ≡ length hundredths₀) × (length controls ≡ length controls₀)
+  pub together-long : AsLong l l₀
   together-long = standing-long (together-hears .standing)
 
   -- the symbol behind the last accepted one is refused
   unknown-there : count < length ss → getD (answers r ss) count Quiet ≡ Answer.Refused (refusal 4 0)
   unknown-there b = answers-at r ss Quiet count b ∙ refused-above (readerAfter r (take count ss)) (getD ss count 0) (valid-after r (take count ss) (t .behind .valid)) (rw (t .counted) (unaccepted-at ss (rw (t .counted) at b)))
 
-  stops-there : (full unknown : Bool) → found .full ≡ full → ltb count (length ss) ≡ unknown → blockIn (length days₀ - put) (answers r ss) ≡ stopsAt (length days₀ - put) (answers r ss) taken (stopOf full unknown)
+  stops-there : (full unknown : Bool) → found .full ≡ full → ltb count (length ss) ≡ unknown → partOf r ss first put (roomIn l₀) ≡ stopsAt first (roomIn l₀ - put) (answers r ss) taken (stopOf full unknown)
   stops-there true unknown e u = together-hears .full e
   stops-there false true e u =
       let b = ltb-true count (length ss) u in
@@ -182,9 +179,9 @@ module _ {r : Reader} {ss held : List ℕ} {count : ℕ} (t : Together r ss held
   pub together-gives : {next : Reader} {why : Stop} {result : Round}
       → ((symbols : List ℕ) (m : ℕ) → (1 ≤ taken → Behind r symbols held m) → taken ≤ m → next ≡ readerAfter r (take taken symbols))
       → why ≡ stopOf (found .full) (ltb count (length ss)) → result ≡ roundAt next taken (found .reports) why
-      → Leaves r ss put days₀ hundredths₀ controls₀ result days hundredths controls
+      → Leaves r ss first put l₀ result l
   together-gives {next} packed stops e =
-      let fed : FedTo r ss put days₀ hundredths₀ controls₀ taken (found .reports) days hundredths controls next = record { standing = together-hears .standing; reader = packed ss count (λ some. t .behind) taken-few } in
+      let fed : FedTo r ss first put l₀ taken (found .reports) l next = record { standing = together-hears .standing; reader = packed ss count (λ some. t .behind) taken-few } in
       fed-stops fed (rw stops (stops-there (found .full) (ltb count (length ss)) refl refl)) e
 
 -- ---- the symbols copied behind the first 224 bytes

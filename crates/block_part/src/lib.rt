@@ -3,13 +3,14 @@
 ghost use mathlib.Core.Path.{_≡_};
 ghost use mathlib.Core.Bool.{true};
 ghost use mathlib.Core.List.{List};
-ghost use Prim.Native.Nat.{_+_, _≤_, _<_};
-ghost use lib.ListN.{length, set};
+ghost use Prim.Native.Nat.{_+_, _-_, _≤_, _<_};
+ghost use lib.ListN.{length};
 ghost use Rattle.timecode.specs.declared.Answer.{Answer};
 ghost use Rattle.stream.specs.Feeding.{isValid};
 ghost use Rattle.parts.specs.Behind.{Laid, Agrees};
+ghost use Rattle.block.specs.Blocks.{reportAt, lists};
 ghost use Rattle.block_part.specs.Held.{Hears, heardTo, stopOf};
-ghost use Rattle.block_part.specs.Rounds.{partOf, roundAt, roundOf, Filled};
+ghost use Rattle.block_part.specs.Rounds.{setRecord, putFrom, Even, partOf, roundAt, roundOf};
 use block::Stop;
 use packing::unpack;
 use parts::reader_after;
@@ -50,16 +51,19 @@ pub fn round_at(reader: Reader, taken: usize, reports: usize, stop: Stop) -> Rou
 }
 
 fn put_report(
+    indexes: &mut [usize],
     days: &mut [u16],
     hundredths: &mut [u32],
     controls: &mut [u64],
     at: usize,
+    index: usize,
     time: Time,
     control: u64,
 )
-    requires { ⌜ (at < length (now days)) × (at < length (now hundredths)) × (at < length (now controls)) ⌝ }
-    ensures { λ _. ⌜ (now (days .exit) ≡ set (now (days .entry)) at (time .day)) × (now (hundredths .exit) ≡ set (now (hundredths .entry)) at (time .hundredths)) × (now (controls .exit) ≡ set (now (controls .entry)) at control) ⌝ }
+    requires { ⌜ (at < length (now indexes)) × (at < length (now days)) × (at < length (now hundredths)) × (at < length (now controls)) ⌝ }
+    ensures { λ _. ⌜ lists (now (indexes .exit)) (now (days .exit)) (now (hundredths .exit)) (now (controls .exit)) ≡ setRecord (lists (now (indexes .entry)) (now (days .entry)) (now (hundredths .entry)) (now (controls .entry))) at (reportAt index time control) ⌝ }
 {
+    indexes[at] = index;
     days[at] = time.day;
     hundredths[at] = time.hundredths;
     controls[at] = control;
@@ -69,14 +73,16 @@ fn put_report(
 fn feed_singly(
     reader: Reader,
     symbols: &[u8],
+    first: usize,
     put: usize,
+    indexes: &mut [usize],
     days: &mut [u16],
     hundredths: &mut [u32],
     controls: &mut [u64],
 ) -> Round
-    requires { ⌜ (put ≤ length (now days)) × (length (now hundredths) ≡ length (now days)) × (length (now controls) ≡ length (now days)) ⌝ }
-    ensures { λ r. ⌜ r ≡ roundOf reader (now (symbols .entry)) put (length (now (days .entry))) ⌝ }
-    ensures { λ _. ⌜ Filled put (partOf reader (now (symbols .entry)) put (length (now (days .entry))) .reports) (now (days .entry)) (now (hundredths .entry)) (now (controls .entry)) (now (days .exit)) (now (hundredths .exit)) (now (controls .exit)) ⌝ }
+    requires { ⌜ (first + length (now symbols) ≤ 18446744073709551615) × (put ≤ length (now indexes)) × Even (lists (now indexes) (now days) (now hundredths) (now controls)) ⌝ }
+    ensures { λ r. ⌜ r ≡ roundOf reader (now (symbols .entry)) first put (length (now (indexes .entry))) ⌝ }
+    ensures { λ _. ⌜ lists (now (indexes .exit)) (now (days .exit)) (now (hundredths .exit)) (now (controls .exit)) ≡ putFrom put (partOf reader (now (symbols .entry)) first put (length (now (indexes .entry))) .reports) (lists (now (indexes .entry)) (now (days .entry)) (now (hundredths .entry)) (now (controls .entry))) ⌝ }
 {
     let mut current = reader;
     let mut reports = put;
@@ -92,10 +98,19 @@ fn feed_singly(
                 continue;
             }
             Answer::Report(time, control) => {
-                if reports == days.len() {
+                if reports == indexes.len() {
                     return round_at(current, i, reports, Stop::NoRoom);
                 }
-                put_report(days, hundredths, controls, reports, time, control);
+                put_report(
+                    indexes,
+                    days,
+                    hundredths,
+                    controls,
+                    reports,
+                    first + i,
+                    time,
+                    control,
+                );
                 reports += 1;
                 current = next;
                 i += 1;
@@ -131,18 +146,20 @@ fn heard_at(at: usize, reports: usize, full: bool) -> Heard
     }
 }
 
-// Puts in the reports from index 224 to another. Each report's frame is the earlier one of the next, so it is read once.
+// Puts in the reports from index 224 to another; the symbol there is the one at `first` in the block. Each report's frame is the earlier one of the next, so it is read once.
 fn put_reports(
     format: Format,
     held: &[u8],
     to: usize,
+    first: usize,
     put: usize,
+    indexes: &mut [usize],
     days: &mut [u16],
     hundredths: &mut [u32],
     controls: &mut [u64],
 ) -> Heard
-    requires { ⌜ (224 ≤ to) × (to ≤ length (now held)) × (put ≤ length (now days)) × (length (now hundredths) ≡ length (now days)) × (length (now controls) ≡ length (now days)) ⌝ }
-    ensures { λ r. ⌜ ((answers : List Answer) → Agrees format (now (held .entry)) to answers → Hears answers put (now (days .entry)) (now (hundredths .entry)) (now (controls .entry)) to r (now (days .exit)) (now (hundredths .exit)) (now (controls .exit))) ⌝ }
+    requires { ⌜ (224 ≤ to) × (to ≤ length (now held)) × (first + (to - 224) ≤ 18446744073709551615) × (put ≤ length (now indexes)) × Even (lists (now indexes) (now days) (now hundredths) (now controls)) ⌝ }
+    ensures { λ r. ⌜ ((answers : List Answer) → Agrees format (now (held .entry)) to answers → Hears answers first put (lists (now (indexes .entry)) (now (days .entry)) (now (hundredths .entry)) (now (controls .entry))) to r (lists (now (indexes .exit)) (now (days .exit)) (now (hundredths .exit)) (now (controls .exit)))) ⌝ }
 {
     let mut at = 224;
     let mut filled = put;
@@ -156,10 +173,20 @@ fn put_reports(
         let Found::At(place, reported, control) = found else {
             return heard_at(to, filled, false);
         };
-        if filled == days.len() {
+        if filled == indexes.len() {
             return heard_at(place, filled, true);
         }
-        put_report(days, hundredths, controls, filled, reported, control);
+        let index = first + (place - 224);
+        put_report(
+            indexes,
+            days,
+            hundredths,
+            controls,
+            filled,
+            index,
+            reported,
+            control,
+        );
         filled += 1;
         at = place + 1;
         known = at;
@@ -184,14 +211,16 @@ fn stop_of(full: bool, unknown: bool) -> Stop
 fn feed_together(
     reader: Reader,
     symbols: &[u8],
+    first: usize,
     put: usize,
+    indexes: &mut [usize],
     days: &mut [u16],
     hundredths: &mut [u32],
     controls: &mut [u64],
 ) -> Round
-    requires { ⌜ (put ≤ length (now days)) × (length (now hundredths) ≡ length (now days)) × (length (now controls) ≡ length (now days)) × (isValid reader ≡ true) × (length (now symbols) ≤ 512) ⌝ }
-    ensures { λ r. ⌜ r ≡ roundOf reader (now (symbols .entry)) put (length (now (days .entry))) ⌝ }
-    ensures { λ _. ⌜ Filled put (partOf reader (now (symbols .entry)) put (length (now (days .entry))) .reports) (now (days .entry)) (now (hundredths .entry)) (now (controls .entry)) (now (days .exit)) (now (hundredths .exit)) (now (controls .exit)) ⌝ }
+    requires { ⌜ (isValid reader ≡ true) × (length (now symbols) ≤ 512) × (first + length (now symbols) ≤ 18446744073709551615) × (put ≤ length (now indexes)) × Even (lists (now indexes) (now days) (now hundredths) (now controls)) ⌝ }
+    ensures { λ r. ⌜ r ≡ roundOf reader (now (symbols .entry)) first put (length (now (indexes .entry))) ⌝ }
+    ensures { λ _. ⌜ lists (now (indexes .exit)) (now (days .exit)) (now (hundredths .exit)) (now (controls .exit)) ≡ putFrom put (partOf reader (now (symbols .entry)) first put (length (now (indexes .entry))) .reports) (lists (now (indexes .entry)) (now (days .entry)) (now (hundredths .entry)) (now (controls .entry))) ⌝ }
 {
     let format = reader.format;
     let heard = reader.heard;
@@ -199,28 +228,58 @@ fn feed_together(
     unpack(heard, &mut held);
     copy(symbols, &mut held);
     let count = accepted(symbols);
-    let found = put_reports(format, &held, 224 + count, put, days, hundredths, controls);
+    let found = put_reports(
+        format,
+        &held,
+        224 + count,
+        first,
+        put,
+        indexes,
+        days,
+        hundredths,
+        controls,
+    );
     let taken = found.at - 224;
     let next = reader_after(reader, &held, taken);
     let stop = stop_of(found.full, count < symbols.len());
     round_at(next, taken, found.reports, stop)
 }
 
-// A part of a block. Unpacking and packing the reader costs more than a few single Feeds.
+// A part of a block, its first symbol at the index `first` there. Unpacking and packing the reader costs more than a few single Feeds.
 pub fn feed_part(
     reader: Reader,
     symbols: &[u8],
+    first: usize,
     put: usize,
+    indexes: &mut [usize],
     days: &mut [u16],
     hundredths: &mut [u32],
     controls: &mut [u64],
 ) -> Round
-    requires { ⌜ (put ≤ length (now days)) × (length (now hundredths) ≡ length (now days)) × (length (now controls) ≡ length (now days)) × (isValid reader ≡ true) × (length (now symbols) ≤ 512) ⌝ }
-    ensures { λ r. ⌜ r ≡ roundOf reader (now (symbols .entry)) put (length (now (days .entry))) ⌝ }
-    ensures { λ _. ⌜ Filled put (partOf reader (now (symbols .entry)) put (length (now (days .entry))) .reports) (now (days .entry)) (now (hundredths .entry)) (now (controls .entry)) (now (days .exit)) (now (hundredths .exit)) (now (controls .exit)) ⌝ }
+    requires { ⌜ (isValid reader ≡ true) × (length (now symbols) ≤ 512) × (first + length (now symbols) ≤ 18446744073709551615) × (put ≤ length (now indexes)) × Even (lists (now indexes) (now days) (now hundredths) (now controls)) ⌝ }
+    ensures { λ r. ⌜ r ≡ roundOf reader (now (symbols .entry)) first put (length (now (indexes .entry))) ⌝ }
+    ensures { λ _. ⌜ lists (now (indexes .exit)) (now (days .exit)) (now (hundredths .exit)) (now (controls .exit)) ≡ putFrom put (partOf reader (now (symbols .entry)) first put (length (now (indexes .entry))) .reports) (lists (now (indexes .entry)) (now (days .entry)) (now (hundredths .entry)) (now (controls .entry))) ⌝ }
 {
     if symbols.len() < 8 {
-        return feed_singly(reader, symbols, put, days, hundredths, controls);
+        return feed_singly(
+            reader,
+            symbols,
+            first,
+            put,
+            indexes,
+            days,
+            hundredths,
+            controls,
+        );
     }
-    feed_together(reader, symbols, put, days, hundredths, controls)
+    feed_together(
+        reader,
+        symbols,
+        first,
+        put,
+        indexes,
+        days,
+        hundredths,
+        controls,
+    )
 }

@@ -14,7 +14,7 @@ use Rattle.timecode.specs.declared.Time.{Time}
 use Rattle.stream.specs.Feeding.{freshReader, madeOf, madeSaid, feedOf}
 use Rattle.stream.specs.declared.Fed.{Fed}
 use Rattle.stream.specs.declared.Reader.{Reader}
-use Rattle.block.specs.Blocks.{blockSaid, feedBlockOf}
+use Rattle.block.specs.Blocks.{Lists, blockSaid, feedBlockOf}
 use Rattle.block.specs.declared.FedBlock.{FedBlock}
 use Rattle.pulse_feed.specs.Pulses.{feedPulseOf}
 
@@ -133,8 +133,8 @@ abbrev pub wordsLeft : Fed → List ℕ → List ℕ
 wordsLeft fed old = unlessRefused (fedSaid fed) (wordsFor (fed .reader)) old
 
 -- a block of symbols fed to the caller's words, and the words after it
-abbrev pub feedBlockWords : List ℕ → List ℕ → List ℕ → List ℕ → List ℕ → FedBlock
-feedBlockWords words symbols days hundredths controls = feedBlockOf (readerIn words) symbols days hundredths controls
+abbrev pub feedBlockWords : List ℕ → List ℕ → Lists → FedBlock
+feedBlockWords words symbols l = feedBlockOf (readerIn words) symbols l
 
 abbrev pub blockWordsLeft : FedBlock → List ℕ → List ℕ
 blockWordsLeft fed old = unlessRefused (blockSaid (fed .answer)) (wordsFor (fed .reader)) old

@@ -5,7 +5,7 @@ ghost use mathlib.Core.List.{[], _∷_};
 ghost use lib.IntN.{pos};
 ghost use Rattle.timecode.specs.Calls.{classifyListLeaves};
 ghost use Rattle.timecode.specs.Frames.{writeLeaves};
-ghost use Rattle.block.specs.Blocks.{blockSaid, blockFor, fieldLeft, dayOf, hundredthsOf, controlOf};
+ghost use Rattle.block.specs.Blocks.{lists, listsLeft, blockSaid, blockFor};
 ghost use Rattle.border.specs.Border.{feedBlockWords, blockWordsLeft, readerIn, formatOf, timeOf, writeSaid, readSaid, stepSaid, stepBackSaid, differenceSaid, classifySaid, classifyListSaid, scanSaid, freshSaid, fedSaid, valuesLeft, flagLeft, indexLeft, freshLeft, feedWords, feedPulseWords, wordsLeft};
 use block_feed::feed_block;
 use border::format_of;
@@ -301,11 +301,12 @@ pub extern "C" fn duskveyra_scan(
     }
 }
 
-// A block of symbols, with its reports put into a list for each field.
+// A block of symbols, with its reports put into a list for each field: indexes, days, hundredths and control words.
 #[no_mangle]
 pub extern "C" fn duskveyra_feed_block(
     reader: &mut [u64; 10],
     symbols: &[u8],
+    indexes: &mut [usize],
     days: &mut [u16],
     hundredths: &mut [u32],
     controls: &mut [u64],
@@ -313,14 +314,19 @@ pub extern "C" fn duskveyra_feed_block(
     reports: &mut usize,
     stop: &mut u8,
 ) -> u8
-    ensures { λ r. ⌜ r ≡ blockSaid (feedBlockWords (now (reader .entry)) (now (symbols .entry)) (now (days .entry)) (now (hundredths .entry)) (now (controls .entry)) .answer) .number ⌝ }
-    ensures { λ _. ⌜ now (reader .exit) ≡ blockWordsLeft (feedBlockWords (now (reader .entry)) (now (symbols .entry)) (now (days .entry)) (now (hundredths .entry)) (now (controls .entry))) (now (reader .entry)) ⌝ }
-    ensures { λ _. ⌜ now (days .exit) ≡ fieldLeft dayOf (blockFor (readerIn (now (reader .entry))) (now (symbols .entry)) (now (days .entry)) (now (hundredths .entry)) (now (controls .entry))) (now (days .entry)) ⌝ }
-    ensures { λ _. ⌜ now (hundredths .exit) ≡ fieldLeft hundredthsOf (blockFor (readerIn (now (reader .entry))) (now (symbols .entry)) (now (days .entry)) (now (hundredths .entry)) (now (controls .entry))) (now (hundredths .entry)) ⌝ }
-    ensures { λ _. ⌜ now (controls .exit) ≡ fieldLeft controlOf (blockFor (readerIn (now (reader .entry))) (now (symbols .entry)) (now (days .entry)) (now (hundredths .entry)) (now (controls .entry))) (now (controls .entry)) ⌝ }
-    ensures { λ _. ⌜ pos (now (taken .exit)) ∷ pos (now (reports .exit)) ∷ pos (now (stop .exit)) ∷ [] ≡ valuesLeft (blockSaid (feedBlockWords (now (reader .entry)) (now (symbols .entry)) (now (days .entry)) (now (hundredths .entry)) (now (controls .entry)) .answer)) (pos (now (taken .entry)) ∷ pos (now (reports .entry)) ∷ pos (now (stop .entry)) ∷ []) ⌝ }
+    ensures { λ r. ⌜ r ≡ blockSaid (feedBlockWords (now (reader .entry)) (now (symbols .entry)) (lists (now (indexes .entry)) (now (days .entry)) (now (hundredths .entry)) (now (controls .entry))) .answer) .number ⌝ }
+    ensures { λ _. ⌜ now (reader .exit) ≡ blockWordsLeft (feedBlockWords (now (reader .entry)) (now (symbols .entry)) (lists (now (indexes .entry)) (now (days .entry)) (now (hundredths .entry)) (now (controls .entry)))) (now (reader .entry)) ⌝ }
+    ensures { λ _. ⌜ lists (now (indexes .exit)) (now (days .exit)) (now (hundredths .exit)) (now (controls .exit)) ≡ listsLeft (blockFor (readerIn (now (reader .entry))) (now (symbols .entry)) (lists (now (indexes .entry)) (now (days .entry)) (now (hundredths .entry)) (now (controls .entry)))) (lists (now (indexes .entry)) (now (days .entry)) (now (hundredths .entry)) (now (controls .entry))) ⌝ }
+    ensures { λ _. ⌜ pos (now (taken .exit)) ∷ pos (now (reports .exit)) ∷ pos (now (stop .exit)) ∷ [] ≡ valuesLeft (blockSaid (feedBlockWords (now (reader .entry)) (now (symbols .entry)) (lists (now (indexes .entry)) (now (days .entry)) (now (hundredths .entry)) (now (controls .entry))) .answer)) (pos (now (taken .entry)) ∷ pos (now (reports .entry)) ∷ pos (now (stop .entry)) ∷ []) ⌝ }
 {
-    let fed = feed_block(reader_in(*reader), symbols, days, hundredths, controls);
+    let fed = feed_block(
+        reader_in(*reader),
+        symbols,
+        indexes,
+        days,
+        hundredths,
+        controls,
+    );
     let next = fed.reader;
     let answer = fed.answer;
     put_block(next, answer, reader, taken, reports, stop)

@@ -2,9 +2,9 @@
 use borrow.Author.Needs.{needs}
 use mathlib.Core.Path.{sym, _∙_}
 use Rattle.timecode.specs.declared.Refusal.the-variants.{WrongLength, InvalidReader}
-use Rattle.block.specs.Blocks.{blockAnswer}
+use Rattle.block.specs.Blocks.{blockAnswer, lists}
 use Rattle.block_part.specs.Rounds.{filled-long}
-use Rattle.block_feed.specs.Whole.{records-long, block-refused, block-taken}
+use Rattle.block_feed.specs.Whole.{records-even, block-refused, block-taken}
 use Rattle.block_feed.proofs.feed_block.Statement.{statement}
 use Rattle.block_feed.proofs.feed_block.Tie as tie
 use Rattle.block_feed.proofs.feed_block.Reads as reads
@@ -23,29 +23,31 @@ are-equal-requires c κs = search needs
 
 feed-parts-requires : tie.Need-feed-parts-requires
 feed-parts-requires c κs =
-    let a = c .before .before .before .before .before .before .before .before .before .before .before .args in
-    let long = records-long (a .days .now) (a .hundredths .now) (a .controls .now) (sym (c .before .before .before .before .are-equal .ensures) ∙ c .before .before .before .if2 .taken) in
-    (long .0, long .1, sym (c .before .before .before .before .before .before .is-valid .ensures) ∙ c .before .before .before .before .before .if1 .taken)
+    let a = c .before .before .before .before .before .before .before .before .before .before .before .before .before .args in
+    (sym (c .before .before .before .before .before .before .before .is-valid .ensures) ∙ c .before .before .before .before .before .before .if1 .taken, records-even (lists (a .indexes .now) (a .days .now) (a .hundredths .now) (a .controls .now)) (sym (c .before .before .before .before .before .are-equal .ensures) ∙ c .before .before .before .before .if2 .taken))
 
 taken-block-requires : tie.Need-taken-block-requires
 taken-block-requires c κs = search needs
 
 same-length : tie.Need-same-length
-same-length c = filled-long (c .before .before .before .before .before .before .before .feed-parts .ensures .1) .0
+same-length c = filled-long _ _ _ _ (c .before .before .before .before .before .before .before .before .before .feed-parts .ensures .1) .0
 
 same-length-2 : tie.Need-same-length-2
-same-length-2 c = filled-long (c .before .before .before .before .before .before .before .feed-parts .ensures .1) .1
+same-length-2 c = filled-long _ _ _ _ (c .before .before .before .before .before .before .before .before .before .feed-parts .ensures .1) .1
 
 same-length-3 : tie.Need-same-length-3
-same-length-3 c = filled-long (c .before .before .before .before .before .before .before .feed-parts .ensures .1) .2
+same-length-3 c = filled-long _ _ _ _ (c .before .before .before .before .before .before .before .before .before .feed-parts .ensures .1) .2
+
+same-length-4 : tie.Need-same-length-4
+same-length-4 c = filled-long _ _ _ _ (c .before .before .before .before .before .before .before .before .before .feed-parts .ensures .1) .3
 
 returns : tie.Need-returns
 returns c =
-    let a = c .before .before .before .before .before .before .before .before .before .before .before .before .before .before .before .before .before .before .before .args in
-    let valid = sym (c .before .before .before .before .before .before .before .before .before .before .before .before .before .before .is-valid .ensures) ∙ c .before .before .before .before .before .before .before .before .before .before .before .before .before .if1 .taken in
-    let same = sym (c .before .before .before .before .before .before .before .before .before .before .before .before .are-equal .ensures) ∙ c .before .before .before .before .before .before .before .before .before .before .before .if2 .taken in
-    let g = block-taken (a .reader) (a .symbols .now) (a .days .now) (a .hundredths .now) (a .controls .now) _ _ _ _ valid same (c .before .before .before .before .before .before .before .feed-parts .ensures) in
-    (c .taken-block .ensures ∙ g .given, (g .days-left, (g .hundredths-left, g .controls-left)))
+    let a = c .before .before .before .before .before .before .before .before .before .before .before .before .before .before .before .before .before .before .before .before .before .before .before .args in
+    let valid = sym (c .before .before .before .before .before .before .before .before .before .before .before .before .before .before .before .before .before .is-valid .ensures) ∙ c .before .before .before .before .before .before .before .before .before .before .before .before .before .before .before .before .if1 .taken in
+    let same = sym (c .before .before .before .before .before .before .before .before .before .before .before .before .before .before .before .are-equal .ensures) ∙ c .before .before .before .before .before .before .before .before .before .before .before .before .before .before .if2 .taken in
+    let g = block-taken (a .reader) (a .symbols .now) (lists (a .indexes .now) (a .days .now) (a .hundredths .now) (a .controls .now)) _ _ valid same (c .before .before .before .before .before .before .before .before .before .feed-parts .ensures) in
+    (c .taken-block .ensures ∙ g .0, g .1)
 
 refuse-requires : tie.Need-refuse-requires
 refuse-requires c κs = search needs
@@ -53,11 +55,11 @@ refuse-requires c κs = search needs
 returns-2 : tie.Need-returns-2
 unfolding blockAnswer
 returns-2 c =
-    let a = c .before .before .before .before .before .before .before .before .before .args in
+    let a = c .before .before .before .before .before .before .before .before .before .before .args in
     let valid = sym (c .before .before .before .before .is-valid .ensures) ∙ c .before .before .before .if1 .taken in
     let other = sym (c .before .before .are-equal .ensures) ∙ c .before .if2 .left in
-    let g = block-refused (a .reader) (a .symbols .now) (a .days .now) (a .hundredths .now) (a .controls .now) WrongLength (rw (valid, other)) (rw (valid, other)) in
-    (c .refuse .ensures ∙ g .given, (g .days-left, (g .hundredths-left, g .controls-left)))
+    let g = block-refused (a .reader) (a .symbols .now) (lists (a .indexes .now) (a .days .now) (a .hundredths .now) (a .controls .now)) WrongLength (rw (valid, other)) (rw (valid, other)) in
+    (c .refuse .ensures ∙ g .0, g .1)
 
 refuse-requires-2 : tie.Need-refuse-requires-2
 refuse-requires-2 c κs = search needs
@@ -65,10 +67,10 @@ refuse-requires-2 c κs = search needs
 returns-3 : tie.Need-returns-3
 unfolding blockAnswer
 returns-3 c =
-    let a = c .before .before .before .before .before .before .before .args in
+    let a = c .before .before .before .before .before .before .before .before .args in
     let invalid = sym (c .before .before .is-valid .ensures) ∙ c .before .if1 .left in
-    let g = block-refused (a .reader) (a .symbols .now) (a .days .now) (a .hundredths .now) (a .controls .now) InvalidReader (rw invalid) (rw invalid) in
-    (c .refuse2 .ensures ∙ g .given, (g .days-left, (g .hundredths-left, g .controls-left)))
+    let g = block-refused (a .reader) (a .symbols .now) (lists (a .indexes .now) (a .days .now) (a .hundredths .now) (a .controls .now)) InvalidReader (rw invalid) (rw invalid) in
+    (c .refuse2 .ensures ∙ g .0, g .1)
 
 pub feed-block-spec : {M : Type 1} → statement M
 feed-block-spec =
@@ -81,6 +83,7 @@ feed-block-spec =
     same-length
     same-length-2
     same-length-3
+    same-length-4
     returns
     refuse-requires
     returns-2

@@ -3,6 +3,7 @@ use borrow.Author.Needs.{needs}
 use native.Mathlib.Omega.{arith}
 use Prim.Native.Nat.{_-_}
 use lib.ListN.{length}
+use Rattle.block.specs.Blocks.{lists}
 use Rattle.block_part.specs.Rounds.{FedTo, fed-start, fed-end, standing-long}
 use Rattle.block_feed.specs.Whole.{part-asks, part-within, part-fed, part-ends}
 use Rattle.block_feed.proofs.feed_parts.Statement.{statement}
@@ -14,10 +15,10 @@ use Rattle.parts.proofs.part_end.Reads as part-end-reads
 use Rattle.block_part.proofs.round_at.Reads as round-at-reads
 
 abbrev Inv-loop : tie.InvT-loop
-Inv-loop symbols days₀ hundredths₀ controls₀ current₀ taken₀ reports₀ days hundredths controls current taken reports = FedTo current₀ symbols 0 days₀ hundredths₀ controls₀ taken reports days hundredths controls current
+Inv-loop symbols indexes₀ days₀ hundredths₀ controls₀ current₀ taken₀ reports₀ indexes days hundredths controls current taken reports = FedTo current₀ symbols 0 0 (lists indexes₀ days₀ hundredths₀ controls₀) taken reports (lists indexes days hundredths controls) current
 
 abbrev μ-loop : tie.MeasureT-loop
-μ-loop symbols days₀ hundredths₀ controls₀ current₀ taken₀ reports₀ days hundredths controls current taken reports = length symbols - taken
+μ-loop symbols indexes₀ days₀ hundredths₀ controls₀ current₀ taken₀ reports₀ indexes days hundredths controls current taken reports = length symbols - taken
 
 loop-holds : tie.Need-loop-holds Inv-loop μ-loop
 loop-holds c = fed-start _ _
@@ -35,43 +36,49 @@ part-part-end : tie.Need-part-part-end Inv-loop μ-loop
 part-part-end c = omega (arith, c .part-end .ensures)
 
 feed-part-requires : tie.Need-feed-part-requires Inv-loop μ-loop
-feed-part-requires c κs = part-asks (c .before .before .before .before .before .before .loop .inv) (c .before .before .before .before .part-end .ensures) (omega arith, c .before .before .before .before .before .before .before .before .before .before .before .pre .0, c .before .before .before .before .before .before .before .before .before .before .before .pre .1) (c .before .before .before .before .before .before .before .before .before .before .before .pre .2)
+feed-part-requires c κs = part-asks (c .before .before .before .before .before .before .before .loop .inv) (c .before .before .before .before .before .part-end .ensures) (c .before .before .before .before .before .before .before .before .before .before .before .before .before .pre .1) (c .before .before .before .before .before .before .before .before .before .before .before .before .before .pre .0) (omega (arith, c .before .before .before .before .before .before .before .before .before .before .before .before .before .good))
 
 add-taken : tie.Need-add-taken Inv-loop μ-loop
-add-taken c = omega (arith, part-within (c .before .before .before .before .before .before .before .before .before .before .before .before .before .before .before .loop .inv) (c .before .before .before .before .before .before .before .before .before .before .before .before .before .part-end .ensures) (c .before .before .before .before .before .before .before .before .feed-part .ensures), c .before .before .before .before .before .before .before .before .before .before .before .before .before .part-end .ensures, c .before .before .before .before .before .before .before .before .before .before .before .before .before .before .before .before .before .before .before .before .good)
+add-taken c = omega (arith, part-within (c .before .before .before .before .before .before .before .before .before .before .before .before .before .before .before .before .before .before .loop .inv) (c .before .before .before .before .before .before .before .before .before .before .before .before .before .before .before .before .part-end .ensures) (c .before .before .before .before .before .before .before .before .before .before .feed-part .ensures), c .before .before .before .before .before .before .before .before .before .before .before .before .before .before .before .before .part-end .ensures, c .before .before .before .before .before .before .before .before .before .before .before .before .before .before .before .before .before .before .before .before .before .before .before .before .good)
 
 round-at-requires : tie.Need-round-at-requires Inv-loop μ-loop
 round-at-requires c κs = search needs
 
 same-length : tie.Need-same-length Inv-loop μ-loop
-same-length c = standing-long (part-fed (c .before .before .before .before .before .before .before .before .before .before .before .before .before .before .before .before .before .loop .inv) (c .before .before .before .before .before .before .before .before .before .before .before .before .before .before .before .part-end .ensures) (c .before .before .before .before .before .before .before .before .before .before .feed-part .ensures) .standing) .0
+same-length c = standing-long (part-fed (c .before .before .before .before .before .before .before .before .before .before .before .before .before .before .before .before .before .before .before .before .loop .inv) (c .before .before .before .before .before .before .before .before .before .before .before .before .before .before .before .before .before .before .part-end .ensures) (c .before .before .before .before .before .before .before .before .before .before .before .before .feed-part .ensures) .standing) .0
 
 same-length-2 : tie.Need-same-length-2 Inv-loop μ-loop
-same-length-2 c = standing-long (part-fed (c .before .before .before .before .before .before .before .before .before .before .before .before .before .before .before .before .before .loop .inv) (c .before .before .before .before .before .before .before .before .before .before .before .before .before .before .before .part-end .ensures) (c .before .before .before .before .before .before .before .before .before .before .feed-part .ensures) .standing) .1
+same-length-2 c = standing-long (part-fed (c .before .before .before .before .before .before .before .before .before .before .before .before .before .before .before .before .before .before .before .before .loop .inv) (c .before .before .before .before .before .before .before .before .before .before .before .before .before .before .before .before .before .before .part-end .ensures) (c .before .before .before .before .before .before .before .before .before .before .before .before .feed-part .ensures) .standing) .1
 
 same-length-3 : tie.Need-same-length-3 Inv-loop μ-loop
-same-length-3 c = standing-long (part-fed (c .before .before .before .before .before .before .before .before .before .before .before .before .before .before .before .before .before .loop .inv) (c .before .before .before .before .before .before .before .before .before .before .before .before .before .before .before .part-end .ensures) (c .before .before .before .before .before .before .before .before .before .before .feed-part .ensures) .standing) .2
+same-length-3 c = standing-long (part-fed (c .before .before .before .before .before .before .before .before .before .before .before .before .before .before .before .before .before .before .before .before .loop .inv) (c .before .before .before .before .before .before .before .before .before .before .before .before .before .before .before .before .before .before .part-end .ensures) (c .before .before .before .before .before .before .before .before .before .before .before .before .feed-part .ensures) .standing) .2
+
+same-length-4 : tie.Need-same-length-4 Inv-loop μ-loop
+same-length-4 c = standing-long (part-fed (c .before .before .before .before .before .before .before .before .before .before .before .before .before .before .before .before .before .before .before .before .loop .inv) (c .before .before .before .before .before .before .before .before .before .before .before .before .before .before .before .before .before .before .part-end .ensures) (c .before .before .before .before .before .before .before .before .before .before .before .before .feed-part .ensures) .standing) .3
 
 returns : tie.Need-returns Inv-loop μ-loop
-returns c = part-ends (c .before .before .before .before .before .before .before .before .before .before .before .before .before .before .before .before .before .loop .inv) (c .before .before .before .before .before .before .before .before .before .before .before .before .before .before .before .part-end .ensures) (c .before .before .before .before .before .before .before .before .before .before .feed-part .ensures) (c .before .if1 .taken) (c .round-at .ensures)
+returns c = part-ends (c .before .before .before .before .before .before .before .before .before .before .before .before .before .before .before .before .before .before .before .before .loop .inv) (c .before .before .before .before .before .before .before .before .before .before .before .before .before .before .before .before .before .before .part-end .ensures) (c .before .before .before .before .before .before .before .before .before .before .before .before .feed-part .ensures) (c .before .if1 .taken) (c .round-at .ensures)
 
 loop-less : tie.Need-loop-less Inv-loop μ-loop
-loop-less c = omega (arith, c .if1 .left, c .before .before .before .before .before .before .before .before .before .before .before .before .before .before .part-end .ensures)
+loop-less c = omega (arith, c .if1 .left, c .before .before .before .before .before .before .before .before .before .before .before .before .before .before .before .before .before .part-end .ensures)
 
 loop-again : tie.Need-loop-again Inv-loop μ-loop
-loop-again c = part-fed (c .before .before .before .before .before .before .before .before .before .before .before .before .before .before .before .before .loop .inv) (c .before .before .before .before .before .before .before .before .before .before .before .before .before .before .part-end .ensures) (c .before .before .before .before .before .before .before .before .before .feed-part .ensures)
+loop-again c = part-fed (c .before .before .before .before .before .before .before .before .before .before .before .before .before .before .before .before .before .before .before .loop .inv) (c .before .before .before .before .before .before .before .before .before .before .before .before .before .before .before .before .before .part-end .ensures) (c .before .before .before .before .before .before .before .before .before .before .before .feed-part .ensures)
 
 round-at-requires-2 : tie.Need-round-at-requires-2 Inv-loop μ-loop
 round-at-requires-2 c κs = search needs
 
-same-length-4 : tie.Need-same-length-4 Inv-loop μ-loop
-same-length-4 c = standing-long (c .before .before .loop .inv .standing) .0
-
 same-length-5 : tie.Need-same-length-5 Inv-loop μ-loop
-same-length-5 c = standing-long (c .before .before .loop .inv .standing) .1
+same-length-5 c = standing-long (c .before .before .loop .inv .standing) .0
 
 same-length-6 : tie.Need-same-length-6 Inv-loop μ-loop
-same-length-6 c = standing-long (c .before .before .loop .inv .standing) .2
+same-length-6 c = standing-long (c .before .before .loop .inv .standing) .1
+
+same-length-7 : tie.Need-same-length-7 Inv-loop μ-loop
+same-length-7 c = standing-long (c .before .before .loop .inv .standing) .2
+
+same-length-8 : tie.Need-same-length-8 Inv-loop μ-loop
+same-length-8 c = standing-long (c .before .before .loop .inv .standing) .3
 
 returns-2 : tie.Need-returns-2 Inv-loop μ-loop
 returns-2 c = fed-end (c .before .before .loop .inv) (omega (arith, c .before .loop-test .left)) (c .round-at2 .ensures)
@@ -93,11 +100,13 @@ feed-parts-spec =
     same-length
     same-length-2
     same-length-3
+    same-length-4
     returns
     loop-less
     loop-again
     round-at-requires-2
-    same-length-4
     same-length-5
     same-length-6
+    same-length-7
+    same-length-8
     returns-2)

@@ -3,6 +3,7 @@ use borrow.Author.Needs.{needs}
 use native.Mathlib.Omega.{arith}
 use Prim.Native.Nat.{_-_}
 use lib.ListN.{length}
+use Rattle.block.specs.Blocks.{lists}
 use Rattle.block_part.specs.Rounds.{FedTo, fed-start, fed-quiet, fed-report, fed-full, fed-refused, fed-end, standing-long, standing-room, standing-fits}
 use Rattle.block_part.proofs.feed_singly.Statement.{statement}
 use Rattle.block_part.proofs.feed_singly.Tie as tie
@@ -14,10 +15,10 @@ use Rattle.stream.proofs.answer_to.Reads as answer-to-reads
 use Rattle.stream.proofs.next_reader.Reads as next-reader-reads
 
 abbrev Inv-loop : tie.InvT-loop
-Inv-loop symbols put days₀ hundredths₀ controls₀ current₀ reports₀ i₀ days hundredths controls current reports i = FedTo current₀ symbols put days₀ hundredths₀ controls₀ i reports days hundredths controls current
+Inv-loop symbols first put indexes₀ days₀ hundredths₀ controls₀ current₀ reports₀ i₀ indexes days hundredths controls current reports i = FedTo current₀ symbols first put (lists indexes₀ days₀ hundredths₀ controls₀) i reports (lists indexes days hundredths controls) current
 
 abbrev μ-loop : tie.MeasureT-loop
-μ-loop symbols put days₀ hundredths₀ controls₀ current₀ reports₀ i₀ days hundredths controls current reports i = length symbols - i
+μ-loop symbols first put indexes₀ days₀ hundredths₀ controls₀ current₀ reports₀ i₀ indexes days hundredths controls current reports i = length symbols - i
 
 loop-holds : tie.Need-loop-holds Inv-loop μ-loop
 loop-holds c = fed-start _ _
@@ -36,7 +37,7 @@ enum-told c = search needs
 
 add-i : tie.Need-add-i Inv-loop μ-loop
 add-i c =
-    omega (arith, c .before .before .before .before .before .loop-test .taken, c .before .before .before .before .before .before .before .before .before .before .before .good)
+    omega (arith, c .before .before .before .before .before .loop-test .taken, c .before .before .before .before .before .before .before .before .before .before .before .before .good)
 
 loop-less : tie.Need-loop-less Inv-loop μ-loop
 loop-less c = omega (arith, c .before .before .before .before .before .loop-test .taken)
@@ -59,25 +60,31 @@ same-length-2 c = standing-long (c .before .before .before .before .before .befo
 same-length-3 : tie.Need-same-length-3 Inv-loop μ-loop
 same-length-3 c = standing-long (c .before .before .before .before .before .before .before .before .before .loop .inv .standing) .2
 
+same-length-4 : tie.Need-same-length-4 Inv-loop μ-loop
+same-length-4 c = standing-long (c .before .before .before .before .before .before .before .before .before .loop .inv .standing) .3
+
 returns : tie.Need-returns Inv-loop μ-loop
 returns c = fed-full (c .before .before .before .before .before .before .before .before .before .loop .inv) (c .before .before .before .before .before .before .before .before .loop-test .taken) (c .before .before .before .before .before .before .answer-to .ensures) (c .before .before .before .answer .given .1) (c .before .if1 .taken) (c .round-at .ensures)
 
+add-put-report : tie.Need-add-put-report Inv-loop μ-loop
+add-put-report c = omega (arith, c .before .before .before .before .before .before .before .before .before .before .before .loop-test .taken, c .before .before .before .before .before .before .before .before .before .before .before .before .before .before .before .before .before .before .pre .0)
+
 put-report-requires : tie.Need-put-report-requires Inv-loop μ-loop
-put-report-requires c κs = standing-fits (c .before .before .before .before .before .before .before .before .before .before .before .loop .inv .standing) (c .before .before .before .before .before .before .before .before .before .before .before .before .before .before .before .before .pre) (omega (arith, standing-room (c .before .before .before .before .before .before .before .before .before .before .before .loop .inv .standing) (c .before .before .before .before .before .before .before .before .before .before .before .before .before .before .before .before .pre) .0, c .before .before .before .if1 .left))
+put-report-requires c κs = standing-fits (c .before .before .before .before .before .before .before .before .before .before .before .before .loop .inv .standing) (c .before .before .before .before .before .before .before .before .before .before .before .before .before .before .before .before .before .before .pre .1, c .before .before .before .before .before .before .before .before .before .before .before .before .before .before .before .before .before .before .pre .2) (omega (arith, standing-room (c .before .before .before .before .before .before .before .before .before .before .before .before .loop .inv .standing) (c .before .before .before .before .before .before .before .before .before .before .before .before .before .before .before .before .before .before .pre .1, c .before .before .before .before .before .before .before .before .before .before .before .before .before .before .before .before .before .before .pre .2) .0, c .before .before .before .before .if1 .left))
 
 add-reports : tie.Need-add-reports Inv-loop μ-loop
-add-reports c = omega (arith, standing-long (c .before .before .before .before .before .before .before .before .before .before .before .before .before .before .before .before .before .before .loop .inv .standing) .0, standing-room (c .before .before .before .before .before .before .before .before .before .before .before .before .before .before .before .before .before .before .loop .inv .standing) (c .before .before .before .before .before .before .before .before .before .before .before .before .before .before .before .before .before .before .before .before .before .before .before .pre) .0, c .before .before .before .before .before .before .before .before .before .before .if1 .left, c .before .before .before .before .before .before .before .before .before .before .before .before .before .before .before .before .before .before .before .before .before .before .before .good)
+add-reports c = omega (arith, standing-long (c .before .before .before .before .before .before .before .before .before .before .before .before .before .before .before .before .before .before .before .before .before .loop .inv .standing) .0, standing-room (c .before .before .before .before .before .before .before .before .before .before .before .before .before .before .before .before .before .before .before .before .before .loop .inv .standing) (c .before .before .before .before .before .before .before .before .before .before .before .before .before .before .before .before .before .before .before .before .before .before .before .before .before .before .before .pre .1, c .before .before .before .before .before .before .before .before .before .before .before .before .before .before .before .before .before .before .before .before .before .before .before .before .before .before .before .pre .2) .0, c .before .before .before .before .before .before .before .before .before .before .before .before .before .if1 .left, c .before .before .before .before .before .before .before .before .before .before .before .before .before .before .before .before .before .before .before .before .before .before .before .before .before .before .before .good)
 
 add-i-2 : tie.Need-add-i-2 Inv-loop μ-loop
 add-i-2 c =
-    omega (arith, c .before .before .before .before .before .before .before .before .before .before .before .before .before .before .before .before .before .loop-test .taken, c .before .before .before .before .before .before .before .before .before .before .before .before .before .before .before .before .before .before .before .before .before .before .before .good)
+    omega (arith, c .before .before .before .before .before .before .before .before .before .before .before .before .before .before .before .before .before .before .before .before .loop-test .taken, c .before .before .before .before .before .before .before .before .before .before .before .before .before .before .before .before .before .before .before .before .before .before .before .before .before .before .before .good)
 
 loop-less-2 : tie.Need-loop-less-2 Inv-loop μ-loop
 loop-less-2 c =
-    omega (arith, c .before .before .before .before .before .before .before .before .before .before .before .before .before .before .before .before .before .loop-test .taken)
+    omega (arith, c .before .before .before .before .before .before .before .before .before .before .before .before .before .before .before .before .before .before .before .before .loop-test .taken)
 
 loop-again-2 : tie.Need-loop-again-2 Inv-loop μ-loop
-loop-again-2 c = fed-report (c .before .before .before .before .before .before .before .before .before .before .before .before .before .before .before .before .before .before .loop .inv) (c .before .before .before .before .before .before .before .before .before .before .before .before .before .before .before .before .before .loop-test .taken) (c .before .before .before .before .before .before .before .before .before .before .before .before .before .before .before .answer-to .ensures) (c .before .before .before .before .before .before .before .before .before .before .before .before .answer .given .1) (omega (arith, standing-room (c .before .before .before .before .before .before .before .before .before .before .before .before .before .before .before .before .before .before .loop .inv .standing) (c .before .before .before .before .before .before .before .before .before .before .before .before .before .before .before .before .before .before .before .before .before .before .before .pre) .0, c .before .before .before .before .before .before .before .before .before .before .if1 .left)) (c .before .before .before .before .before .before .put-report .ensures) (c .before .before .before .before .before .before .before .before .before .before .before .before .before .before .next-reader .ensures)
+loop-again-2 c = fed-report (c .before .before .before .before .before .before .before .before .before .before .before .before .before .before .before .before .before .before .before .before .before .loop .inv) (c .before .before .before .before .before .before .before .before .before .before .before .before .before .before .before .before .before .before .before .before .loop-test .taken) (c .before .before .before .before .before .before .before .before .before .before .before .before .before .before .before .before .before .before .answer-to .ensures) (c .before .before .before .before .before .before .before .before .before .before .before .before .before .before .before .answer .given .1) (omega (arith, standing-room (c .before .before .before .before .before .before .before .before .before .before .before .before .before .before .before .before .before .before .before .before .before .loop .inv .standing) (c .before .before .before .before .before .before .before .before .before .before .before .before .before .before .before .before .before .before .before .before .before .before .before .before .before .before .before .pre .1, c .before .before .before .before .before .before .before .before .before .before .before .before .before .before .before .before .before .before .before .before .before .before .before .before .before .before .before .pre .2) .0, c .before .before .before .before .before .before .before .before .before .before .before .before .before .if1 .left)) (c .before .before .before .before .before .before .before .before .put-report .ensures) (c .before .before .before .before .before .before .before .before .before .before .before .before .before .before .before .before .before .next-reader .ensures)
 
 enum-told-2 : tie.Need-enum-told-2 Inv-loop μ-loop
 enum-told-2 c = search needs
@@ -85,14 +92,17 @@ enum-told-2 c = search needs
 round-at-requires-2 : tie.Need-round-at-requires-2 Inv-loop μ-loop
 round-at-requires-2 c κs = search needs
 
-same-length-4 : tie.Need-same-length-4 Inv-loop μ-loop
-same-length-4 c = standing-long (c .before .before .before .before .before .before .before .loop .inv .standing) .0
-
 same-length-5 : tie.Need-same-length-5 Inv-loop μ-loop
-same-length-5 c = standing-long (c .before .before .before .before .before .before .before .loop .inv .standing) .1
+same-length-5 c = standing-long (c .before .before .before .before .before .before .before .loop .inv .standing) .0
 
 same-length-6 : tie.Need-same-length-6 Inv-loop μ-loop
-same-length-6 c = standing-long (c .before .before .before .before .before .before .before .loop .inv .standing) .2
+same-length-6 c = standing-long (c .before .before .before .before .before .before .before .loop .inv .standing) .1
+
+same-length-7 : tie.Need-same-length-7 Inv-loop μ-loop
+same-length-7 c = standing-long (c .before .before .before .before .before .before .before .loop .inv .standing) .2
+
+same-length-8 : tie.Need-same-length-8 Inv-loop μ-loop
+same-length-8 c = standing-long (c .before .before .before .before .before .before .before .loop .inv .standing) .3
 
 returns-2 : tie.Need-returns-2 Inv-loop μ-loop
 returns-2 c = fed-refused (c .before .before .before .before .before .before .before .loop .inv) (c .before .before .before .before .before .before .loop-test .taken) (c .before .before .before .before .answer-to .ensures) (c .before .enum-told2 .given .1) (c .round-at2 .ensures)
@@ -100,14 +110,17 @@ returns-2 c = fed-refused (c .before .before .before .before .before .before .be
 round-at-requires-3 : tie.Need-round-at-requires-3 Inv-loop μ-loop
 round-at-requires-3 c κs = search needs
 
-same-length-7 : tie.Need-same-length-7 Inv-loop μ-loop
-same-length-7 c = standing-long (c .before .before .loop .inv .standing) .0
-
-same-length-8 : tie.Need-same-length-8 Inv-loop μ-loop
-same-length-8 c = standing-long (c .before .before .loop .inv .standing) .1
-
 same-length-9 : tie.Need-same-length-9 Inv-loop μ-loop
-same-length-9 c = standing-long (c .before .before .loop .inv .standing) .2
+same-length-9 c = standing-long (c .before .before .loop .inv .standing) .0
+
+same-length-10 : tie.Need-same-length-10 Inv-loop μ-loop
+same-length-10 c = standing-long (c .before .before .loop .inv .standing) .1
+
+same-length-11 : tie.Need-same-length-11 Inv-loop μ-loop
+same-length-11 c = standing-long (c .before .before .loop .inv .standing) .2
+
+same-length-12 : tie.Need-same-length-12 Inv-loop μ-loop
+same-length-12 c = standing-long (c .before .before .loop .inv .standing) .3
 
 returns-3 : tie.Need-returns-3 Inv-loop μ-loop
 returns-3 c = fed-end (c .before .before .loop .inv) (omega (arith, c .before .loop-test .left)) (c .round-at3 .ensures)
@@ -131,7 +144,9 @@ feed-singly-spec =
     same-length
     same-length-2
     same-length-3
+    same-length-4
     returns
+    add-put-report
     put-report-requires
     add-reports
     add-i-2
@@ -139,12 +154,14 @@ feed-singly-spec =
     loop-again-2
     enum-told-2
     round-at-requires-2
-    same-length-4
     same-length-5
     same-length-6
-    returns-2
-    round-at-requires-3
     same-length-7
     same-length-8
+    returns-2
+    round-at-requires-3
     same-length-9
+    same-length-10
+    same-length-11
+    same-length-12
     returns-3)

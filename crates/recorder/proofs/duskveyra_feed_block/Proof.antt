@@ -27,11 +27,14 @@ same-length-2 c = search needs
 same-length-3 : tie.Need-same-length-3
 same-length-3 c = search needs
 
+same-length-4 : tie.Need-same-length-4
+same-length-4 c = search needs
+
 returns : tie.Need-returns
 returns c =
-    let fed = rw (c .before .before .before .before .before .before .before .before .before .before .before .before .before .before .before .before .reader-in .ensures) at (c .before .before .before .before .before .before .before .before .before .before .before .before .feed-block .ensures) in
+    let fed = rw (c .before .before .before .before .before .before .before .before .before .before .before .before .before .before .before .before .before .before .before .reader-in .ensures) at (c .before .before .before .before .before .before .before .before .before .before .before .before .before .before .feed-block .ensures) in
     let put = rw (fed .0) at (c .put-block .ensures) in
-    (put .0, (put .1 .0, (fed .1 .0, (fed .1 .1 .0, (fed .1 .1 .1, put .1 .1)))))
+    (put .0, (put .1 .0, (fed .1, put .1 .1)))
 
 pub duskveyra-feed-block-spec : {M : Type 1} → statement M
 duskveyra-feed-block-spec =
@@ -43,4 +46,5 @@ duskveyra-feed-block-spec =
     same-length
     same-length-2
     same-length-3
+    same-length-4
     returns)
