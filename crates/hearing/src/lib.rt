@@ -1,20 +1,17 @@
 // Some bytes of a recording heard at once: the progress after them, and their lines.
 ghost use mathlib.Core.Path.{_≡_};
-ghost use mathlib.Core.Bool.{true, false};
-ghost use mathlib.Core.List.{List, _++_};
-ghost use Prim.Native.Nat.{_+_, _-_, _≤_};
+ghost use mathlib.Core.Bool.{false};
+ghost use mathlib.Core.List.{_++_};
+ghost use Prim.Native.Nat.{_≤_};
 ghost use lib.ListN.{length, take};
-ghost use Rattle.timecode.specs.declared.Answer.{Answer};
-ghost use Rattle.search.specs.Accepted.{acceptedIn};
-ghost use Rattle.search.specs.Ends.{part};
-ghost use Rattle.stream.specs.Feeding.{isValid};
-ghost use Rattle.parts.specs.Behind.{Behind, Agrees};
+ghost use Rattle.block.specs.Blocks.{lists};
 ghost use Rattle.progress.specs.Progress.{afterFeeds, textFeeds};
 ghost use Rattle.hearing.specs.Bytes.{afterOf, textOf};
-ghost use Rattle.hearing.specs.Hearing.{Heard};
-use characters::hold;
-use parts::reader_after;
-use parts::taken_by;
+ghost use Rattle.hearing.specs.Hearing.{firstLines, takenOf, reportsOf, progressAfter};
+use block::BlockAnswer;
+use block::FedBlock;
+use block_feed::feed_block;
+use characters::decode;
 use progress::Progress;
 use progress::Told;
 use progress::feed_one;
@@ -23,87 +20,106 @@ use progress::one_more;
 use progress::progress_at;
 use progress::put_report;
 use progress::told_at;
-use search::Found;
-use search::next_report;
-use timecode::Format;
 use timecode::Time;
 
-// Where some lines end, and the count of reports with them.
-struct Lines {
-    filled: usize,
-    reports: u64,
-}
-
-fn lines_at(filled: usize, reports: u64) -> Lines
-    ensures { λ r. ⌜ (r .filled ≡ filled) × (r .reports ≡ reports) ⌝ }
+// How many symbols a block took: none, if it was refused.
+fn taken_of(answer: BlockAnswer) -> usize
+    ensures { λ r. ⌜ r ≡ takenOf answer ⌝ }
 {
-    Lines {
-        filled: filled,
-        reports: reports,
+    match answer {
+        BlockAnswer::Taken(taken, _, _) => taken,
+        BlockAnswer::Refused(_) => 0,
     }
 }
 
-// Puts a line for each report from index 224 to another. Each report's frame is the earlier one of the next, so it is read once.
+// How many of them reported.
+fn reports_of(answer: BlockAnswer) -> usize
+    ensures { λ r. ⌜ r ≡ reportsOf answer ⌝ }
+{
+    match answer {
+        BlockAnswer::Taken(_, reports, _) => reports,
+        BlockAnswer::Refused(_) => 0,
+    }
+}
+
+// Puts a line for each of the first records. The symbol at index 0 is the next element.
 fn put_lines(
-    format: Format,
-    held: &[u8],
-    to: usize,
     elements: u64,
-    reports: u64,
+    indexes: &[usize],
+    days: &[u16],
+    hundredths: &[u32],
+    controls: &[u64],
+    count: usize,
     out: &mut [u8],
     start: usize,
-) -> Lines
-    requires { ⌜ (224 ≤ to) × (to ≤ length (now held)) × (to ≤ 736) × (start ≤ 32704) × (length (now out) ≡ 65536) ⌝ }
-    ensures { λ r. ⌜ (r .filled ≤ 65472) × (length (now (out .exit)) ≡ 65536) × ((answers : List Answer) → Agrees format (now (held .entry)) to answers → Heard elements reports answers (take start (now (out .entry))) (to - 224) (r .reports) (take (r .filled) (now (out .exit)))) ⌝ }
+) -> usize
+    requires { ⌜ (count ≤ 512) × (count ≤ length (now indexes)) × (count ≤ length (now days)) × (count ≤ length (now hundredths)) × (count ≤ length (now controls)) × (start ≤ 32704) × (length (now out) ≡ 65536) ⌝ }
+    ensures { λ r. ⌜ (r ≤ 65472) × (length (now (out .exit)) ≡ 65536) × (take r (now (out .exit)) ≡ take start (now (out .entry)) ++ firstLines elements (lists (now (indexes .entry)) (now (days .entry)) (now (hundredths .entry)) (now (controls .entry))) count) ⌝ }
 {
-    let mut from = 224;
+    let first = one_more(elements);
     let mut filled = start;
-    let mut count = reports;
-    let mut known = 0;
-    let mut time = Time {
-        day: 0,
-        hundredths: 0,
-    };
-    while from < to {
-        let found = next_report(format, held, from, to, known, time);
-        let Found::At(place, reported, control) = found else {
-            return lines_at(filled, count);
+    let mut k = 0;
+    while k < count {
+        let element = more_by(first, indexes[k]);
+        let time = Time {
+            day: days[k],
+            hundredths: hundredths[k],
         };
-        let element = more_by(elements, place - 223);
-        filled = put_report(out, filled, element, reported, control);
-        count = one_more(count);
-        from = place + 1;
-        known = from;
-        time = reported;
+        filled = put_report(out, filled, element, time, controls[k]);
+        k += 1;
     }
-    lines_at(filled, count)
+    filled
 }
 
-// Hears the symbols that lie behind the reader's own, up to the first that it refuses.
-fn hear_held(progress: Progress, held: &[u8], count: usize, out: &mut [u8], at: usize) -> Told
-    requires { ⌜ (progress .ended ≡ false) × (count ≤ 512) × (224 + count ≤ length (now held)) × (isValid (progress .reader) ≡ true → Behind (progress .reader) (part (now held) 224 count) (now held) (acceptedIn (part (now held) 224 count))) × (at ≤ 32704) × (length (now out) ≡ 65536) ⌝ }
-    ensures { λ r. ⌜ (r .filled ≤ 65536) × (length (now (out .exit)) ≡ 65536) × (r .progress ≡ afterFeeds progress (part (now (held .entry)) 224 count)) × (take (r .filled) (now (out .exit)) ≡ take at (now (out .entry)) ++ textFeeds progress (part (now (held .entry)) 224 count)) ⌝ }
+// The progress after the symbols that a block took.
+fn progress_after(progress: Progress, fed: FedBlock) -> Progress
+    ensures { λ r. ⌜ r ≡ progressAfter progress fed ⌝ }
 {
+    let reader = fed.reader;
+    let answer = fed.answer;
+    progress_at(
+        reader,
+        more_by(progress.elements, taken_of(answer)),
+        more_by(progress.reports, reports_of(answer)),
+    )
+}
+
+// Hears some symbols as one block, with room for a report of each. Where it stops before its end, the next symbol is
+// refused: that one is fed by itself, for its line.
+fn hear_symbols(progress: Progress, symbols: &[u8], out: &mut [u8], at: usize) -> Told
+    requires { ⌜ (progress .ended ≡ false) × (length (now symbols) ≤ 512) × (at ≤ 32704) × (length (now out) ≡ 65536) ⌝ }
+    ensures { λ r. ⌜ (r .filled ≤ 65536) × (length (now (out .exit)) ≡ 65536) × (r .progress ≡ afterFeeds progress (now (symbols .entry))) × (take (r .filled) (now (out .exit)) ≡ take at (now (out .entry)) ++ textFeeds progress (now (symbols .entry))) ⌝ }
+{
+    let mut indexes = [0usize; 512];
+    let mut days = [0u16; 512];
+    let mut hundredths = [0u32; 512];
+    let mut controls = [0u64; 512];
     let reader = progress.reader;
-    let format = reader.format;
-    let elements = progress.elements;
-    let end = 224 + count;
-    let taken = taken_by(reader, &held[224..end]);
-    let lines = put_lines(
-        format,
-        held,
-        224 + taken,
-        elements,
-        progress.reports,
+    let fed = feed_block(
+        reader,
+        symbols,
+        &mut indexes,
+        &mut days,
+        &mut hundredths,
+        &mut controls,
+    );
+    let answer = fed.answer;
+    let filled = put_lines(
+        progress.elements,
+        &indexes,
+        &days,
+        &hundredths,
+        &controls,
+        reports_of(answer),
         out,
         at,
     );
-    let next = reader_after(reader, held, taken);
-    let current = progress_at(next, more_by(elements, taken), lines.reports);
-    if taken == count {
-        return told_at(current, lines.filled);
+    let current = progress_after(progress, fed);
+    let taken = taken_of(answer);
+    if taken == symbols.len() {
+        return told_at(current, filled);
     }
-    feed_one(current, held[224 + taken], out, lines.filled)
+    feed_one(current, symbols[taken], out, filled)
 }
 
 // Hears some bytes and puts their lines behind those that are there.
@@ -114,8 +130,7 @@ pub fn hear(progress: Progress, bytes: &[u8], out: &mut [u8], at: usize) -> Told
     if progress.ended {
         return told_at(progress, at);
     }
-    let mut held = [0u8; 736];
-    let reader = progress.reader;
-    let count = hold(reader, bytes, &mut held);
-    hear_held(progress, &held, count, out, at)
+    let mut symbols = [0u8; 512];
+    let count = decode(bytes, &mut symbols);
+    hear_symbols(progress, &symbols[..count], out, at)
 }

@@ -1,11 +1,9 @@
--- `decode` meets its contract: the symbols of the first i bytes are laid in their places.
-use lib.ListN.{getD, length}
+-- `decode` meets its contract: the symbols of the first i bytes stand in the first places.
 use borrow.Author.Needs.{needs}
 use native.Mathlib.Omega.{arith}
-use mathlib.Core.Path.{_∙_}
 use Prim.Native.Nat.{_-_, _≤_}
 use lib.ListN.{length}
-use Rattle.characters.specs.Decoding.{LaidTo, laid-start, laid-turn, laid-end, symbols-few}
+use Rattle.characters.specs.Decoding.{DecodedTo, decoded-start, decoded-turn, decoded-end, symbols-few}
 use Rattle.characters.proofs.decode.Statement.{statement}
 use Rattle.characters.proofs.decode.Tie as tie
 use Rattle.characters.proofs.decode.Reads as reads
@@ -14,46 +12,43 @@ use Rattle.characters.proofs.symbol_of.Reads as symbol-of-reads
 use Rattle.characters.proofs.symbols_in.Reads as symbols-in-reads
 
 abbrev Inv-loop : tie.InvT-loop
-Inv-loop bytes held₀ count₀ i₀ held count i = LaidTo held₀ bytes i count held
+Inv-loop bytes symbols₀ count₀ i₀ symbols count i = DecodedTo symbols₀ bytes i count symbols
 
 abbrev μ-loop : tie.MeasureT-loop
-μ-loop bytes held₀ count₀ i₀ held count i = length bytes - i
+μ-loop bytes symbols₀ count₀ i₀ symbols count i = length bytes - i
 
 loop-holds : tie.Need-loop-holds Inv-loop μ-loop
-loop-holds c = laid-start _ _
+loop-holds c = decoded-start _ _
 
 shared-slice-read-byte : tie.Need-shared-slice-read-byte Inv-loop μ-loop
-shared-slice-read-byte c = omega (arith, c .before .loop-test .taken, c .before .before .before .before .before .good)
+shared-slice-read-byte c = search needs
 
 symbol-of-requires : tie.Need-symbol-of-requires Inv-loop μ-loop
 symbol-of-requires c κs = search needs
 
-add-held : tie.Need-add-held Inv-loop μ-loop
-add-held c = omega (arith, c .before .before .before .loop .inv .few, c .before .before .loop-test .taken, c .before .before .before .before .before .before .good, c .before .before .before .before .before .before .pre)
-
-slice-write-held : tie.Need-slice-write-held Inv-loop μ-loop
-slice-write-held c = omega (arith, c .before .before .before .loop .inv .few, c .before .before .before .loop .inv .laid .long, c .before .before .loop-test .taken, c .before .before .before .before .before .before .pre)
+slice-write-symbols : tie.Need-slice-write-symbols Inv-loop μ-loop
+slice-write-symbols c = search needs
 
 symbols-in-requires : tie.Need-symbols-in-requires Inv-loop μ-loop
 symbols-in-requires c κs = search needs
 
 add-count : tie.Need-add-count Inv-loop μ-loop
-add-count c = omega (arith, c .symbols-in .ensures, symbols-few (getD (c .before .before .before .before .before .before .before .args .bytes .now) (c .before .before .before .before .loop .i) 0), c .before .before .before .before .loop .inv .few, c .before .before .before .loop-test .taken, c .before .before .before .before .before .before .before .good)
+add-count c = let few : c .symbols-in .result ≤ 1 = rw (c .symbols-in .ensures) (symbols-few _) in omega arith
 
 add-i : tie.Need-add-i Inv-loop μ-loop
-add-i c = omega (arith, c .before .before .before .loop-test .taken, c .before .before .before .before .before .before .before .good)
+add-i c = search needs
 
 loop-less : tie.Need-loop-less Inv-loop μ-loop
-loop-less c = omega (arith, c .before .before .before .loop-test .taken)
+loop-less c = search needs
 
 loop-again : tie.Need-loop-again Inv-loop μ-loop
-loop-again c = rw (c .symbols-in .ensures, c .before .symbol-of .ensures) (laid-turn _ _ _ _ _ (c .before .before .before .loop-test .taken) (c .before .before .before .before .before .before .before .pre) (c .before .before .before .before .loop .inv))
+loop-again c = rw (c .symbols-in .ensures, c .before .symbol-of .ensures) (decoded-turn _ _ _ _ _ (c .before .before .before .loop-test .taken) (c .before .before .before .before .before .before .before .pre) (c .before .before .before .before .loop .inv))
 
 same-length : tie.Need-same-length Inv-loop μ-loop
-same-length c = c .before .loop .inv .laid .long
+same-length c = search needs
 
 returns : tie.Need-returns Inv-loop μ-loop
-returns c = laid-end _ _ _ _ _ (omega (arith, c .before .loop .inv .within, c .loop-test .left)) (c .before .loop .inv)
+returns c = decoded-end _ _ _ _ _ (omega arith) (c .before .loop .inv)
 
 pub decode-spec : {M : Type 1} → statement M
 decode-spec =
@@ -64,8 +59,7 @@ decode-spec =
     loop-holds
     shared-slice-read-byte
     symbol-of-requires
-    add-held
-    slice-write-held
+    slice-write-symbols
     symbols-in-requires
     add-count
     add-i
