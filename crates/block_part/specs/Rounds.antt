@@ -5,7 +5,7 @@ use Prim.Native.Nat.{ℕ, zero, suc, _+_, _-_, _<_, _≤_}
 use native.Mathlib.Nat.{add-zero}
 use native.Mathlib.Numerals.{add-one}
 use native.Mathlib.Omega.{arith}
-use lib.ListN.{getD, length, take, drop, set, length-set, length-drop, length-map, length-append, take-append-drop}
+use lib.ListN.{getD, length, take, drop, set, length-set, length-drop, length-append, take-append-drop}
 use lib.Seq.{take-suc, take-suc-set, drop-cons, drop-set-lt, take-length, length-take-le, take-add, take-take}
 use Rattle.timecode.specs.declared.Answer.{Answer}
 use Rattle.timecode.specs.declared.Answer.the-variants.{Quiet, Report}

@@ -1,44 +1,23 @@
--- A block of Feeds heard at once: the progress after those that it takes and the lines of its records, and after the first that is refused.
+-- Feeds heard in blocks: the progress after those that a block takes, the lines of its records, and blocks one after the other.
 use mathlib.Core.Path.{_≡_, refl, sym, ap, ap₂, _∙_}
 use mathlib.Core.Bool.{true, false}
 use mathlib.Core.List.{List, [], _∷_, _++_, map, append-assoc, append-nil}
-use Prim.Native.Nat.{ℕ, zero, suc, _+_, _<_, _≤_}
+use Prim.Native.Nat.{ℕ, zero, suc, _+_, _-_, _<_, _≤_}
 use native.Mathlib.Numerals.{add-one}
 use native.Mathlib.Omega.{arith}
-use lib.ListN.{getD, length, take, drop, take-append-drop, List·getD-map}
-use lib.Seq.{take-suc, drop-cons, take-length}
+use lib.ListN.{getD, length, take, drop, length-drop, take-append-drop, List·getD-map}
+use lib.Seq.{take-suc, take-add, take-length}
 use Rattle.timecode.specs.Answers.{refusal}
 use Rattle.timecode.specs.Laws.Tests.{by-test}
 use Rattle.timecode.specs.declared.Answer.{Answer}
 use Rattle.timecode.specs.declared.Answer.the-variants.{Quiet, Report}
-use Rattle.timecode.specs.declared.Refusal.{Refusal}
 use Rattle.lines.specs.Text.{reportLine}
 use Rattle.stream.specs.Feeding.{isValid, nextOf, answerOf, feedOf}
 use Rattle.stream.specs.Refinement.{answers, readerAfter}
 use Rattle.stream.specs.declared.Reader.{Reader}
-use Rattle.parts.specs.Feeds.{answers-at, length-answers}
-use Rattle.block.specs.Blocks.{
-  Reported,
-  reportAt,
-  Block,
-  stopped,
-  onward,
-  blockIn,
-  blockOf,
-  Lists,
-  roomIn,
-  areRecords,
-  fieldLeft,
-  indexOf,
-  dayOf,
-  hundredthsOf,
-  controlOf,
-  listsLeft,
-  blockFor,
-  blockAnswer,
-  feedBlockOf,
-}
-use Rattle.block.specs.Folds.{StopsFor, block-takes, left-first}
+use Rattle.parts.specs.Feeds.{length-answers}
+use Rattle.block.specs.Blocks.{Reported, reportAt, Block, stopped, onward, blockIn, blockOf, Lists, roomIn, areRecords, fieldLeft, indexOf, dayOf, hundredthsOf, controlOf, listsLeft, blockFor, blockAnswer, feedBlockOf}
+use Rattle.block.specs.Folds.{block-takes, left-first}
 use Rattle.block.specs.declared.BlockAnswer.{BlockAnswer}
 use Rattle.block.specs.declared.FedBlock.{FedBlock}
 use Rattle.block.specs.declared.Stop.{Stop}
@@ -175,12 +154,6 @@ few-reports i room (Answer.Refused x ∷ as′) = omega arith
 few-reports i zero (Report t w ∷ as′) = omega arith
 few-reports i (suc room) (Report t w ∷ as′) = omega (arith, few-reports (suc i) room as′)
 
--- With room for a report of each, a block stops before its end only where the next Feed is refused.
-refused-after : (why : Stop) (room : ℕ) (as′ : List Answer) (taken reports : ℕ) → StopsFor why room as′ taken reports → reports ≤ taken → length as′ ≤ room → taken < length as′ → (x : Refusal) × ((none : Answer) → getD as′ taken none ≡ Answer.Refused x)
-refused-after AllTaken room as′ taken reports stops few long h = let n : ⊥ = omega (arith, stops) in absurd n
-refused-after UnknownSymbol room as′ taken reports stops few long h = stops .1
-refused-after NoRoom room as′ taken reports stops few long h = let n : ⊥ = omega (arith, stops .1) in absurd n
-
 -- ---- what the call answers
 
 -- the symbols taken and the reports put in: none, where it refuses
@@ -211,19 +184,11 @@ module _ (r : Reader) (ss : List ℕ) (l : Lists) (same : areRecords l ≡ true)
   taken-within : b .taken ≤ length ss
   taken-within = by-test (isValid r) (λ v. rw (for-valid v) (omega (arith, block-takes 0 (roomIn l) (answers r ss) .within, length-answers r ss))) (λ n. rw (for-invalid n) (omega arith))
 
+  reports-fit : length (b .reports) ≤ roomIn l
+  reports-fit = by-test (isValid r) (λ v. rw (for-valid v) (block-takes 0 (roomIn l) (answers r ss) .fits)) (λ n. rw (for-invalid n) (omega arith))
+
   reports-few : length (b .reports) ≤ b .taken
   reports-few = by-test (isValid r) (λ v. rw (for-valid v) (few-reports 0 (roomIn l) (answers r ss))) (λ n. rw (for-invalid n) (omega arith))
-
-  refused-next : length ss ≤ roomIn l → b .taken < length ss → (x : Refusal) × (answerOf (readerAfter r (take (b .taken) ss)) (getD ss (b .taken) 0) ≡ Answer.Refused x)
-  unfolding answerOf readerAfter
-  refused-next long h =
-      by-test (isValid r)
-      (λ v.
-      let c = blockOf r (roomIn l) ss in
-      let under : c .taken < length ss = rw (for-valid v) at h in
-      let next = refused-after (c .stop) (roomIn l) (answers r ss) (c .taken) (length (c .reports)) (block-takes 0 (roomIn l) (answers r ss) .stops) (few-reports 0 (roomIn l) (answers r ss)) (omega (arith, length-answers r ss)) (omega (arith, length-answers r ss)) in
-      rw (for-valid v) (next .0, sym (answers-at r ss Quiet (c .taken) under) ∙ next .1 Quiet))
-      (λ n. rw (for-invalid n) (refusal 13 0, rw n))
 
 -- ---- the progress that the call makes, and its lines
 
@@ -250,8 +215,11 @@ module _ (p : Progress) (ss : List ℕ) (l : Lists) (same : areRecords l ≡ tru
   pub fed-within : takenOf (fed .answer) ≤ length ss
   fed-within = rw taken-is (taken-within (p .reader) ss l same)
 
-  pub fed-few : reportsOf (fed .answer) ≤ length ss
-  fed-few = omega (arith, reports-is, reports-few (p .reader) ss l same, taken-within (p .reader) ss l same)
+  pub fed-fits : reportsOf (fed .answer) ≤ roomIn l
+  fed-fits = rw reports-is (reports-fit (p .reader) ss l same)
+
+  pub fed-few : reportsOf (fed .answer) ≤ takenOf (fed .answer)
+  fed-few = rw (reports-is, taken-is) (reports-few (p .reader) ss l same)
 
   module _ (g : p .ended ≡ false) (left : Lists) (leaves : left ≡ listsLeft block l) (reports : ℕ) (n : reports ≡ reportsOf (fed .answer)) (text lines : List ℕ) (put : lines ≡ text ++ firstLines (p .elements) left reports) where
     abbrev current : Progress
@@ -270,31 +238,77 @@ module _ (p : Progress) (ss : List ℕ) (l : Lists) (same : areRecords l ≡ tru
     part-told : lines ≡ text ++ textFeeds p (take (block .taken) ss)
     part-told = put ∙ ap (λ (x : List ℕ). text ++ x) (rw (leaves, n, reports-is) (lines-left block l (p .elements)) ∙ sym (block-told .told))
 
-    -- all of them are taken
-    pub fed-all : takenOf (fed .answer) ≡ length ss → (current ≡ afterFeeds p ss) × (lines ≡ text ++ textFeeds p ss)
-    fed-all e =
-        let whole : take (block .taken) ss ≡ ss = ap (λ (k : ℕ). take k ss) (sym taken-is ∙ e) ∙ take-length ss in
+    -- the Feeds that it took
+    pub fed-taken : (taken : ℕ) → taken ≡ takenOf (fed .answer) → (current ≡ afterFeeds p (take taken ss)) × (lines ≡ text ++ textFeeds p (take taken ss))
+    fed-taken taken t =
+        let whole : take (block .taken) ss ≡ take taken ss = ap (λ (k : ℕ). take k ss) (sym (t ∙ taken-is)) in
         (part-reached ∙ ap (afterFeeds p) whole, part-told ∙ ap (λ (xs : List ℕ). text ++ textFeeds p xs) whole)
 
-    -- the next is refused, and ends the listing
-    pub fed-refused : (taken : ℕ) → taken ≡ takenOf (fed .answer) → length ss ≤ roomIn l → taken < length ss → (stepOf current (getD ss taken 0) ≡ afterFeeds p ss) × (lines ++ lineOf current (getD ss taken 0) ≡ text ++ textFeeds p ss)
+    -- and the next one
+    pub fed-next : (taken : ℕ) → taken ≡ takenOf (fed .answer) → taken < length ss → (stepOf current (getD ss taken 0) ≡ afterFeeds p (take (taken + 1) ss)) × (lines ++ lineOf current (getD ss taken 0) ≡ text ++ textFeeds p (take (taken + 1) ss))
     unfolding afterFeeds textFeeds
-    fed-refused taken t room h =
-        let front = take (block .taken) ss in
+    fed-next taken t h =
+        let front = take taken ss in
         let s = getD ss taken 0 in
-        let rest = drop (suc taken) ss in
-        let whole : ss ≡ front ++ (s ∷ rest) = sym (take-append-drop taken ss) ∙ ap₂ (λ (k : ℕ) (xs : List ℕ). take k ss ++ xs) (t ∙ taken-is) (drop-cons ss taken 0 h) in
-        let refuses = refused-next (p .reader) ss l same room (omega (arith, taken-is)) in
-        let answer : answerOf (fed .reader) s ≡ Answer.Refused (refuses .0) = ap₂ answerOf reader-is (ap (λ (k : ℕ). getD ss k 0) (t ∙ taken-is)) ∙ refuses .1 in
-        let ended : stepOf current s .ended ≡ true = ap (λ (x : Progress). x .ended) (step-fed current s refl .0 ∙ ap (answered current (nextOf (fed .reader) s)) answer) in (
-          sym (ap (afterFeeds p) whole ∙ after-append p front (s ∷ rest) ∙ ap (λ (x : Progress). afterFeeds x (s ∷ rest)) (sym part-reached) ∙ sym (ended-stays (stepOf current s) rest ended)),
-          ap (λ (x : List ℕ). x ++ lineOf current s) part-told
+        let before = fed-taken taken t in
+        let whole : take (taken + 1) ss ≡ front ++ (s ∷ []) = ap (λ (k : ℕ). take k ss) (add-one taken) ∙ take-suc ss taken 0 h in (
+          sym (ap (afterFeeds p) whole ∙ after-append p front (s ∷ []) ∙ ap (λ (x : Progress). stepOf x s) (sym (before .0))),
+          ap (λ (x : List ℕ). x ++ lineOf current s) (before .1)
               ∙ append-assoc text (textFeeds p front) (lineOf current s)
-              ∙ ap (λ (x : List ℕ). text ++ x)
-              (sym
-              (ap (textFeeds p) whole
-              ∙ text-append p front (s ∷ rest)
-              ∙ ap (λ (x : Progress). textFeeds p front ++ textFeeds x (s ∷ rest)) (sym part-reached)
-              ∙ ap (λ (x : List ℕ). textFeeds p front ++ (lineOf current s ++ x)) (sym (ended-silent (stepOf current s) rest ended))
-              ∙ ap (λ (x : List ℕ). textFeeds p front ++ x) (append-nil (lineOf current s)))),
+              ∙ sym (ap (λ (x : List ℕ). text ++ x) (ap (textFeeds p) whole ∙ text-append p front (s ∷ []) ∙ rw (← before .0) (ap (λ (x : List ℕ). textFeeds p front ++ x) (append-nil (lineOf current s))))),
         )
+
+-- ---- some symbols, in blocks one after the other
+
+-- the first i symbols are heard
+pub record HeardTo (p : Progress) (ss text : List ℕ) (i : ℕ) (q : Progress) (lines : List ℕ) : Type 0 where
+  pub within : i ≤ length ss
+  pub reached : q ≡ afterFeeds p (take i ss)
+  pub told : lines ≡ text ++ textFeeds p (take i ss)
+
+pub heard-start : (p : Progress) (ss text : List ℕ) → HeardTo p ss text 0 p text
+unfolding afterFeeds textFeeds
+heard-start p ss text = record { within = omega arith; reached = refl; told = sym (append-nil text) }
+
+-- the rest of the symbols
+abbrev pub restOf : List ℕ → ℕ → List ℕ
+restOf ss i = take (length ss - i) (drop i ss)
+
+rest-is : (ss : List ℕ) (i : ℕ) → restOf ss i ≡ drop i ss
+rest-is ss i = ap (λ (k : ℕ). take k (drop i ss)) (sym (length-drop i ss)) ∙ take-length (drop i ss)
+
+pub length-rest : (ss : List ℕ) (i : ℕ) → length (restOf ss i) ≡ length ss - i
+length-rest ss i = ap length (rest-is ss i) ∙ length-drop i ss
+
+module _ {p : Progress} {ss text : List ℕ} {i : ℕ} {q : Progress} {lines : List ℕ} (heard : HeardTo p ss text i q lines) where
+  pub heard-turn : (k : ℕ) (r : Progress) (longer : List ℕ) → k ≤ length ss - i → r ≡ afterFeeds q (take k (restOf ss i)) → longer ≡ lines ++ textFeeds q (take k (restOf ss i)) → HeardTo p ss text (i + k) r longer
+  heard-turn k r longer few reached told =
+      let part = take k (drop i ss) in
+      let same : take k (restOf ss i) ≡ part = ap (take k) (rest-is ss i) in
+      record {
+        within = omega (arith, heard .within);
+        reached = reached ∙ ap₂ afterFeeds (heard .reached) same ∙ sym (ap (afterFeeds p) (take-add i k ss) ∙ after-append p (take i ss) part);
+        told =
+            told
+            ∙ ap₂ (λ (x y : List ℕ). x ++ y) (heard .told) (ap₂ textFeeds (heard .reached) same)
+            ∙ append-assoc text (textFeeds p (take i ss)) (textFeeds (afterFeeds p (take i ss)) part)
+            ∙ sym (ap (λ (x : List ℕ). text ++ x) (ap (textFeeds p) (take-add i k ss) ∙ text-append p (take i ss) part));
+      }
+
+  -- none is left, or the listing has ended
+  pub heard-all : length ss ≤ i → (q ≡ afterFeeds p ss) × (lines ≡ text ++ textFeeds p ss)
+  heard-all all =
+      let same-count : i ≡ length ss = omega (arith, heard .within) in
+      let whole : take i ss ≡ ss = ap (λ (k : ℕ). take k ss) (same-count) ∙ take-length ss in
+      (heard .reached ∙ ap (afterFeeds p) whole, heard .told ∙ ap (λ (xs : List ℕ). text ++ textFeeds p xs) whole)
+
+  pub heard-ended : q .ended ≡ true → (q ≡ afterFeeds p ss) × (lines ≡ text ++ textFeeds p ss)
+  heard-ended e =
+      let front = take i ss in
+      let rest = drop i ss in
+      let whole : front ++ rest ≡ ss = take-append-drop i ss in (
+        ended-stays q rest e ∙ ap (λ (x : Progress). afterFeeds x rest) (heard .reached) ∙ sym (after-append p front rest) ∙ ap (afterFeeds p) whole,
+        heard .told
+            ∙ ap (λ (x : List ℕ). text ++ x)
+            (sym (append-nil (textFeeds p front)) ∙ ap (λ (x : List ℕ). textFeeds p front ++ x) (ended-silent q rest e ∙ ap (λ (x : Progress). textFeeds x rest) (heard .reached)) ∙ sym (text-append p front rest) ∙ ap (textFeeds p) whole),
+      )

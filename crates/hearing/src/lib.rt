@@ -2,7 +2,7 @@
 ghost use mathlib.Core.Path.{_≡_};
 ghost use mathlib.Core.Bool.{false};
 ghost use mathlib.Core.List.{_++_};
-ghost use Prim.Native.Nat.{_≤_};
+ghost use Prim.Native.Nat.{_+_, _*_, _≤_};
 ghost use lib.ListN.{length, take};
 ghost use Rattle.block.specs.Blocks.{lists};
 ghost use Rattle.progress.specs.Progress.{afterFeeds, textFeeds};
@@ -21,6 +21,13 @@ use progress::progress_at;
 use progress::put_report;
 use progress::told_at;
 use timecode::Time;
+
+// The progress after some symbols, how many they were, and where their lines end.
+struct Heard {
+    progress: Progress,
+    taken: usize,
+    filled: usize,
+}
 
 // How many symbols a block took: none, if it was refused.
 fn taken_of(answer: BlockAnswer) -> usize
@@ -53,8 +60,8 @@ fn put_lines(
     out: &mut [u8],
     start: usize,
 ) -> usize
-    requires { ⌜ (count ≤ 512) × (count ≤ length (now indexes)) × (count ≤ length (now days)) × (count ≤ length (now hundredths)) × (count ≤ length (now controls)) × (start ≤ 32704) × (length (now out) ≡ 65536) ⌝ }
-    ensures { λ r. ⌜ (r ≤ 65472) × (length (now (out .exit)) ≡ 65536) × (take r (now (out .exit)) ≡ take start (now (out .entry)) ++ firstLines elements (lists (now (indexes .entry)) (now (days .entry)) (now (hundredths .entry)) (now (controls .entry))) count) ⌝ }
+    requires { ⌜ (count ≤ length (now indexes)) × (count ≤ length (now days)) × (count ≤ length (now hundredths)) × (count ≤ length (now controls)) × (start + 64 * count ≤ 65536) × (length (now out) ≡ 65536) ⌝ }
+    ensures { λ r. ⌜ (r ≤ start + 64 * count) × (length (now (out .exit)) ≡ 65536) × (take r (now (out .exit)) ≡ take start (now (out .entry)) ++ firstLines elements (lists (now (indexes .entry)) (now (days .entry)) (now (hundredths .entry)) (now (controls .entry))) count) ⌝ }
 {
     let first = one_more(elements);
     let mut filled = start;
@@ -84,16 +91,26 @@ fn progress_after(progress: Progress, fed: FedBlock) -> Progress
     )
 }
 
-// Hears some symbols as one block, with room for a report of each. Where it stops before its end, the next symbol is
-// refused: that one is fed by itself, for its line.
-fn hear_symbols(progress: Progress, symbols: &[u8], out: &mut [u8], at: usize) -> Told
-    requires { ⌜ (progress .ended ≡ false) × (length (now symbols) ≤ 512) × (at ≤ 32704) × (length (now out) ≡ 65536) ⌝ }
-    ensures { λ r. ⌜ (r .filled ≤ 65536) × (length (now (out .exit)) ≡ 65536) × (r .progress ≡ afterFeeds progress (now (symbols .entry))) × (take (r .filled) (now (out .exit)) ≡ take at (now (out .entry)) ++ textFeeds progress (now (symbols .entry))) ⌝ }
+fn heard_at(progress: Progress, taken: usize, filled: usize) -> Heard
+    ensures { λ r. ⌜ (r .progress ≡ progress) × (r .taken ≡ taken) × (r .filled ≡ filled) ⌝ }
 {
-    let mut indexes = [0usize; 512];
-    let mut days = [0u16; 512];
-    let mut hundredths = [0u32; 512];
-    let mut controls = [0u64; 512];
+    Heard {
+        progress: progress,
+        taken: taken,
+        filled: filled,
+    }
+}
+
+// Hears symbols as one block, with room for 16 reports. The symbol before which it stops is fed by itself, for its line:
+// it is refused, or its report found no room.
+fn hear_block(progress: Progress, symbols: &[u8], out: &mut [u8], at: usize) -> Heard
+    requires { ⌜ (progress .ended ≡ false) × (1 ≤ length (now symbols)) × (at + 64 * length (now symbols) ≤ 65536) × (length (now out) ≡ 65536) ⌝ }
+    ensures { λ r. ⌜ (1 ≤ r .taken) × (r .taken ≤ length (now (symbols .entry))) × (r .filled ≤ at + 64 * r .taken) × (length (now (out .exit)) ≡ 65536) × (r .progress ≡ afterFeeds progress (take (r .taken) (now (symbols .entry)))) × (take (r .filled) (now (out .exit)) ≡ take at (now (out .entry)) ++ textFeeds progress (take (r .taken) (now (symbols .entry)))) ⌝ }
+{
+    let mut indexes = [0usize; 16];
+    let mut days = [0u16; 16];
+    let mut hundredths = [0u32; 16];
+    let mut controls = [0u64; 16];
     let reader = progress.reader;
     let fed = feed_block(
         reader,
@@ -117,9 +134,27 @@ fn hear_symbols(progress: Progress, symbols: &[u8], out: &mut [u8], at: usize) -
     let current = progress_after(progress, fed);
     let taken = taken_of(answer);
     if taken == symbols.len() {
-        return told_at(current, filled);
+        return heard_at(current, taken, filled);
     }
-    feed_one(current, symbols[taken], out, filled)
+    let told = feed_one(current, symbols[taken], out, filled);
+    heard_at(told.progress, taken + 1, told.filled)
+}
+
+// Hears some symbols, up to the first that is refused.
+fn hear_symbols(progress: Progress, symbols: &[u8], out: &mut [u8], at: usize) -> Told
+    requires { ⌜ (length (now symbols) ≤ 512) × (at ≤ 32704) × (length (now out) ≡ 65536) ⌝ }
+    ensures { λ r. ⌜ (r .filled ≤ 65536) × (length (now (out .exit)) ≡ 65536) × (r .progress ≡ afterFeeds progress (now (symbols .entry))) × (take (r .filled) (now (out .exit)) ≡ take at (now (out .entry)) ++ textFeeds progress (now (symbols .entry))) ⌝ }
+{
+    let mut current = progress;
+    let mut taken = 0;
+    let mut filled = at;
+    while taken < symbols.len() && !current.ended {
+        let heard = hear_block(current, &symbols[taken..], out, filled);
+        current = heard.progress;
+        taken += heard.taken;
+        filled = heard.filled;
+    }
+    told_at(current, filled)
 }
 
 // Hears some bytes and puts their lines behind those that are there.
@@ -127,9 +162,6 @@ pub fn hear(progress: Progress, bytes: &[u8], out: &mut [u8], at: usize) -> Told
     requires { ⌜ (length (now bytes) ≤ 512) × (at ≤ 32704) × (length (now out) ≡ 65536) ⌝ }
     ensures { λ r. ⌜ (r .filled ≤ 65536) × (length (now (out .exit)) ≡ 65536) × (r .progress ≡ afterOf progress (now (bytes .entry))) × (take (r .filled) (now (out .exit)) ≡ take at (now (out .entry)) ++ textOf progress (now (bytes .entry))) ⌝ }
 {
-    if progress.ended {
-        return told_at(progress, at);
-    }
     let mut symbols = [0u8; 512];
     let count = decode(bytes, &mut symbols);
     hear_symbols(progress, &symbols[..count], out, at)

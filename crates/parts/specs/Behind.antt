@@ -1,14 +1,14 @@
 -- A part's symbols behind the reader's own, one behind the other: its answers are the plain machine's there, and its next reader is packed from there.
 use mathlib.Core.Path.{_≡_, refl, sym, ap, ap₂, _∙_}
-use mathlib.Core.Bool.{true, cond, _&&_}
+use mathlib.Core.Bool.{true, _&&_}
 use mathlib.Core.List.{List, [], _∷_, _++_, append-assoc, append-nil}
 use Prim.Native.Nat.{ℕ, suc, _+_, _*_, _-_, _/_, _%_, _^_, _<_, _≤_}
-use native.Mathlib.Nat.{zero-add, add-zero, not-suc-le-zero, mod-lt, mod-eq-of-lt, mod-add-mod}
+use native.Mathlib.Nat.{zero-add, add-zero, mod-lt, mod-eq-of-lt, mod-add-mod}
 use native.Mathlib.Omega.{arith}
 use native.Mathlib.Decide.{decLt}
 use borrow.Author.Tests.{le-leb, lt-ltb}
 use lib.ListN.{getD, length, take, drop, set, length-append, length-set, List·getD-append}
-use lib.Seq.{ext-getD, getD-append-add, getD-take, take-suc, take-suc-set, take-append-add, length-take-le, take-take, take-at, take-length}
+use lib.Seq.{getD-append-add, getD-take, take-suc, take-suc-set, take-append-add, length-take-le, take-take, take-at}
 use Rattle.timecode.specs.Formats.{isSymbol, size}
 use Rattle.timecode.specs.Laws.Runs.{length-tabulate, getD-tabulate}
 use Rattle.timecode.specs.Laws.Tests.{by-test}
@@ -20,7 +20,7 @@ use Rattle.register.specs.Symbols.{wordsOf, heardAt, heardFrame, pushOf}
 use Rattle.register.specs.declared.Register.{Register}
 use Rattle.packing.specs.Packing.{Fits, Holds}
 use Rattle.search.specs.Accepted.{acceptedIn, accepted-within, accepted-at}
-use Rattle.search.specs.Ends.{answerAt, part, length-part, part-at}
+use Rattle.search.specs.Ends.{answerAt, part}
 use Rattle.stream.specs.Feeding.{isValid, nextOf, answerOf, feedOf, valid-place}
 use Rattle.stream.specs.Refinement.{answers, readerAfter, Shows, push-shows, shown-answer}
 use Rattle.stream.specs.declared.Reader.{Reader}
@@ -195,22 +195,6 @@ module _ (r : Reader) (ss held : List ℕ) (m : ℕ) (given : Behind r ss held m
 
 -- ---- the part's symbols laid there
 
--- the symbols that a reader takes before it refuses one
-abbrev pub takenBy : Reader → List ℕ → ℕ
-takenBy r ss = cond (isValid r) (acceptedIn ss) 0
-
-pub taken-within : (r : Reader) (ss : List ℕ) → takenBy r ss ≤ length ss
-taken-within r ss = by-test (isValid r) (λ v. rw v (accepted-within ss)) (λ n. rw n (omega arith))
-
-pub taken-accepted : (r : Reader) (ss : List ℕ) → Accepted (take (takenBy r ss) ss)
-taken-accepted r ss =
-    by-test (isValid r)
-    (λ v k b.
-    let taken : takenBy r ss ≡ acceptedIn ss = rw v in
-    let long : length (take (takenBy r ss) ss) ≡ takenBy r ss = length-take-le (takenBy r ss) ss (taken-within r ss) in
-    rw (getD-take (takenBy r ss) ss k 0 (omega (arith, long))) (accepted-at ss k (omega (arith, long, taken))))
-    (λ n k b. let none : takenBy r ss ≡ 0 = rw n in absurd (not-suc-le-zero (rw none at b)))
-
 -- the symbols behind the first 224 bytes, which stay; what stands behind them is free
 pub record Laid (entry ss held : List ℕ) : Type 0 where
   pub long : length held ≡ length entry
@@ -227,19 +211,6 @@ laid-more entry ss held s room laid =
       long = length-set held (224 + length ss) s ∙ laid .long;
       behind = rw longer (take-suc-set held (224 + length ss) s (omega (arith, laid .long)) ∙ ap (λ (xs : List ℕ). xs ++ (s ∷ [])) (laid .behind) ∙ append-assoc (take 224 entry) ss (s ∷ []));
     }
-
-pub laid-part : (entry ss held : List ℕ) → 224 + length ss ≤ length entry → Laid entry ss held → part held 224 (length ss) ≡ ss
-laid-part entry ss held room laid =
-    let long : length (part held 224 (length ss)) ≡ length ss = length-part held 224 (length ss) (omega (arith, laid .long)) in
-    let first : length (take 224 entry) ≡ 224 = length-take-le 224 entry (omega arith) in
-    ext-getD 0 (part held 224 (length ss)) ss long
-    (λ k b.
-    let under : k < length ss = omega (arith, long) in
-    part-at held 224 (length ss) k under
-    ∙ sym (getD-take (224 + length ss) held (224 + k) 0 (omega arith))
-    ∙ ap (λ (xs : List ℕ). getD xs (224 + k) 0) (laid .behind)
-    ∙ ap (λ (n : ℕ). getD (take 224 entry ++ ss) (n + k) 0) (sym first)
-    ∙ getD-append-add (take 224 entry) ss k 0)
 
 pub laid-behind : (r : Reader) (ss entry front held : List ℕ) → isValid r ≡ true → front ≡ past (r .heard) ++ drop 224 entry → Laid front ss held → Behind r ss held (acceptedIn ss)
 laid-behind r ss entry front held v unpacked laid =

@@ -7,12 +7,10 @@ ghost use Prim.Native.Nat.{ℕ, _+_, _≤_, _<_};
 ghost use lib.ListN.{getD, length, take};
 ghost use Rattle.stream.specs.Feeding.{isValid};
 ghost use Rattle.stream.specs.Refinement.{readerAfter};
-ghost use Rattle.parts.specs.Behind.{Behind, takenBy};
+ghost use Rattle.parts.specs.Behind.{Behind};
 use layout::frame_size;
 use packing::pack;
-use search::accepted;
 use stream::Reader;
-use stream::is_valid;
 
 // Where a part that begins there ends: a part has at most 512 symbols.
 pub fn part_end(from: usize, end: usize) -> usize
@@ -23,16 +21,6 @@ pub fn part_end(from: usize, end: usize) -> usize
         return end;
     }
     from + 512
-}
-
-// How many of the symbols a reader takes before it refuses one: none, if it is invalid.
-pub fn taken_by(reader: Reader, symbols: &[u8]) -> usize
-    ensures { λ r. ⌜ r ≡ takenBy reader (now (symbols .entry)) ⌝ }
-{
-    if is_valid(reader) {
-        return accepted(symbols);
-    }
-    0
 }
 
 // The reader after so many of the symbols behind its own, packed from them.

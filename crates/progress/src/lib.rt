@@ -131,7 +131,7 @@ pub fn told_at(progress: Progress, filled: usize) -> Told
 // One Feed by itself, with its line.
 pub fn feed_one(progress: Progress, symbol: u8, out: &mut [u8], at: usize) -> Told
     requires { ⌜ (progress .ended ≡ false) × (at ≤ 65472) × (length (now out) ≡ 65536) ⌝ }
-    ensures { λ r. ⌜ (r .filled ≤ 65536) × (length (now (out .exit)) ≡ 65536) × (r .progress ≡ stepOf progress symbol) × (take (r .filled) (now (out .exit)) ≡ take at (now (out .entry)) ++ lineOf progress symbol) ⌝ }
+    ensures { λ r. ⌜ (r .filled ≤ at + 64) × (length (now (out .exit)) ≡ 65536) × (r .progress ≡ stepOf progress symbol) × (take (r .filled) (now (out .exit)) ≡ take at (now (out .entry)) ++ lineOf progress symbol) ⌝ }
 {
     let reader = progress.reader;
     let answer = answer_to(reader, symbol);

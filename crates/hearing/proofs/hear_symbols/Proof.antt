@@ -1,138 +1,81 @@
--- `hear_symbols` meets its contract: the block takes its symbols up to the first that is refused.
+-- `hear_symbols` meets its contract: the first symbols are heard, in blocks one after the other.
 use borrow.Author.Needs.{needs}
 use native.Mathlib.Omega.{arith}
-use mathlib.Core.Path.{_≡_, refl, sym, ap, _∙_}
-use mathlib.Core.Bool.{true}
-use Prim.Native.Nat.{_≤_}
-use lib.ListN.{length, replicate, take}
-use Rattle.block.specs.Blocks.{Lists, lists, areRecords}
-use Rattle.progress.specs.declared.Progress.{Progress}
-use Rattle.hearing.specs.Hearing.{fed-within, fed-few, fed-all, fed-refused}
+use borrow.Author.Tests.{not-true, not-false}
+use mathlib.Core.Logic.{⊎-elim}
+use mathlib.Core.Path.{_≡_, _∙_}
+use Prim.Native.Nat.{_+_, _*_, _-_, _≤_}
+use lib.ListN.{length, take}
+use Rattle.hearing.specs.Hearing.{HeardTo, heard-start, length-rest, heard-turn, heard-all, heard-ended}
 use Rattle.hearing.proofs.hear_symbols.Statement.{statement}
 use Rattle.hearing.proofs.hear_symbols.Tie as tie
 use Rattle.hearing.proofs.hear_symbols.Reads as reads
 use Rattle.hearing.proofs.hear_symbols.Lts as lts
-use Rattle.block_feed.proofs.feed_block.Reads as feed-block-reads
-use Rattle.hearing.proofs.progress_after.Reads as progress-after-reads
-use Rattle.hearing.proofs.put_lines.Reads as put-lines-reads
-use Rattle.hearing.proofs.reports_of.Reads as reports-of-reads
-use Rattle.hearing.proofs.taken_of.Reads as taken-of-reads
-use Rattle.progress.proofs.feed_one.Reads as feed-one-reads
+use Rattle.hearing.proofs.hear_block.Reads as hear-block-reads
 use Rattle.progress.proofs.told_at.Reads as told-at-reads
 
--- the lent list before the block, with room for 512 reports
-abbrev blank : Lists
-blank = lists (replicate 512 0) (replicate 512 0) (replicate 512 0) (replicate 512 0)
+abbrev Inv-loop : tie.InvT-loop
+Inv-loop symbols out₀ at current₀ taken₀ filled₀ out current taken filled = HeardTo current₀ symbols (take at out₀) taken current (take filled out) × (filled ≤ at + 64 * taken) × (length out ≡ 65536)
 
-are-records : areRecords blank ≡ true
-are-records = refl
+abbrev μ-loop : tie.MeasureT-loop
+μ-loop symbols out₀ at current₀ taken₀ filled₀ out current taken filled = length symbols - taken
 
-slice-aggregate-feed-block : tie.Need-slice-aggregate-feed-block
-slice-aggregate-feed-block c = search needs
+loop-holds : tie.Need-loop-holds Inv-loop μ-loop
+loop-holds c = (heard-start _ _ _, omega arith, c .before .before .pre .2)
 
-slice-aggregate-feed-block-2 : tie.Need-slice-aggregate-feed-block-2
-slice-aggregate-feed-block-2 c = search needs
+sub-hear-block : tie.Need-sub-hear-block Inv-loop μ-loop
+sub-hear-block c = omega (arith, c .before .before .loop-test .taken)
 
-slice-aggregate-feed-block-3 : tie.Need-slice-aggregate-feed-block-3
-slice-aggregate-feed-block-3 c = search needs
+part-hear-block-start : tie.Need-part-hear-block-start Inv-loop μ-loop
+part-hear-block-start c = omega (arith, c .before .before .loop-test .taken)
 
-slice-aggregate-feed-block-4 : tie.Need-slice-aggregate-feed-block-4
-slice-aggregate-feed-block-4 c = search needs
+part-hear-block-end : tie.Need-part-hear-block-end Inv-loop μ-loop
+part-hear-block-end c = omega (arith, c .before .before .loop-test .taken)
 
-feed-block-requires : tie.Need-feed-block-requires
-feed-block-requires c κs = search needs
+hear-block-requires : tie.Need-hear-block-requires Inv-loop μ-loop
+hear-block-requires c κs =
+    let long = length-rest (c .before .before .before .before .before .before .before .before .args .symbols .now) (c .before .before .before .before .before .loop .taken) in
+    (not-true _ (c .before .before .if1 .taken), omega (arith, long, c .before .before .before .before .loop-test .taken), omega (arith, long, c .before .before .before .before .loop-test .taken, c .before .before .before .before .before .loop .inv .1, c .before .before .before .before .before .before .before .before .pre .0, c .before .before .before .before .before .before .before .before .pre .1), c .before .before .before .before .before .loop .inv .2)
 
-slice-aggregate-put-lines : tie.Need-slice-aggregate-put-lines
-slice-aggregate-put-lines c = search needs
+add-taken : tie.Need-add-taken Inv-loop μ-loop
+add-taken c = omega (arith, c .before .before .before .before .hear-block .ensures .1, length-rest (c .before .before .before .before .before .before .before .before .before .before .before .before .before .args .symbols .now) (c .before .before .before .before .before .before .before .before .before .before .loop .taken), c .before .before .before .before .before .before .before .before .before .loop-test .taken, c .before .before .before .before .before .before .before .before .before .before .before .before .before .good)
 
-slice-aggregate-put-lines-2 : tie.Need-slice-aggregate-put-lines-2
-slice-aggregate-put-lines-2 c = search needs
+loop-less : tie.Need-loop-less Inv-loop μ-loop
+loop-less c = omega (arith, c .before .before .before .before .hear-block .ensures .0, c .before .before .before .before .before .before .before .before .before .loop-test .taken)
 
-slice-aggregate-put-lines-3 : tie.Need-slice-aggregate-put-lines-3
-slice-aggregate-put-lines-3 c = search needs
+loop-again : tie.Need-loop-again Inv-loop μ-loop
+loop-again c =
+    let heard = c .before .before .before .before .hear-block .ensures in
+    let few : c .before .before .before .before .hear-block .result .taken ≤ length (c .before .before .before .before .before .before .before .before .before .before .before .before .before .args .symbols .now) - c .before .before .before .before .before .before .before .before .before .before .loop .taken = omega (arith, heard .1, length-rest (c .before .before .before .before .before .before .before .before .before .before .before .before .before .args .symbols .now) (c .before .before .before .before .before .before .before .before .before .before .loop .taken)) in
+    (heard-turn (c .before .before .before .before .before .before .before .before .before .before .loop .inv .0) _ _ _ few (heard .4) (heard .5), omega (arith, heard .2, c .before .before .before .before .before .before .before .before .before .before .loop .inv .1), heard .3)
 
-slice-aggregate-put-lines-4 : tie.Need-slice-aggregate-put-lines-4
-slice-aggregate-put-lines-4 c = search needs
-
-reports-of-requires : tie.Need-reports-of-requires
-reports-of-requires c κs = search needs
-
-put-lines-requires : tie.Need-put-lines-requires
-put-lines-requires c κs =
-    let a = c .before .before .before .before .before .before .before .before .before .before .before .before .before .before .before .before .before .before .args in
-    let pre = c .before .before .before .before .before .before .before .before .before .before .before .before .before .before .before .before .before .before .pre in
-    let few : c .before .reports-of .result ≤ length (a .symbols .now) = rw (c .before .reports-of .ensures) (fed-few (a .progress) (a .symbols .now) blank are-records _ (c .before .before .before .before .before .before .before .before .before .before .feed-block .ensures .0)) in
-    (omega (arith, pre .1), omega (arith, pre .1), omega (arith, pre .1), omega (arith, pre .1), omega (arith, pre .1), pre .2, pre .3)
-
-progress-after-requires : tie.Need-progress-after-requires
-progress-after-requires c κs = search needs
-
-taken-of-requires : tie.Need-taken-of-requires
-taken-of-requires c κs = search needs
-
-told-at-requires : tie.Need-told-at-requires
+told-at-requires : tie.Need-told-at-requires Inv-loop μ-loop
 told-at-requires c κs = search needs
 
-same-length : tie.Need-same-length
-same-length c = search needs
+same-length : tie.Need-same-length Inv-loop μ-loop
+same-length c = omega (arith, c .before .before .loop .inv .2, c .before .before .before .before .before .pre .2)
 
-returns : tie.Need-returns
+returns : tie.Need-returns Inv-loop μ-loop
 returns c =
-    let a = c .before .before .before .before .before .before .before .before .before .before .before .before .before .before .before .before .before .before .before .before .before .before .before .before .before .args in
-    let pre = c .before .before .before .before .before .before .before .before .before .before .before .before .before .before .before .before .before .before .before .before .before .before .before .before .before .pre in
-    let fed = c .before .before .before .before .before .before .before .before .before .before .before .before .before .before .before .before .before .feed-block .ensures in
-    let put = c .before .before .before .before .before .before .put-lines .ensures in
-    let all = fed-all (a .progress) (a .symbols .now) blank are-records _ (fed .0) (pre .0) _ (fed .1) _ (c .before .before .before .before .before .before .before .before .reports-of .ensures) (take (a .at) (a .out .now)) _ (put .2) (sym (c .before .before .taken-of .ensures) ∙ c .before .if1 .taken) in
-    (rw (c .told-at .ensures .1) (omega (arith, put .0)), put .1, c .told-at .ensures .0 ∙ c .before .before .before .progress-after .ensures ∙ all .0, rw (c .told-at .ensures .1) (all .1))
-
-shared-slice-read-feed-one : tie.Need-shared-slice-read-feed-one
-shared-slice-read-feed-one c =
-    let a = c .before .before .before .before .before .before .before .before .before .before .before .before .before .before .before .before .before .before .before .before .before .before .before .before .before .args in
-    let within : c .before .before .taken-of .result ≤ length (a .symbols .now) = rw (c .before .before .taken-of .ensures) (fed-within (a .progress) (a .symbols .now) blank are-records _ (c .before .before .before .before .before .before .before .before .before .before .before .before .before .before .before .before .before .feed-block .ensures .0)) in
-    omega (arith, c .before .if1 .left)
-
-feed-one-requires : tie.Need-feed-one-requires
-feed-one-requires c κs =
-    let put = c .before .before .before .before .before .before .before .put-lines .ensures in
-    (ap (λ (p : Progress). p .ended) (c .before .before .before .before .progress-after .ensures), put .0, put .1)
-
-same-length-2 : tie.Need-same-length-2
-same-length-2 c = search needs
-
-returns-2 : tie.Need-returns-2
-returns-2 c =
-    let a = c .before .before .before .before .before .before .before .before .before .before .before .before .before .before .before .before .before .before .before .before .before .before .before .before .before .before .before .before .before .args in
-    let pre = c .before .before .before .before .before .before .before .before .before .before .before .before .before .before .before .before .before .before .before .before .before .before .before .before .before .before .before .before .before .pre in
-    let fed = c .before .before .before .before .before .before .before .before .before .before .before .before .before .before .before .before .before .before .before .before .before .feed-block .ensures in
-    let put = c .before .before .before .before .before .before .before .before .before .before .put-lines .ensures in
-    let one = c .before .before .feed-one .ensures in
-    let taken = c .before .before .before .before .before .before .taken-of in
-    let current = c .before .before .before .before .before .before .before .progress-after .ensures in
-    let within : taken .result ≤ length (a .symbols .now) = rw (taken .ensures) (fed-within (a .progress) (a .symbols .now) blank are-records _ (fed .0)) in
-    let all = fed-refused (a .progress) (a .symbols .now) blank are-records _ (fed .0) (pre .0) _ (fed .1) _ (c .before .before .before .before .before .before .before .before .before .before .before .before .reports-of .ensures) (take (a .at) (a .out .now)) _ (put .2) (taken .result) (taken .ensures) (pre .1) (omega (arith, c .before .before .before .before .before .if1 .left)) in
-    (one .0, one .1, one .2 ∙ rw current (all .0), one .3 ∙ rw current (all .1))
+    let heard = c .before .before .loop .inv .0 in
+    let all = ⊎-elim (λ w. heard-ended heard (not-false _ (w .2 .left))) (λ w. heard-all heard (omega (arith, w))) (c .before .loop-test .came) in
+    let is = c .told-at .ensures in
+    (omega (arith, is .1, c .before .before .loop .inv .1, heard .within, c .before .before .before .before .before .pre .0, c .before .before .before .before .before .pre .1), c .before .before .loop .inv .2, is .0 ∙ all .0, rw (is .1) (all .1))
 
 pub hear-symbols-spec : {M : Type 1} → statement M
 hear-symbols-spec =
     tie.close
     (tie.spec
-    slice-aggregate-feed-block
-    slice-aggregate-feed-block-2
-    slice-aggregate-feed-block-3
-    slice-aggregate-feed-block-4
-    feed-block-requires
-    slice-aggregate-put-lines
-    slice-aggregate-put-lines-2
-    slice-aggregate-put-lines-3
-    slice-aggregate-put-lines-4
-    reports-of-requires
-    put-lines-requires
-    progress-after-requires
-    taken-of-requires
+    Inv-loop
+    μ-loop
+    loop-holds
+    sub-hear-block
+    part-hear-block-start
+    part-hear-block-end
+    hear-block-requires
+    add-taken
+    loop-less
+    loop-again
     told-at-requires
     same-length
-    returns
-    shared-slice-read-feed-one
-    feed-one-requires
-    same-length-2
-    returns-2)
+    returns)

@@ -26,7 +26,7 @@ one-more-requires : tie.Need-one-more-requires Inv-loop μ-loop
 one-more-requires c κs = search needs
 
 loop-holds : tie.Need-loop-holds Inv-loop μ-loop
-loop-holds c = (lines-start _ _ _, omega arith, omega arith, c .before .before .before .before .before .before .pre .6)
+loop-holds c = (lines-start _ _ _, omega arith, omega arith, c .before .before .before .before .before .before .pre .5)
 
 mul-more-by : tie.Need-mul-more-by Inv-loop μ-loop
 mul-more-by c = search needs

@@ -1,13 +1,10 @@
 -- `feed_one` meets its contract: it is one step of the progress.
-use mathlib.Core.Path.{ap, _∙_}
-use Rattle.progress.specs.Steps.{one-fed}
-use mathlib.Core.Path.{_≡_, sym, ap, _∙_}
-use mathlib.Core.List.{_++_}
-use native.Mathlib.Omega.{arith}
-use lib.ListN.{take}
 use borrow.Author.Needs.{needs}
-use mathlib.Core.Path.{sym, _∙_}
-use Rattle.progress.specs.Steps.{step-fed}
+use native.Mathlib.Omega.{arith}
+use mathlib.Core.Path.{ap, _∙_}
+use mathlib.Core.List.{_++_}
+use lib.ListN.{take}
+use Rattle.progress.specs.Steps.{one-fed}
 use Rattle.progress.proofs.feed_one.Statement.{statement}
 use Rattle.progress.proofs.feed_one.Tie as tie
 use Rattle.progress.proofs.feed_one.Reads as reads
