@@ -274,7 +274,7 @@ heard-start p ss text = record { within = omega arith; reached = refl; told = sy
 abbrev pub restOf : List ℕ → ℕ → List ℕ
 restOf ss i = take (length ss - i) (drop i ss)
 
-rest-is : (ss : List ℕ) (i : ℕ) → restOf ss i ≡ drop i ss
+pub rest-is : (ss : List ℕ) (i : ℕ) → restOf ss i ≡ drop i ss
 rest-is ss i = ap (λ (k : ℕ). take k (drop i ss)) (sym (length-drop i ss)) ∙ take-length (drop i ss)
 
 pub length-rest : (ss : List ℕ) (i : ℕ) → length (restOf ss i) ≡ length ss - i

@@ -3,11 +3,12 @@ use mathlib.Core.Path.{_≡_, refl, sym, ap, _∙_}
 use mathlib.Core.List.{List, _++_}
 use Prim.Native.Nat.{ℕ, zero, suc, _+_, _-_, _<_, _≤_}
 use native.Mathlib.Omega.{arith}
-use lib.ListN.{length, take, drop, length-drop}
+use lib.ListN.{length, take, drop}
 use lib.Seq.{take-length, take-add}
 use Rattle.characters.specs.Symbols.{feedsOf}
 use Rattle.progress.specs.Progress.{afterFeeds, textFeeds}
 use Rattle.hearing.specs.Bytes.{afterOf, textOf, after-parts, text-parts}
+use Rattle.hearing.specs.Hearing.{restOf, rest-is}
 use Rattle.progress.specs.declared.Progress.{Progress}
 
 -- ---- the lines of the bytes taken stand in the first places
@@ -23,16 +24,6 @@ told-start p bytes out = record { reached = refl; told = refl }
 pub reached-start : (p : Progress) (bytes : List ℕ) → p ≡ afterOf p (take 0 bytes)
 unfolding feedsOf afterFeeds
 reached-start p bytes = refl
-
--- the rest of the bytes
-abbrev pub restOf : List ℕ → ℕ → List ℕ
-restOf bytes taken = take (length bytes - taken) (drop taken bytes)
-
-rest-is : (bytes : List ℕ) (taken : ℕ) → restOf bytes taken ≡ drop taken bytes
-rest-is bytes taken = ap (λ (k : ℕ). take k (drop taken bytes)) (sym (length-drop taken bytes)) ∙ take-length (drop taken bytes)
-
-pub length-rest : (bytes : List ℕ) (taken : ℕ) → length (restOf bytes taken) ≡ length bytes - taken
-length-rest bytes taken = ap length (rest-is bytes taken) ∙ length-drop taken bytes
 
 -- the next k bytes, and what they bring
 module _ (from p q : Progress) (bytes : List ℕ) (taken k : ℕ) (before : p ≡ afterOf from (take taken bytes)) where

@@ -5,7 +5,8 @@ use mathlib.Core.Path.{_≡_, sym, _∙_}
 use mathlib.Core.Bool.{false≢true}
 use Prim.Native.Nat.{_-_, _≤_}
 use lib.ListN.{length, take}
-use Rattle.listing.specs.Parts.{reached-start, restOf, length-rest, reached-turn, reached-all}
+use Rattle.hearing.specs.Hearing.{restOf, length-rest}
+use Rattle.listing.specs.Parts.{reached-start, reached-turn, reached-all}
 use Rattle.hearing.specs.Bytes.{afterOf}
 use Rattle.printing.proofs.print_part.Statement.{statement}
 use Rattle.printing.proofs.print_part.Tie as tie
