@@ -28,7 +28,7 @@ use Rattle.parts.specs.Feeds.{answers-at, length-answers, valid-after, refused-
 use Rattle.block.specs.Blocks.{blockIn, reportAt, Lists, roomIn}
 use Rattle.block.specs.declared.Stop.{Stop}
 use Rattle.block.specs.declared.Stop.the-variants.{AllTaken, UnknownSymbol, NoRoom}
-use Rattle.block_part.specs.Rounds.{setRecord, AsLong, stopsAt, partOf, roundAt, Leaves, Standing, standing-start, standing-long, standing-quiet, standing-report, standing-full, standing-refused, standing-end, FedTo, fed-stops}
+use Rattle.block_part.specs.Rounds.{setRecord, stopsAt, partOf, roundAt, Leaves, Standing, standing-start, standing-quiet, standing-report, standing-full, standing-refused, standing-end, FedTo, fed-stops}
 use Rattle.block_part.specs.declared.Heard.{Heard}
 use Rattle.block_part.specs.declared.Round.{Round}
 
@@ -157,9 +157,6 @@ module _ {r : Reader} {ss held : List ℕ} {count : ℕ} (t : Together r ss held
   -- the reader after them can be packed
   pub together-packs : (224 + taken ≤ length held) × (1 ≤ taken → (isValid r ≡ true) × ((k : ℕ) → k < 224 + taken → getD held k 0 < 4))
   together-packs = (omega (arith, taken-few, t .room), λ some. (t .behind .valid, λ k b. small-there r ss held count (t .behind) k (omega (arith, taken-few))))
-
-  pub together-long : AsLong l l₀
-  together-long = standing-long (together-hears .standing)
 
   -- the symbol behind the last accepted one is refused
   unknown-there : count < length ss → getD (answers r ss) count Quiet ≡ Answer.Refused (refusal 4 0)

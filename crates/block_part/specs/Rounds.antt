@@ -88,9 +88,6 @@ put-long p rs l = (
   length-put (λ m. m .controls) controlOf (λ m q r. refl) p rs l,
 )
 
-pub filled-long : (p : ℕ) (rs : List Reported) (l₀ l : Lists) → l ≡ putFrom p rs l₀ → AsLong l l₀
-filled-long p rs l₀ l is = rw is (put-long p rs l₀)
-
 -- what the reports of a block leave
 pub put-left : (b : Block) (l : Lists) → length (b .reports) ≤ roomIn l → Even l → putFrom 0 (b .reports) l ≡ listsLeft b l
 put-left b l fits even =
@@ -288,7 +285,7 @@ module _ {as′ : List Answer} {from put : ℕ} {l₀ : Lists} where
   module _ {i reports : ℕ} {l : Lists} (s : Standing as′ from put l₀ i reports l) where
     -- the lists are as long as they were, and the reports fit
     pub standing-long : AsLong l l₀
-    standing-long = filled-long put (putSoFar as′ from put l₀ i) l₀ l (s .filled)
+    standing-long = rw (s .filled) (put-long put (putSoFar as′ from put l₀ i) l₀)
 
     pub standing-room : (put ≤ roomIn l₀) × Even l₀ → (reports ≤ roomIn l) × Even l
     standing-room pre =

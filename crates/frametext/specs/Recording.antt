@@ -7,15 +7,13 @@ use native.Mathlib.Omega.{arith}
 use borrow.Author.Tests.{leb-true, le-leb}
 use lib.Dec.{leb}
 use lib.ListN.{length}
-use Rattle.timecode.specs.Formats.{table, known, size}
+use Rattle.timecode.specs.Formats.{table, known}
 use Rattle.timecode.specs.Frames.{Sent, written, areSymbols, elements}
 use Rattle.timecode.specs.Laws.Table.{everyFormat, of-every}
 use Rattle.timecode.specs.Laws.Tests.{by-test, and-left, and-right}
-use Rattle.timecode.specs.Laws.Writing.{symbol-small, symbols-tabulate}
-use Rattle.timecode.specs.Layout.{fields, runs, numbers, spread, rest, symbolAt, encode}
+use Rattle.timecode.specs.Laws.Writing.{written-symbols}
 use Rattle.timecode.specs.Stream.{plainAnswers}
 use Rattle.timecode.specs.declared.Format.{Format}
-use Rattle.timecode.specs.declared.Time.{Time}
 use Rattle.lines.specs.Text.{space, newline}
 use Rattle.listing.specs.Printed.{formatIn, isFirstLine, printedFor, printed}
 use Rattle.characters.specs.Symbols.{isSkipped, symbolOf, feedsOf}
@@ -58,10 +56,6 @@ feeds-of-frame i (s ∷ ss) rest h =
     ap feedsOf (append-assoc (elementText i s) (frameText (suc i) ss) rest)
     ∙ feeds-of-element i s (frameText (suc i) ss ++ rest) (leb-true s 3 (and-left (leb s 3) (areSymbols ss) h))
     ∙ ap (λ (t : List ℕ). s ∷ t) (feeds-of-frame (suc i) ss rest (and-right (leb s 3) (areSymbols ss) h))
-
-written-symbols : (f : Format) (t : Time) (w : ℕ) → areSymbols (written f t w) ≡ true
-unfolding written encode
-written-symbols f t w = symbols-tabulate (size f) 0 (symbolAt (rest f) (runs f) (spread (fields f) (numbers t w))) (symbol-small f (runs f) (spread (fields f) (numbers t w)))
 
 -- The lines of frames, any times and control words, are read as their elements.
 pub feeds-of-frames : (f : Format) (sent : List Sent) → feedsOf (framesText f sent) ≡ elements f sent

@@ -2,22 +2,20 @@
 use mathlib.Core.Path.{_≡_, refl, sym, ap, _∙_}
 use mathlib.Core.Bool.{Bool, true, false, cond, _&&_}
 use mathlib.Core.List.{List, [], _∷_, _++_, append-assoc, append-nil}
-use mathlib.Core.Logic.{_⊎_, inl, inr}
-use Prim.Native.Nat.{ℕ, zero, suc, _+_, _-_, _%_, _<_, _≤_}
+use mathlib.Core.Logic.{inl, inr}
+use Prim.Native.Nat.{ℕ, zero, suc, _+_, _-_, _<_, _≤_}
 use native.Mathlib.Nat.{not-suc-le-zero}
 use native.Mathlib.Omega.{arith}
-use borrow.Author.Tests.{eqb-true, eqb-false, ltb-true, ltb-false, le-leb, lt-ltb, eq-eqb, ne-eqb}
+use borrow.Author.Tests.{eqb-true, eqb-false, ltb-true, ltb-false, eq-eqb}
 use lib.Dec.{eqb, ltb}
 use lib.ListN.{getD, length, length-append, List·getD-append}
 use lib.Seq.{getD-at}
-use Rattle.timecode.specs.Formats.{member, known, interval, carriesLeap}
-use Rattle.timecode.specs.Frames.{yearLengths, inYear, dayAfter, usual, kinds, dayLengthOf, dayEnd, onDay, following, stepOf, written, Sent, noFrame, Generator, elements}
+use Rattle.timecode.specs.Frames.{usual, following, stepOf, written, Sent, noFrame, Generator, elements}
 use Rattle.timecode.specs.Laws.Checks.{done}
 use Rattle.timecode.specs.Laws.Reading.{Valid}
 use Rattle.timecode.specs.Laws.Back.{step-again}
 use Rattle.timecode.specs.Laws.Stepping.{went, answers, day-end-range, Lands, lands}
 use Rattle.timecode.specs.Laws.Tests.{by-test, and-right}
-use Rattle.timecode.specs.Laws.Times.{is-on-format, is-carried}
 use Rattle.timecode.specs.Laws.Writing.{length-written, taken, takes}
 use Rattle.timecode.specs.Stream.{plainAnswers}
 use Rattle.timecode.specs.declared.Format.{Format}

@@ -8,57 +8,45 @@ use Rattle.arguments.proofs.digit_of.Tie as tie
 use Rattle.arguments.proofs.digit_of.Reads as reads
 use Rattle.arguments.proofs.digit_of.Lts as lts
 
--- src/lib.rt:17:9
 returns : tie.Need-returns
 unfolding digitOf
 returns c = (rw (lt-ltb _ _ (c .if1 .taken)), omega arith)
 
--- src/lib.rt:20:16
 cast-result : tie.Need-cast-result
 cast-result c = search needs
 
--- src/lib.rt:20:9
 returns-2 : tie.Need-returns-2
 unfolding digitOf
 returns-2 c = (rw (le-ltb _ _ (c .before .if1 .left), le-leb _ _ (c .if2 .taken)), omega arith)
 
--- src/lib.rt:23:9
 returns-3 : tie.Need-returns-3
 unfolding digitOf
 returns-3 c = (rw (le-ltb _ _ (c .before .before .if1 .left), lt-leb _ _ (c .before .if2 .left), lt-ltb _ _ (c .if3 .taken)), omega arith)
 
--- src/lib.rt:26:17
 sub-result : tie.Need-sub-result
 sub-result c = search needs
 
--- src/lib.rt:26:16
 cast-result-2 : tie.Need-cast-result-2
 cast-result-2 c = search needs
 
--- src/lib.rt:26:9
 returns-4 : tie.Need-returns-4
 unfolding digitOf
 returns-4 c = (rw (le-ltb _ _ (c .before .before .before .if1 .left), lt-leb _ _ (c .before .before .if2 .left), le-ltb _ _ (c .before .if3 .left), le-leb _ _ (c .if4 .taken)), omega arith)
 
--- src/lib.rt:29:9
 returns-5 : tie.Need-returns-5
 unfolding digitOf
 returns-5 c = (rw (le-ltb _ _ (c .before .before .before .before .if1 .left), lt-leb _ _ (c .before .before .before .if2 .left), le-ltb _ _ (c .before .before .if3 .left), lt-leb _ _ (c .before .if4 .left), lt-ltb _ _ (c .if5 .taken)), omega arith)
 
--- src/lib.rt:32:17
 sub-result-2 : tie.Need-sub-result-2
 sub-result-2 c = search needs
 
--- src/lib.rt:32:16
 cast-result-3 : tie.Need-cast-result-3
 cast-result-3 c = search needs
 
--- src/lib.rt:32:9
 returns-6 : tie.Need-returns-6
 unfolding digitOf
 returns-6 c = (rw (le-ltb _ _ (c .before .before .before .before .before .if1 .left), lt-leb _ _ (c .before .before .before .before .if2 .left), le-ltb _ _ (c .before .before .before .if3 .left), lt-leb _ _ (c .before .before .if4 .left), le-ltb _ _ (c .before .if5 .left), le-leb _ _ (c .if6 .taken)), omega arith)
 
--- src/lib.rt:13:1
 returns-7 : tie.Need-returns-7
 unfolding digitOf
 returns-7 c = (rw (le-ltb _ _ (c .before .before .before .before .before .if1 .left), lt-leb _ _ (c .before .before .before .before .if2 .left), le-ltb _ _ (c .before .before .before .if3 .left), lt-leb _ _ (c .before .before .if4 .left), le-ltb _ _ (c .before .if5 .left), lt-leb _ _ (c .if6 .left)), omega arith)

@@ -18,43 +18,33 @@ Inv-loop text base value₀ i₀ value i = (i ≤ length text) × Read base text
 abbrev μ-loop : tie.MeasureT-loop
 μ-loop text base value₀ i₀ value i = length text - i
 
--- src/lib.rt:52:9
 returns : tie.Need-returns Inv-loop μ-loop
 returns c = read-none _ _ (c .if1 .taken)
 
--- src/lib.rt:56:5
 loop-holds : tie.Need-loop-holds Inv-loop μ-loop
 loop-holds c = (omega arith, read-start _ _)
 
--- src/lib.rt:57:30
 shared-slice-read-digit-of : tie.Need-shared-slice-read-digit-of Inv-loop μ-loop
 shared-slice-read-digit-of c = omega arith
 
--- src/lib.rt:57:13
 digit-of-requires : tie.Need-digit-of-requires Inv-loop μ-loop
 digit-of-requires c κs = search needs
 
--- src/lib.rt:59:13
 returns-2 : tie.Need-returns-2 Inv-loop μ-loop
 returns-2 c = let over : c .before .before .before .before .before .before .before .args .base ≤ c .before .digit-of .result = omega (arith, c .if2 .taken, c .before .before .before .before .before .before .before .pre) in read-other _ _ (c .before .before .before .before .loop .i) _ _ (omega arith) (c .before .before .before .before .loop .inv .1) (c .before .digit-of .ensures .0) over
 
--- src/lib.rt:61:9
 with-digit-requires : tie.Need-with-digit-requires Inv-loop μ-loop
 with-digit-requires c κs = (c .before .before .before .before .before .before .before .pre .0, c .before .before .before .before .before .before .before .pre .1, c .if2 .left)
 
--- src/lib.rt:62:9
 add-i : tie.Need-add-i Inv-loop μ-loop
 add-i c = omega arith
 
--- src/lib.rt:56:5
 loop-less : tie.Need-loop-less Inv-loop μ-loop
 loop-less c = omega arith
 
--- src/lib.rt:56:5
 loop-again : tie.Need-loop-again Inv-loop μ-loop
 loop-again c = (omega arith, read-turn _ _ (c .before .before .before .before .before .loop .i) _ _ _ (c .before .before .before .before .before .before .before .before .pre .0) (omega arith) (c .before .before .before .before .before .loop .inv .1) (c .before .before .digit-of .ensures .0) (c .before .if2 .left) (c .with-digit .ensures))
 
--- src/lib.rt:47:1
 returns-3 : tie.Need-returns-3 Inv-loop μ-loop
 returns-3 c = let all : c .before .loop .i ≡ length (c .before .before .before .before .args .text .now) = omega arith in let some : 0 < length (c .before .before .before .before .args .text .now) = omega (arith, c .before .before .if1 .left) in read-all _ _ _ _ some all (c .before .loop .inv .1)
 

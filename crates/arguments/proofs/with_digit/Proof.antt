@@ -7,27 +7,21 @@ use Rattle.arguments.proofs.with_digit.Tie as tie
 use Rattle.arguments.proofs.with_digit.Reads as reads
 use Rattle.arguments.proofs.with_digit.Lts as lts
 
--- src/lib.rt:41:18
 sub-if1 : tie.Need-sub-if1
 sub-if1 c = search needs
 
--- src/lib.rt:41:17
 div-if1 : tie.Need-div-if1
 div-if1 c = search needs
 
--- src/lib.rt:42:16
 mul-result : tie.Need-mul-result
 mul-result c = let fits = digit-fits _ _ _ (c .before .pre .0) (c .before .pre .2) (c .before .pre .1) (c .if1 .taken) in omega (arith, fits)
 
--- src/lib.rt:42:16
 add-result : tie.Need-add-result
 add-result c = let fits = digit-fits _ _ _ (c .before .pre .0) (c .before .pre .2) (c .before .pre .1) (c .if1 .taken) in omega (arith, fits)
 
--- src/lib.rt:42:9
 returns : tie.Need-returns
 returns c = limited-small _ (digit-fits _ _ _ (c .before .pre .0) (c .before .pre .2) (c .before .pre .1) (c .if1 .taken))
 
--- src/lib.rt:37:1
 returns-2 : tie.Need-returns-2
 returns-2 c = limited-large _ (digit-over _ _ _ (c .before .pre .0) (c .before .pre .2) (c .before .pre .1) (c .if1 .left))
 

@@ -3,7 +3,6 @@ use borrow.Author.Needs.{needs}
 use mathlib.Core.Path.{sym, _∙_}
 use Rattle.timecode.specs.declared.Refusal.the-variants.{WrongLength, InvalidReader}
 use Rattle.block.specs.Blocks.{blockAnswer, lists}
-use Rattle.block_part.specs.Rounds.{filled-long}
 use Rattle.block_feed.specs.Whole.{records-even, block-refused, block-taken}
 use Rattle.block_feed.proofs.feed_block.Statement.{statement}
 use Rattle.block_feed.proofs.feed_block.Tie as tie
@@ -30,16 +29,16 @@ taken-block-requires : tie.Need-taken-block-requires
 taken-block-requires c κs = search needs
 
 same-length : tie.Need-same-length
-same-length c = filled-long _ _ _ _ (c .before .before .before .before .before .before .before .before .before .feed-parts .ensures .1) .0
+same-length c = search needs
 
 same-length-2 : tie.Need-same-length-2
-same-length-2 c = filled-long _ _ _ _ (c .before .before .before .before .before .before .before .before .before .feed-parts .ensures .1) .1
+same-length-2 c = search needs
 
 same-length-3 : tie.Need-same-length-3
-same-length-3 c = filled-long _ _ _ _ (c .before .before .before .before .before .before .before .before .before .feed-parts .ensures .1) .2
+same-length-3 c = search needs
 
 same-length-4 : tie.Need-same-length-4
-same-length-4 c = filled-long _ _ _ _ (c .before .before .before .before .before .before .before .before .before .feed-parts .ensures .1) .3
+same-length-4 c = search needs
 
 returns : tie.Need-returns
 returns c =

@@ -10,43 +10,33 @@ use Rattle.border.proofs.put_values.Reads as put-values-reads
 use Rattle.border.proofs.words_for.Reads as words-for-reads
 use Rattle.refusals.proofs.number_of.Reads as number-of-reads
 
--- src/lib.rt:287:23
 enum-told : tie.Need-enum-told
 enum-told c = search needs
 
--- src/lib.rt:287:23
 words-for-requires : tie.Need-words-for-requires
 words-for-requires c κs = search needs
 
--- src/lib.rt:291:24
 enum-known-answer : tie.Need-enum-known-answer
 enum-known-answer c = search needs
 
--- src/lib.rt:292:23
 words-for-requires-2 : tie.Need-words-for-requires-2
 words-for-requires-2 c κs = search needs
 
--- src/lib.rt:294:13
 put-values-requires : tie.Need-put-values-requires
 put-values-requires c κs = search needs
 
--- src/lib.rt:297:25
 enum-known-answer-2 : tie.Need-enum-known-answer-2
 enum-known-answer-2 c = search needs
 
--- src/lib.rt:297:37
 number-of-requires : tie.Need-number-of-requires
 number-of-requires c κs = search needs
 
--- src/lib.rt:271:1
 returns : tie.Need-returns
 returns c = rw (c .before .enum-told .given .1) (refl, (c .words-for .ensures, (refl, refl)))
 
--- src/lib.rt:271:1
 returns-2 : tie.Need-returns-2
 returns-2 c = rw (c .before .before .before .before .before .before .answer .given .1, c .put-values .ensures .0, c .put-values .ensures .1 .0, c .put-values .ensures .1 .1) (refl, (c .before .before .before .before .words-for2 .ensures, (refl, refl)))
 
--- src/lib.rt:271:1
 returns-3 : tie.Need-returns-3
 returns-3 c = rw (c .before .before .answer2 .given .1, refusal-numbered _) (c .number-of .ensures, (refl, (refl, refl)))
 

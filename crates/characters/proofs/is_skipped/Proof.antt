@@ -6,17 +6,14 @@ use Rattle.characters.proofs.is_skipped.Tie as tie
 use Rattle.characters.proofs.is_skipped.Reads as reads
 use Rattle.characters.proofs.is_skipped.Lts as lts
 
--- src/lib.rt:76:9
 returns : tie.Need-returns
 unfolding isSkipped
 returns c = rw (eq-eqb _ _ (c .if1 .taken))
 
--- src/lib.rt:79:9
 returns-2 : tie.Need-returns-2
 unfolding isSkipped
 returns-2 c = rw (ne-eqb _ _ (c .before .if1 .left), eq-eqb _ _ (c .if2 .taken))
 
--- src/lib.rt:72:1
 returns-3 : tie.Need-returns-3
 unfolding isSkipped
 returns-3 c = rw (ne-eqb _ _ (c .before .if1 .left), ne-eqb _ _ (c .if2 .left))

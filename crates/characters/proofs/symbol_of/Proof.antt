@@ -6,19 +6,15 @@ use Rattle.characters.proofs.symbol_of.Tie as tie
 use Rattle.characters.proofs.symbol_of.Reads as reads
 use Rattle.characters.proofs.symbol_of.Lts as lts
 
--- src/lib.rt:99:9
 returns : tie.Need-returns
 returns c = digit-symbol _ (c .if1 .taken)
 
--- src/lib.rt:102:9
 returns-2 : tie.Need-returns-2
 returns-2 c = rw (other-symbol _ (c .before .if1 .left), eq-eqb _ _ (c .if2 .taken))
 
--- src/lib.rt:105:9
 returns-3 : tie.Need-returns-3
 returns-3 c = rw (other-symbol _ (c .before .before .if1 .left), ne-eqb _ _ (c .before .if2 .left), eq-eqb _ _ (c .if3 .taken))
 
--- src/lib.rt:95:1
 returns-4 : tie.Need-returns-4
 returns-4 c = rw (other-symbol _ (c .before .before .if1 .left), ne-eqb _ _ (c .before .if2 .left), ne-eqb _ _ (c .if3 .left))
 

@@ -6,15 +6,12 @@ use Rattle.characters.proofs.symbols_in.Reads as reads
 use Rattle.characters.proofs.symbols_in.Lts as lts
 use Rattle.characters.proofs.is_skipped.Reads as is-skipped-reads
 
--- src/lib.rt:130:8
 is-skipped-requires : tie.Need-is-skipped-requires
 is-skipped-requires c κs = search needs
 
--- src/lib.rt:131:9
 returns : tie.Need-returns
 returns c = rw (← c .before .is-skipped .ensures, c .if1 .taken)
 
--- src/lib.rt:127:1
 returns-2 : tie.Need-returns-2
 returns-2 c = rw (← c .before .is-skipped .ensures, c .if1 .left)
 

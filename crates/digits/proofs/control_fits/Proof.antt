@@ -4,8 +4,7 @@ use mathlib.Core.Path.{_≡_, refl, sym, ap, _∙_}
 use Prim.Native.Nat.{ℕ, _+_, _^_}
 use lib.Dec.{ltb}
 use Rattle.digits.specs.Splitting.{fits-shift, total-control}
-use Rattle.timecode.specs.Frames.{controlFits}
-use Rattle.timecode.specs.Frames.{totalWidth}
+use Rattle.timecode.specs.Frames.{controlFits, totalWidth}
 use Rattle.timecode.specs.Layout.{control}
 use Rattle.digits.proofs.control_fits.Statement.{statement}
 use Rattle.digits.proofs.control_fits.Tie as tie

@@ -6,22 +6,18 @@ use Rattle.frametext.proofs.character_of.Tie as tie
 use Rattle.frametext.proofs.character_of.Reads as reads
 use Rattle.frametext.proofs.character_of.Lts as lts
 
--- src/lib.rt:29:9
 returns : tie.Need-returns
 unfolding characterOf
 returns c = rw (eq-eqb _ _ (c .if1 .taken))
 
--- src/lib.rt:32:9
 returns-2 : tie.Need-returns-2
 unfolding characterOf
 returns-2 c = rw (ne-eqb _ _ (c .before .if1 .left), eq-eqb _ _ (c .if2 .taken))
 
--- src/lib.rt:35:9
 returns-3 : tie.Need-returns-3
 unfolding characterOf
 returns-3 c = rw (ne-eqb _ _ (c .before .before .if1 .left), ne-eqb _ _ (c .before .if2 .left), eq-eqb _ _ (c .if3 .taken))
 
--- src/lib.rt:25:1
 returns-4 : tie.Need-returns-4
 unfolding characterOf
 returns-4 c = rw (ne-eqb _ _ (c .before .before .if1 .left), ne-eqb _ _ (c .before .if2 .left), ne-eqb _ _ (c .if3 .left))

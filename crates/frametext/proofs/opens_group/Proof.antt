@@ -6,12 +6,10 @@ use Rattle.frametext.proofs.opens_group.Tie as tie
 use Rattle.frametext.proofs.opens_group.Reads as reads
 use Rattle.frametext.proofs.opens_group.Lts as lts
 
--- src/lib.rt:44:9
 returns : tie.Need-returns
 unfolding opensGroup
 returns c = rw (lt-ltb _ _ (c .if1 .taken))
 
--- src/lib.rt:40:1
 returns-2 : tie.Need-returns-2
 unfolding opensGroup
 returns-2 c = rw (le-ltb _ _ (c .if1 .left))

@@ -13,41 +13,32 @@ use Rattle.frametext.proofs.character_of.Reads as character-of-reads
 use Rattle.frametext.proofs.opens_group.Reads as opens-group-reads
 use Rattle.lines.proofs.put.Reads as put-reads
 
--- src/lib.rt:53:9
 character-of-requires : tie.Need-character-of-requires
 character-of-requires c κs = search needs
 
--- src/lib.rt:54:8
 opens-group-requires : tie.Need-opens-group-requires
 opens-group-requires c κs = search needs
 
--- src/lib.rt:55:13
 put-requires : tie.Need-put-requires
 put-requires c κs = search needs
 
--- src/lib.rt:56:9
 put-requires-2 : tie.Need-put-requires-2
 put-requires-2 c κs = search needs
 
--- src/lib.rt:56:9
 same-length : tie.Need-same-length
 same-length c = search needs
 
--- src/lib.rt:56:9
 returns : tie.Need-returns
 returns c =
     let y = sym (c .before .before .before .before .before .before .before .before .before .opens-group .ensures) ∙ c .before .before .before .before .before .before .before .before .if1 .taken in
     (omega (arith, c .before .before .before .before .before .before .put .ensures .0, c .before .before .put2 .ensures .0), c .before .before .put2 .ensures .1 ∙ c .before .before .before .before .before .before .put .ensures .1, rw (← element-spaced _ _ y, ← c .before .before .before .before .before .before .before .before .before .before .character-of .ensures) (c .before .before .put2 .ensures .2 ∙ rw (c .before .before .before .before .before .before .put .ensures .2) (append-assoc (take (c .before .before .before .before .before .before .before .before .before .before .before .before .args .at) (c .before .before .before .before .before .before .before .before .before .before .before .before .args .line .now)) (32 ∷ []) (c .before .before .before .before .before .before .before .before .before .before .character-of .result ∷ []))))
 
--- src/lib.rt:58:5
 put-requires-3 : tie.Need-put-requires-3
 put-requires-3 c κs = search needs
 
--- src/lib.rt:49:1
 same-length-2 : tie.Need-same-length-2
 same-length-2 c = search needs
 
--- src/lib.rt:49:1
 returns-2 : tie.Need-returns-2
 returns-2 c =
     let n = sym (c .before .before .before .before .before .opens-group .ensures) ∙ c .before .before .before .before .if1 .left in

@@ -19,39 +19,30 @@ Inv-loop line₀ frame end₀ i₀ line end i = (i ≤ length frame) × (end ≤
 abbrev μ-loop : tie.MeasureT-loop
 μ-loop line₀ frame end₀ i₀ line end i = length frame - i
 
--- src/lib.rt:68:5
 loop-holds : tie.Need-loop-holds Inv-loop μ-loop
 loop-holds c = (omega arith, omega arith, c .before .before .pre .0, refl)
 
--- src/lib.rt:69:41
 shared-slice-read-put-element : tie.Need-shared-slice-read-put-element Inv-loop μ-loop
 shared-slice-read-put-element c = omega arith
 
--- src/lib.rt:69:9
 put-element-requires : tie.Need-put-element-requires Inv-loop μ-loop
 put-element-requires c κs = omega (arith, c .before .before .before .loop .inv .1, c .before .before .before .loop .inv .2, c .before .before .before .before .before .before .pre)
 
--- src/lib.rt:70:9
 add-i : tie.Need-add-i Inv-loop μ-loop
 add-i c = omega arith
 
--- src/lib.rt:68:5
 loop-less : tie.Need-loop-less Inv-loop μ-loop
 loop-less c = omega arith
 
--- src/lib.rt:68:5
 loop-again : tie.Need-loop-again Inv-loop μ-loop
 loop-again c = (omega arith, omega (arith, c .before .before .put-element .ensures .0, c .before .before .before .before .before .before .loop .inv .1), c .before .before .put-element .ensures .1 ∙ c .before .before .before .before .before .before .loop .inv .2, frame-turn (take (c .before .before .before .before .before .before .loop .end) (c .before .before .before .before .before .before .loop .line)) _ (c .before .before .before .before .before .before .before .before .before .args .frame .now) _ (c .before .before .before .before .before .before .loop .i) (omega arith) (c .before .before .before .before .before .before .loop .inv .3) (c .before .before .put-element .ensures .2))
 
--- src/lib.rt:72:5
 put-requires : tie.Need-put-requires Inv-loop μ-loop
 put-requires c κs = omega (arith, c .before .before .loop .inv .1, c .before .before .loop .inv .2, c .before .before .before .before .before .pre)
 
--- src/lib.rt:62:1
 same-length : tie.Need-same-length Inv-loop μ-loop
 same-length c = c .before .before .put .ensures .1 ∙ c .before .before .before .before .before .loop .inv .2 ∙ sym (c .before .before .before .before .before .before .before .before .pre .0)
 
--- src/lib.rt:62:1
 returns : tie.Need-returns Inv-loop μ-loop
 returns c = let all : c .before .before .before .before .before .loop .i ≡ length (c .before .before .before .before .before .before .before .before .args .frame .now) = omega arith in (omega (arith, c .before .before .put .ensures .0, c .before .before .before .before .before .loop .inv .1, c .before .before .before .before .before .before .before .before .pre), c .before .before .put .ensures .1 ∙ c .before .before .before .before .before .loop .inv .2, c .before .before .put .ensures .2 ∙ frame-done (take (c .before .before .before .before .before .loop .end) (c .before .before .before .before .before .loop .line)) (c .before .before .before .before .before .before .before .before .args .frame .now) _ (c .before .before .before .before .before .loop .i) all (c .before .before .before .before .before .loop .inv .3))
 

@@ -12,50 +12,39 @@ use Rattle.frametext.proofs.put_frame.Reads as put-frame-reads
 use Rattle.frametext.proofs.write_part.Reads as write-part-reads
 use Rattle.layout.proofs.frame_size.Reads as frame-size-reads
 
--- src/lib.rt:87:9
 frame-size-requires : tie.Need-frame-size-requires
 frame-size-requires c κs = search needs
 
--- src/lib.rt:89:52
 slice-aggregate-write-part : tie.Need-slice-aggregate-write-part
 slice-aggregate-write-part c = search needs
 
--- src/lib.rt:89:9
 write-part-requires : tie.Need-write-part-requires
 write-part-requires c κs = search needs
 
--- src/lib.rt:91:48
 enum-told : tie.Need-enum-told
 enum-told c = search needs
 
--- src/lib.rt:91:54
 array-share-prefix-frame : tie.Need-array-share-prefix-frame
 array-share-prefix-frame c = search needs
 
--- src/lib.rt:91:54
 slice-aggregate-put-frame : tie.Need-slice-aggregate-put-frame
 slice-aggregate-put-frame c = sym (length-take-le (c .before .before .before .before .before .before .before .frame-size .result) (c .before .before .before .before .before .write-part .last .1 .1 .1 .0) (omega (arith, c .before .before .before .before .before .before .before .frame-size .ensures .2, c .before .before .before .before .before .write-part .ensures .1)))
 
--- src/lib.rt:91:38
 put-frame-requires : tie.Need-put-frame-requires
 put-frame-requires c κs = (c .before .before .before .before .before .before .before .before .before .pre, omega (arith, length-take-le (c .before .before .before .before .before .before .before .frame-size .result) (c .before .before .before .before .before .write-part .last .1 .1 .1 .0) (omega (arith, c .before .before .before .before .before .before .before .frame-size .ensures .2, c .before .before .before .before .before .write-part .ensures .1)), c .before .before .before .before .before .before .before .frame-size .ensures .2))
 
--- src/lib.rt:92:26
 enum-known-answer : tie.Need-enum-known-answer
 enum-known-answer c = search needs
 
--- src/lib.rt:83:1
 same-length : tie.Need-same-length
 same-length c = search needs
 
--- src/lib.rt:83:1
 returns : tie.Need-returns
 returns c =
     let told = c .before .before .before .before .before .enum-told .given .1 in
     let text = c .before .before .put-frame .ensures .2 ∙ line-text _ _ _ _ (c .before .before .before .before .before .before .before .before .write-part .ensures .2 told) in
     (line-done _ _ _ _ _ (sym (c .before .before .before .before .before .before .before .before .write-part .ensures .0) ∙ told) (omega (arith, c .before .before .put-frame .ensures .0, c .before .before .put-frame .ensures .1)) text, c .before .before .put-frame .ensures .1, (c .before .before .put-frame .ensures .0, text))
 
--- src/lib.rt:83:1
 returns-2 : tie.Need-returns-2
 returns-2 c = (line-refused _ _ _ _ (sym (c .before .before .before .before .write-part .ensures .0) ∙ c .before .answer .given .1), c .before .before .before .before .before .before .before .before .pre, refl)
 

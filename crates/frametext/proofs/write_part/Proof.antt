@@ -12,23 +12,18 @@ use Rattle.frametext.proofs.write_part.Reads as reads
 use Rattle.frametext.proofs.write_part.Lts as lts
 use Rattle.frame.proofs.write.Reads as write-reads
 
--- src/lib.rt:80:34
 slice-relend-prefix-write : tie.Need-slice-relend-prefix-write
 slice-relend-prefix-write c = search needs
 
--- src/lib.rt:80:34
 slice-aggregate-write : tie.Need-slice-aggregate-write
 slice-aggregate-write c = sym (length-take-le (c .before .before .args .n) (c .before .before .args .lent .now) (omega (arith, c .before .before .pre)))
 
--- src/lib.rt:80:5
 write-requires : tie.Need-write-requires
 write-requires c κs = search needs
 
--- src/lib.rt:76:1
 same-length : tie.Need-same-length
 same-length c = search needs
 
--- src/lib.rt:76:1
 returns : tie.Need-returns
 returns c =
     let room : c .before .before .before .before .before .args .n ≤ length (c .before .before .before .before .before .args .lent .now) = omega (arith, c .before .before .before .before .before .pre) in

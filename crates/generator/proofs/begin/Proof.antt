@@ -14,31 +14,24 @@ use Rattle.clock.proofs.step.Reads as step-reads
 use Rattle.frametext.proofs.frame_line.Reads as frame-line-reads
 use Rattle.generator.proofs.check_step.Reads as check-step-reads
 
--- src/lib.rt:45:9
 frame-line-requires : tie.Need-frame-line-requires
 frame-line-requires c κs = search needs
 
--- src/lib.rt:47:38
 enum-told : tie.Need-enum-told
 enum-told c = search needs
 
--- src/lib.rt:47:38
 step-requires : tie.Need-step-requires
 step-requires c κs = search needs
 
--- src/lib.rt:47:27
 check-step-requires : tie.Need-check-step-requires
 check-step-requires c κs = search needs
 
--- src/lib.rt:48:24
 enum-known-lined : tie.Need-enum-known-lined
 enum-known-lined c = search needs
 
--- src/lib.rt:41:1
 returns : tie.Need-returns
 returns c = c .check-step .ensures ∙ ap (λ (s : Stepped). begun Done s) (c .before .step .ensures) ∙ begun-step _ _ _ _ (taken-is _ _ _ _ (c .before .before .before .before .frame-line .ensures .0) ∙ ap (λ (a : Lined). answerOf a) (c .before .before .enum-told .given .1))
 
--- src/lib.rt:41:1
 returns-2 : tie.Need-returns-2
 returns-2 c = begun-refused _ _ _ _ _ (taken-is _ _ _ _ (c .before .before .before .frame-line .ensures .0) ∙ ap (λ (a : Lined). answerOf a) (c .before .lined .given .1))
 

@@ -9,19 +9,15 @@ use Rattle.generator.proofs.check_step.Tie as tie
 use Rattle.generator.proofs.check_step.Reads as reads
 use Rattle.generator.proofs.check_step.Lts as lts
 
--- src/lib.rt:35:29
 enum-told : tie.Need-enum-told
 enum-told c = search needs
 
--- src/lib.rt:36:26
 enum-known-stepped : tie.Need-enum-known-stepped
 enum-known-stepped c = search needs
 
--- src/lib.rt:31:1
 returns : tie.Need-returns
 returns c = search needs
 
--- src/lib.rt:31:1
 returns-2 : tie.Need-returns-2
 returns-2 c = sym (ap (λ (s : Stepped). begun Done s) (c .before .stepped .given .1))
 

@@ -19,35 +19,27 @@ Inv-loop out₀ format control year frames next₀ left₀ filled₀ out next le
 abbrev μ-loop : tie.MeasureT-loop
 μ-loop out₀ format control year frames next₀ left₀ filled₀ out next left filled = left
 
--- src/lib.rt:103:5
 loop-holds : tie.Need-loop-holds Inv-loop μ-loop
 loop-holds c = (omega arith, omega arith, put-start _ _ _ _ _ _, λ h. refl)
 
--- src/lib.rt:104:9
 put-next-requires : tie.Need-put-next-requires Inv-loop μ-loop
 put-next-requires c κs = let room : c .before .before .before .loop .filled ≤ 65280 = le-trans (leb-true _ _ (c .before .if1 .taken)) (omega arith) in omega (arith, room)
 
--- src/lib.rt:105:9
 next-start-requires : tie.Need-next-start-requires Inv-loop μ-loop
 next-start-requires c κs = search needs
 
--- src/lib.rt:106:9
 sub-left : tie.Need-sub-left Inv-loop μ-loop
 sub-left c = omega arith
 
--- src/lib.rt:103:5
 loop-less : tie.Need-loop-less Inv-loop μ-loop
 loop-less c = omega arith
 
--- src/lib.rt:103:5
 loop-again : tie.Need-loop-again Inv-loop μ-loop
 loop-again c = (omega arith, c .before .put-next .ensures .0, put-turn _ _ _ _ _ _ _ _ _ _ _ _ (omega arith) (c .before .before .before .before .before .loop .inv .0) (c .before .before .before .before .before .loop .inv .2) (c .before .put-next .ensures .1) (c .next-start .ensures), λ h. let n : ⊥ = omega arith in absurd n)
 
--- src/lib.rt:90:1
 returns : tie.Need-returns Inv-loop μ-loop
 returns c = (c .before .before .loop .inv .1, c .before .before .loop .inv .0, c .before .before .loop .inv .2 .reached, c .before .before .loop .inv .2 .put, λ h. some-put _ _ _ _ (c .before .before .loop .inv .0) (c .before .before .loop .inv .3) (leb-false _ _ (c .if1 .left)), λ h. let n : ⊥ = omega (arith, leb-false (c .before .before .loop .filled) 65280 (c .if1 .left)) in absurd n)
 
--- src/lib.rt:90:1
 returns-2 : tie.Need-returns-2 Inv-loop μ-loop
 returns-2 c = (c .before .loop .inv .1, c .before .loop .inv .0, c .before .loop .inv .2 .reached, c .before .loop .inv .2 .put, λ h. omega arith, λ h. omega arith)
 

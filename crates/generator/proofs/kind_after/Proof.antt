@@ -6,12 +6,10 @@ use Rattle.generator.proofs.kind_after.Tie as tie
 use Rattle.generator.proofs.kind_after.Reads as reads
 use Rattle.generator.proofs.kind_after.Lts as lts
 
--- src/lib.rt:57:9
 returns : tie.Need-returns
 unfolding kindAfter
 returns c = rw (eq-eqb _ _ (c .if1 .taken))
 
--- src/lib.rt:53:1
 returns-2 : tie.Need-returns-2
 unfolding kindAfter
 returns-2 c = rw (ne-eqb _ _ (c .if1 .left))

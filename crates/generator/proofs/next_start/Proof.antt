@@ -8,28 +8,22 @@ use Rattle.generator.proofs.next_start.Lts as lts
 use Rattle.clock.proofs.step.Reads as step-reads
 use Rattle.generator.proofs.kind_after.Reads as kind-after-reads
 
--- src/lib.rt:67:9
 step-requires : tie.Need-step-requires
 step-requires c κs = search needs
 
--- src/lib.rt:69:23
 enum-known-stepped : tie.Need-enum-known-stepped
 enum-known-stepped c = search needs
 
--- src/lib.rt:71:19
 kind-after-requires : tie.Need-kind-after-requires
 kind-after-requires c κs = search needs
 
--- src/lib.rt:73:32
 enum-told : tie.Need-enum-told
 enum-told c = search needs
 
--- src/lib.rt:63:1
 returns : tie.Need-returns
 unfolding nextStart
 returns c = rw (← c .before .before .before .before .step .ensures, c .before .before .stepped .given .1, c .kind-after .ensures)
 
--- src/lib.rt:63:1
 returns-2 : tie.Need-returns-2
 unfolding nextStart
 returns-2 c = rw (← c .before .before .step .ensures, c .enum-told .given .1)

@@ -12,35 +12,27 @@ use Rattle.generator.proofs.put_next.Lts as lts
 use Rattle.frametext.proofs.frame_line.Reads as frame-line-reads
 use Rattle.lines.proofs.put_text.Reads as put-text-reads
 
--- src/lib.rt:82:9
 frame-line-requires : tie.Need-frame-line-requires
 frame-line-requires c κs = search needs
 
--- src/lib.rt:84:21
 enum-known-lined : tie.Need-enum-known-lined
 enum-known-lined c = search needs
 
--- src/lib.rt:84:45
 array-share-prefix-line : tie.Need-array-share-prefix-line
 array-share-prefix-line c = let line = rw (c .before .before .lined .given .1) at (c .before .before .before .before .frame-line .ensures .2) in omega (arith, line .0, c .before .before .before .before .frame-line .ensures .1)
 
--- src/lib.rt:84:45
 slice-aggregate-put-text : tie.Need-slice-aggregate-put-text
 slice-aggregate-put-text c = let line = rw (c .before .before .before .lined .given .1) at (c .before .before .before .before .before .frame-line .ensures .2) in sym (part-length _ _ (line .0) (c .before .before .before .before .before .frame-line .ensures .1))
 
--- src/lib.rt:84:27
 put-text-requires : tie.Need-put-text-requires
 put-text-requires c κs = let line = rw (c .before .before .before .lined .given .1) at (c .before .before .before .before .before .frame-line .ensures .2) in omega (arith, line .0, c .before .before .before .before .before .frame-line .ensures .1, part-length _ (c .before .before .before .before .before .frame-line .last .1 .1 .1 .0) (line .0) (c .before .before .before .before .before .frame-line .ensures .1))
 
--- src/lib.rt:85:30
 enum-told : tie.Need-enum-told
 enum-told c = search needs
 
--- src/lib.rt:77:1
 returns : tie.Need-returns
 returns c = let line = rw (c .before .before .before .before .lined .given .1) at (c .before .before .before .before .before .before .frame-line .ensures .2) in (omega (arith, c .put-text .ensures .0, line .0, c .before .before .before .before .before .before .before .before .pre, part-length _ (c .before .before .before .before .before .before .frame-line .last .1 .1 .1 .0) (line .0) (c .before .before .before .before .before .before .frame-line .ensures .1)), rw (← line-put _ _ _ (taken-is _ _ _ _ (c .before .before .before .before .before .before .frame-line .ensures .0) ∙ ap (λ (a : Lined). answerOf a) (c .before .before .before .before .lined .given .1)), ← line .1) (c .put-text .ensures .2))
 
--- src/lib.rt:77:1
 returns-2 : tie.Need-returns-2
 returns-2 c = (omega (arith, c .before .before .before .before .pre), rw (← line-none _ _ _ _ (taken-is _ _ _ _ (c .before .before .frame-line .ensures .0) ∙ ap (λ (a : Lined). answerOf a) (c .enum-told .given .1))) (sym (append-nil _)))
 

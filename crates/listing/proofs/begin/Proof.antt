@@ -11,46 +11,36 @@ use Rattle.listing.proofs.begin.Reads as reads
 use Rattle.listing.proofs.begin.Lts as lts
 use Rattle.stream.proofs.Reader.fresh.Reads as fresh-reads
 
--- src/lib.rt:49:12
 shared-slice-read-if2 : tie.Need-shared-slice-read-if2
 shared-slice-read-if2 c = search needs
 
--- src/lib.rt:50:24
 shared-slice-read-if3 : tie.Need-shared-slice-read-if3
 shared-slice-read-if3 c = search needs
 
--- src/lib.rt:52:29
 shared-slice-read-t11 : tie.Need-shared-slice-read-t11
 shared-slice-read-t11 c = search needs
 
--- src/lib.rt:53:33
 shared-slice-read-t13 : tie.Need-shared-slice-read-t13
 shared-slice-read-t13 c = search needs
 
--- src/lib.rt:53:33
 sub-t14 : tie.Need-sub-t14
 sub-t14 c = search needs
 
--- src/lib.rt:51:17
 fresh-requires : tie.Need-fresh-requires
 fresh-requires c κs = search needs
 
--- src/lib.rt:51:17
 returns : tie.Need-returns
 unfolding begunOf isFirstLine madeOf
 returns c = c .fresh .ensures ∙ rw (le-leb _ _ (c .before .before .before .before .before .before .before .if1 .taken), eq-eqb _ _ (c .before .before .before .before .before .if2 .taken), le-leb _ _ (c .before .before .before .if3 .taken))
 
--- src/lib.rt:45:1
 returns-2 : tie.Need-returns-2
 unfolding begunOf isFirstLine
 returns-2 c = rw (le-leb _ _ (c .before .before .before .before .if1 .taken), eq-eqb _ _ (c .before .before .if2 .taken), lt-leb _ _ (c .if3 .left))
 
--- src/lib.rt:45:1
 returns-3 : tie.Need-returns-3
 unfolding begunOf isFirstLine
 returns-3 c = rw (le-leb _ _ (c .before .before .if1 .taken), ne-eqb _ _ (c .if2 .left))
 
--- src/lib.rt:45:1
 returns-4 : tie.Need-returns-4
 unfolding begunOf isFirstLine
 returns-4 c = rw (lt-leb _ _ (c .if1 .left))

@@ -8,20 +8,16 @@ use Rattle.listing.proofs.end.Reads as reads
 use Rattle.listing.proofs.end.Lts as lts
 use Rattle.listing.proofs.put_counts.Reads as put-counts-reads
 
--- src/lib.rt:263:9
 returns : tie.Need-returns
 unfolding endingOf
 returns c = (c .before .before .pre, omega arith, rw (c .if1 .taken))
 
--- src/lib.rt:265:5
 put-counts-requires : tie.Need-put-counts-requires
 put-counts-requires c κs = search needs
 
--- src/lib.rt:258:1
 same-length : tie.Need-same-length
 same-length c = search needs
 
--- src/lib.rt:258:1
 returns-2 : tie.Need-returns-2
 unfolding endingOf
 returns-2 c = (c .before .before .put-counts .ensures .0, c .before .before .put-counts .ensures .1, rw (c .before .before .before .before .if1 .left) (c .before .before .put-counts .ensures .2))

@@ -1,9 +1,8 @@
 -- `fill` meets its contract: the lines of the bytes taken stand in the first places.
-use borrow.Author.Needs.{needs}
 use native.Mathlib.Omega.{arith}
 use borrow.Author.Tests.{leb-true, leb-false}
 use mathlib.Core.Path.{_≡_, refl}
-use Prim.Native.Nat.{_+_, _-_, _≤_}
+use Prim.Native.Nat.{_-_, _≤_}
 use lib.ListN.{length}
 use Rattle.search.specs.Ends.{length-part}
 use Rattle.listing.specs.Parts.{Told, told-start, told-turn, some-taken}

@@ -22,51 +22,39 @@ Inv-loop bytes out₀ current₀ taken₀ out current taken = (taken ≤ length 
 abbrev μ-loop : tie.MeasureT-loop
 μ-loop bytes out₀ current₀ taken₀ out current taken = length bytes - taken
 
--- src/lib.rt:55:5
 loop-holds : tie.Need-loop-holds Inv-loop μ-loop
 loop-holds c = (omega arith, reached-start (c .before .args .progress) (c .before .args .bytes .now))
 
--- src/lib.rt:56:36
 sub-list : tie.Need-sub-list Inv-loop μ-loop
 sub-list c = omega arith
 
--- src/lib.rt:56:36
 part-list-start : tie.Need-part-list-start Inv-loop μ-loop
 part-list-start c = omega arith
 
--- src/lib.rt:56:36
 part-list-end : tie.Need-part-list-end Inv-loop μ-loop
 part-list-end c = omega arith
 
--- src/lib.rt:56:13
 list-requires : tie.Need-list-requires Inv-loop μ-loop
 list-requires c κs = search needs
 
--- src/lib.rt:58:9
 add-taken : tie.Need-add-taken Inv-loop μ-loop
 add-taken c = let part : length (restOf (c .before .before .before .before .before .before .before .before .args .bytes .now) (c .before .before .before .before .before .before .loop .taken)) ≡ length (c .before .before .before .before .before .before .before .before .args .bytes .now) - c .before .before .before .before .before .before .loop .taken = length-rest (c .before .before .before .before .before .before .before .before .args .bytes .now) (c .before .before .before .before .before .before .loop .taken) in omega (arith, c .before .before .list .ensures .3)
 
--- src/lib.rt:59:12
 write-first-requires : tie.Need-write-first-requires Inv-loop μ-loop
 write-first-requires c κs = search needs
 
--- src/lib.rt:55:5
 loop-less : tie.Need-loop-less Inv-loop μ-loop
 loop-less c = let part : length (restOf (c .before .before .before .before .before .before .before .before .before .before .before .args .bytes .now) (c .before .before .before .before .before .before .before .before .before .loop .taken)) ≡ length (c .before .before .before .before .before .before .before .before .before .before .before .args .bytes .now) - c .before .before .before .before .before .before .before .before .before .loop .taken = length-rest (c .before .before .before .before .before .before .before .before .before .before .before .args .bytes .now) (c .before .before .before .before .before .before .before .before .before .loop .taken) in omega (arith, c .before .before .before .before .before .list .ensures .3, c .before .before .before .before .before .list .ensures .6 (omega arith))
 
--- src/lib.rt:55:5
 loop-again : tie.Need-loop-again Inv-loop μ-loop
 loop-again c = let part : length (restOf (c .before .before .before .before .before .before .before .before .before .before .before .args .bytes .now) (c .before .before .before .before .before .before .before .before .before .loop .taken)) ≡ length (c .before .before .before .before .before .before .before .before .before .before .before .args .bytes .now) - c .before .before .before .before .before .before .before .before .before .loop .taken = length-rest (c .before .before .before .before .before .before .before .before .before .before .before .args .bytes .now) (c .before .before .before .before .before .before .before .before .before .loop .taken) in (omega (arith, c .before .before .before .before .before .list .ensures .3), reached-turn (c .before .before .before .before .before .before .before .before .before .before .before .args .progress) (c .before .before .before .before .before .before .before .before .before .loop .current) _ (c .before .before .before .before .before .before .before .before .before .before .before .args .bytes .now) (c .before .before .before .before .before .before .before .before .before .loop .taken) (c .before .before .before .before .before .list .result .taken) (c .before .before .before .before .before .before .before .before .before .loop .inv .1) (c .before .before .before .before .before .list .ensures .1))
 
--- src/lib.rt:62:9
 stop-requires : tie.Need-stop-requires Inv-loop μ-loop
 stop-requires c κs = search needs
 
--- src/lib.rt:62:9
 returns : tie.Need-returns Inv-loop μ-loop
 returns c = λ h. absurd (false≢true (sym (c .stop .ensures .0) ∙ h))
 
--- src/lib.rt:50:1
 returns-2 : tie.Need-returns-2 Inv-loop μ-loop
 returns-2 c = λ h. reached-all (c .before .before .before .before .args .progress) (c .before .before .loop .current) (c .before .before .before .before .args .bytes .now) (c .before .before .loop .taken) (omega arith) (c .before .before .loop .inv .1)
 

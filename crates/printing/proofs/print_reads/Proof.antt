@@ -13,35 +13,27 @@ Inv-loop fd out₀ progress₀ more₀ left₀ out progress more left = Unit {0}
 abbrev μ-loop : tie.MeasureT-loop
 μ-loop fd out₀ progress₀ more₀ left₀ out progress more left = left
 
--- src/lib.rt:89:9
 start-requires : tie.Need-start-requires Inv-loop μ-loop
 start-requires c κs = search needs
 
--- src/lib.rt:92:5
 loop-holds : tie.Need-loop-holds Inv-loop μ-loop
 loop-holds c = search needs
 
--- src/lib.rt:93:13
 print-read-requires : tie.Need-print-read-requires Inv-loop μ-loop
 print-read-requires c κs = search needs
 
--- src/lib.rt:96:9
 sub-left : tie.Need-sub-left Inv-loop μ-loop
 sub-left c = search needs
 
--- src/lib.rt:92:5
 loop-less : tie.Need-loop-less Inv-loop μ-loop
 loop-less c = search needs
 
--- src/lib.rt:92:5
 loop-again : tie.Need-loop-again Inv-loop μ-loop
 loop-again c = search needs
 
--- src/lib.rt:88:1
 returns : tie.Need-returns Inv-loop μ-loop
 returns c = search needs
 
--- src/lib.rt:88:1
 returns-2 : tie.Need-returns-2 Inv-loop μ-loop
 returns-2 c = search needs
 

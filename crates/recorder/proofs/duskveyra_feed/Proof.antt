@@ -13,32 +13,25 @@ use Rattle.border.proofs.reader_in.Reads as reader-in-reads
 use Rattle.stream.proofs.answer_to.Reads as answer-to-reads
 use Rattle.stream.proofs.next_reader.Reads as next-reader-reads
 
--- src/lib.rt:338:13
 reader-in-requires : tie.Need-reader-in-requires
 reader-in-requires c κs = search needs
 
--- src/lib.rt:339:13
 answer-to-requires : tie.Need-answer-to-requires
 answer-to-requires c κs = search needs
 
--- src/lib.rt:340:13
 next-reader-requires : tie.Need-next-reader-requires
 next-reader-requires c κs = search needs
 
--- src/lib.rt:341:9
 put-fed-requires : tie.Need-put-fed-requires
 put-fed-requires c κs = search needs
 
--- src/lib.rt:341:9
 returns : tie.Need-returns
 unfolding feedOf
 returns c = rw (← c .before .before .before .before .before .before .before .before .reader-in .ensures, ← c .before .before .before .before .before .before .next-reader .ensures, ← c .before .before .before .before .before .before .before .answer-to .ensures) (c .put-fed .ensures)
 
--- src/lib.rt:343:5
 feed-other-requires : tie.Need-feed-other-requires
 feed-other-requires c κs = c .before .before .if1 .left
 
--- src/lib.rt:323:1
 returns-2 : tie.Need-returns-2
 returns-2 c = (c .feed-other .ensures .0, (c .feed-other .ensures .1 .0, (c .feed-other .ensures .1 .1 .0, no-values-left (fedSaid (feedWords (c .before .before .before .before .args .reader .now) (c .before .before .before .before .args .symbol))) _ (c .feed-other .ensures .1 .1 .1))))
 

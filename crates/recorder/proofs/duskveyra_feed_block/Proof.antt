@@ -1,6 +1,5 @@
 -- `duskveyra_feed_block` meets its contract: one block of the reader that the words are.
 use borrow.Author.Needs.{needs}
-use mathlib.Core.Path.{refl}
 use Rattle.recorder.proofs.duskveyra_feed_block.Statement.{statement}
 use Rattle.recorder.proofs.duskveyra_feed_block.Tie as tie
 use Rattle.recorder.proofs.duskveyra_feed_block.Reads as reads

@@ -13,23 +13,18 @@ use Rattle.border.proofs.words_for.Reads as words-for-reads
 use Rattle.stream.proofs.is_valid.Reads as is-valid-reads
 use Rattle.stream.proofs.pass.Reads as pass-reads
 
--- src/lib.rt:312:9
 reader-in-requires : tie.Need-reader-in-requires
 reader-in-requires c κs = search needs
 
--- src/lib.rt:313:33
 pass-requires : tie.Need-pass-requires
 pass-requires c κs = search needs
 
--- src/lib.rt:313:25
 enum-known-next : tie.Need-enum-known-next
 enum-known-next c = search needs
 
--- src/lib.rt:314:19
 words-for-requires : tie.Need-words-for-requires
 words-for-requires c κs = search needs
 
--- src/lib.rt:316:9
 returns : tie.Need-returns
 unfolding feedOf
 returns c = let passed = passed-next (c .before .before .before .before .before .reader-in .result) (c .before .before .before .before .before .before .before .args .symbol) _ (sym (c .before .before .next .given .1) ∙ c .before .before .before .before .pass .ensures) in rw (← c .before .before .before .before .before .reader-in .ensures, ← passed .0, ← passed .1) (refl, (c .words-for .ensures, (refl, refl)))
@@ -37,16 +32,13 @@ returns c = let passed = passed-next (c .before .before .before .before .before 
 enum-told : tie.Need-enum-told
 enum-told c = search needs
 
--- src/lib.rt:318:8
 is-valid-requires : tie.Need-is-valid-requires
 is-valid-requires c κs = search needs
 
--- src/lib.rt:319:9
 returns-2 : tie.Need-returns-2
 unfolding feedOf
 returns-2 c = let valid = sym (c .before .is-valid .ensures) ∙ c .if1 .taken in rw (← c .before .before .before .before .before .reader-in .ensures, unknown-answer (c .before .before .before .before .before .reader-in .result) (c .before .before .before .before .before .before .before .args .symbol) valid (not-passed (c .before .before .before .before .before .reader-in .result) (c .before .before .before .before .before .before .before .args .symbol) (sym (c .before .before .enum-told .given .1) ∙ c .before .before .before .before .pass .ensures) (c .before .before .before .before .before .before .before .pre) valid)) (refl, (refl, (refl, refl)))
 
--- src/lib.rt:305:1
 returns-3 : tie.Need-returns-3
 unfolding feedOf
 returns-3 c = rw (← c .before .before .before .before .before .reader-in .ensures, invalid-answer (c .before .before .before .before .before .reader-in .result) (c .before .before .before .before .before .before .before .args .symbol) (sym (c .before .is-valid .ensures) ∙ c .if1 .left)) (refl, (refl, (refl, refl)))

@@ -16,57 +16,44 @@ Inv-loop words back n frame₀ word₀ at₀ i₀ frame word at i = (i ≤ n) ×
 abbrev μ-loop : tie.MeasureT-loop
 μ-loop words back n frame₀ word₀ at₀ i₀ frame word at i = i
 
--- src/lib.rt:78:20
 mul-word : tie.Need-mul-word Inv-loop μ-loop
 mul-word c = search needs
 
--- src/lib.rt:78:20
 shared-slice-read-word : tie.Need-shared-slice-read-word Inv-loop μ-loop
 shared-slice-read-word c = omega (arith, c .before .before .pre)
 
--- src/lib.rt:78:41
 mul-word-2 : tie.Need-mul-word-2 Inv-loop μ-loop
 mul-word-2 c = search needs
 
--- src/lib.rt:78:20
 shr-word : tie.Need-shr-word Inv-loop μ-loop
 shr-word c = search needs
 
--- src/lib.rt:81:5
 loop-holds : tie.Need-loop-holds Inv-loop μ-loop
 loop-holds c = (omega arith, unpacked-start _ _ _ _ refl)
 
--- src/lib.rt:82:9
 sub-i : tie.Need-sub-i Inv-loop μ-loop
 sub-i c = omega arith
 
--- src/lib.rt:83:20
 cast-frame : tie.Need-cast-frame Inv-loop μ-loop
 cast-frame c = search needs
 
--- src/lib.rt:83:9
 array-write-frame : tie.Need-array-write-frame Inv-loop μ-loop
 array-write-frame c = omega (arith, c .before .before .before .before .pre .1, c .before .loop .inv .1 .long)
 
--- src/lib.rt:84:9
 add-at : tie.Need-add-at Inv-loop μ-loop
 add-at c = omega (arith, c .before .before .before .before .pre, c .before .loop .inv .1 .reached)
 
--- src/lib.rt:85:9
 word-at-requires : tie.Need-word-at-requires Inv-loop μ-loop
 word-at-requires c κs =
     let same : c .before .loop .at + 1 - 1 ≡ c .before .loop .at = omega arith in
     (c .before .before .before .before .pre .0, omega arith, rw same (c .before .loop .inv .1 .shifted (omega (arith, c .before .before .before .before .pre, c .before .loop .inv .1 .reached))))
 
--- src/lib.rt:81:5
 loop-less : tie.Need-loop-less Inv-loop μ-loop
 loop-less c = omega arith
 
--- src/lib.rt:81:5
 loop-again : tie.Need-loop-again Inv-loop μ-loop
 loop-again c = (omega arith, unpacked-turn _ _ _ _ (c .before .before .loop .i) (c .before .before .loop .at) _ _ (c .before .before .before .before .before .pre .1) (c .before .before .before .before .before .pre .2) (c .before .loop-test .taken) (c .before .before .loop .inv .0) (c .before .before .loop .inv .1) (c .word-at .ensures))
 
--- src/lib.rt:73:1
 returns : tie.Need-returns Inv-loop μ-loop
 returns c =
     let none : c .before .loop .i ≡ 0 = omega arith in

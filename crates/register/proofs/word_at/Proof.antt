@@ -7,23 +7,18 @@ use Rattle.register.proofs.word_at.Tie as tie
 use Rattle.register.proofs.word_at.Reads as reads
 use Rattle.register.proofs.word_at.Lts as lts
 
--- src/lib.rt:66:20
 mul-result : tie.Need-mul-result
 mul-result c = search needs
 
--- src/lib.rt:66:20
 shared-slice-read-result : tie.Need-shared-slice-read-result
 shared-slice-read-result c = omega (arith, c .before .before .before .pre .0)
 
--- src/lib.rt:66:13
 returns : tie.Need-returns
 returns c = λ b. shifted-first (c .before .before .before .args .words .now) (c .before .before .before .args .back) (c .before .before .if1 .taken)
 
--- src/lib.rt:68:9
 returns-2 : tie.Need-returns-2
 returns-2 c = λ b. let n : ⊥ = omega arith in absurd n
 
--- src/lib.rt:60:1
 returns-3 : tie.Need-returns-3
 returns-3 c = λ b. rw (c .before .pre .2) (shifted-next (c .before .args .words .now) (c .before .args .back) (c .before .pre .1) (c .if1 .left))
 

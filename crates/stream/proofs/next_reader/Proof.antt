@@ -10,24 +10,19 @@ use Rattle.stream.proofs.next_reader.Lts as lts
 use Rattle.stream.proofs.is_valid.Reads as is-valid-reads
 use Rattle.stream.proofs.with_symbol.Reads as with-symbol-reads
 
--- src/lib.rt:178:8
 is-valid-requires : tie.Need-is-valid-requires
 is-valid-requires c κs = search needs
 
--- src/lib.rt:180:13
 with-symbol-requires : tie.Need-with-symbol-requires
 with-symbol-requires c κs = (sym (c .before .before .is-valid .ensures) ∙ c .before .if1 .taken, c .if2 .taken)
 
--- src/lib.rt:180:13
 returns : tie.Need-returns
 returns c = c .with-symbol .ensures
 
--- src/lib.rt:175:1
 returns-2 : tie.Need-returns-2
 unfolding nextOf
 returns-2 c = rw (← c .before .before .is-valid .ensures, c .before .if1 .taken, lt-leb _ _ (c .if2 .left))
 
--- src/lib.rt:175:1
 returns-3 : tie.Need-returns-3
 unfolding nextOf
 returns-3 c = rw (← c .before .is-valid .ensures, c .if1 .left)

@@ -10,30 +10,24 @@ use Rattle.stream.proofs.pass.Lts as lts
 use Rattle.stream.proofs.is_valid.Reads as is-valid-reads
 use Rattle.stream.proofs.with_symbol.Reads as with-symbol-reads
 
--- src/lib.rt:191:9
 returns : tie.Need-returns
 unfolding passOf
 returns c = rw (eq-eqb _ _ (c .if1 .taken))
 
--- src/lib.rt:194:12
 is-valid-requires : tie.Need-is-valid-requires
 is-valid-requires c κs = search needs
 
--- src/lib.rt:195:33
 with-symbol-requires : tie.Need-with-symbol-requires
 with-symbol-requires c κs = (sym (c .before .is-valid .ensures) ∙ c .if3 .taken, c .before .before .if2 .taken)
 
--- src/lib.rt:195:13
 returns-2 : tie.Need-returns-2
 unfolding passOf
 returns-2 c = rw (ne-eqb _ _ (c .before .before .before .before .if1 .left), le-leb _ _ (c .before .before .before .if2 .taken), ← c .before .before .is-valid .ensures, c .before .if3 .taken, ← c .with-symbol .ensures)
 
--- src/lib.rt:187:1
 returns-3 : tie.Need-returns-3
 unfolding passOf
 returns-3 c = rw (ne-eqb _ _ (c .before .before .before .if1 .left), le-leb _ _ (c .before .before .if2 .taken), ← c .before .is-valid .ensures, c .if3 .left)
 
--- src/lib.rt:187:1
 returns-4 : tie.Need-returns-4
 unfolding passOf
 returns-4 c = rw (ne-eqb _ _ (c .before .if1 .left), lt-leb _ _ (c .if2 .left))

@@ -10,19 +10,15 @@ use Rattle.layout.proofs.frame_size.Reads as frame-size-reads
 use Rattle.register.proofs.push.Reads as push-reads
 use Rattle.stream.proofs.place_after.Reads as place-after-reads
 
--- src/lib.rt:165:43
 frame-size-requires : tie.Need-frame-size-requires
 frame-size-requires c κs = search needs
 
--- src/lib.rt:165:9
 place-after-requires : tie.Need-place-after-requires
 place-after-requires c κs = (rw (c .frame-size .ensures .0) (valid-place (c .before .before .before .args .reader) (c .before .before .before .pre .0)), c .frame-size .ensures .2)
 
--- src/lib.rt:166:9
 push-requires : tie.Need-push-requires
 push-requires c κs = search needs
 
--- src/lib.rt:159:1
 returns : tie.Need-returns
 unfolding nextOf
 returns c = rw (c .before .before .before .before .before .pre .0, le-leb _ _ (c .before .before .before .before .before .pre .1), ← c .before .before .frame-size .ensures .0, ← c .before .place-after .ensures, ← c .push .ensures)

@@ -6,11 +6,10 @@ use Prim.Native.Nat.{ℕ, _≤_}
 use native.Mathlib.Omega.{arith}
 use borrow.Author.Tests.{eqb-true}
 use lib.Dec.{eqb}
-use Rattle.timecode.specs.Formats.{member, A, B, D, E, G, H, Row, table, noRow, lookUp, rowOf, known, size, interval}
+use Rattle.timecode.specs.Formats.{member, A, B, D, E, G, H, Row, table, noRow, lookUp, rowOf, known, size, interval, carriesControl, carriesSeconds}
 use Rattle.timecode.specs.Laws.Runs.{clear, proper}
 use Rattle.timecode.specs.Laws.Tests.{by-test, clash, and-left, and-right, or-other}
 use Rattle.timecode.specs.Layout.{seconds, minutes, hours, days, tenths, hundredths, hasSeconds, straightSeconds, controlRange, control, timeFields, fields, runs, isMark, rest}
-use Rattle.timecode.specs.Formats.{carriesControl, carriesSeconds}
 use Rattle.timecode.specs.declared.Format.{Format}
 
 -- ---- line by line

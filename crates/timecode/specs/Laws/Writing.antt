@@ -47,7 +47,7 @@ pub length-written : (f : Format) (t : Time) (w : ℕ) → length (written f t w
 unfolding written
 length-written f t w = length-encode (size f) (rest f) (runs f) (spread (fields f) (numbers t w))
 
-written-symbols : (f : Format) (t : Time) (w : ℕ) → areSymbols (written f t w) ≡ true
+pub written-symbols : (f : Format) (t : Time) (w : ℕ) → areSymbols (written f t w) ≡ true
 unfolding written encode
 written-symbols f t w = symbols-tabulate (size f) 0 (symbolAt (rest f) (runs f) (spread (fields f) (numbers t w))) (symbol-small f (runs f) (spread (fields f) (numbers t w)))
 

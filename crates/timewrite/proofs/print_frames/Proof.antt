@@ -20,35 +20,27 @@ Inv-loop format control year out₀ next₀ left₀ more₀ out next left more =
 abbrev μ-loop : tie.MeasureT-loop
 μ-loop format control year out₀ next₀ left₀ more₀ out next left more = left
 
--- src/main.rt:185:19
 large-buffer-requires : tie.Need-large-buffer-requires Inv-loop μ-loop
 large-buffer-requires c κs = search needs
 
--- src/main.rt:189:5
 loop-holds : tie.Need-loop-holds Inv-loop μ-loop
 loop-holds c = (omega arith, starts-first _ _ _ _)
 
--- src/main.rt:190:13
 generate-requires : tie.Need-generate-requires Inv-loop μ-loop
 generate-requires c κs = search needs
 
--- src/main.rt:193:9
 write-first-requires : tie.Need-write-first-requires Inv-loop μ-loop
 write-first-requires c κs = search needs
 
--- src/main.rt:189:5
 loop-less : tie.Need-loop-less Inv-loop μ-loop
 loop-less c = omega (arith, c .before .before .before .generate .ensures .4 (omega arith))
 
--- src/main.rt:189:5
 loop-again : tie.Need-loop-again Inv-loop μ-loop
 loop-again c = (omega (arith, c .before .before .before .generate .ensures .1, c .before .before .before .before .before .before .before .loop .inv .0), starts-turn _ _ (c .before .before .before .before .before .before .before .loop .next) _ _ _ (c .before .before .before .before .before .before .before .loop .left) _ (c .before .before .before .before .before .before .before .loop .inv .0) (c .before .before .before .generate .ensures .1) (c .before .before .before .before .before .before .before .loop .inv .1) (c .before .before .before .generate .ensures .2))
 
--- src/main.rt:179:1
 returns : tie.Need-returns Inv-loop μ-loop
 returns c = c .before .before .loop .inv
 
--- src/main.rt:179:1
 returns-2 : tie.Need-returns-2 Inv-loop μ-loop
 returns-2 c = c .before .loop .inv
 
