@@ -1,7 +1,9 @@
 //! Write over a million frames of G1 in succession: the library, and an earlier one where it is linked, beside Rust.
 
-use crate::plain::{self, Format, Time};
-use crate::{compare, format, heading, random, row, tuned, write_with, Side};
+#[cfg(before)]
+use crate::plain::Format;
+use crate::plain::{self, Time};
+use crate::{compare, format, random, tuned, write_with};
 
 const FRAMES: usize = 1_000_000;
 
@@ -32,62 +34,69 @@ fn times() -> Vec<(Time, u64)> {
         .collect()
 }
 
-/// A library's Write beside plain and tuned Rust.
-fn beside(
-    g: Format,
-    times: &[(Time, u64)],
-    write: impl Fn(Time, u64, &mut [u8]) -> bool,
-) -> Vec<Side> {
-    let library = |all| write_with(times, all, 100, &write);
+/// Write of the library in DUSKVEYRA_BEFORE.
+#[cfg(before)]
+fn write_before(g: Format, time: Time, control: u64, frame: &mut [u8]) -> bool {
+    let Time { day, hundredths } = time;
+    let (bytes, length) = (frame.as_mut_ptr(), frame.len());
+    // SAFETY: the pointer and the length are those of one slice.
+    let refused = unsafe {
+        before_write(
+            g.letter,
+            g.expression,
+            day,
+            hundredths,
+            control,
+            bytes,
+            length,
+        )
+    };
+    refused == 0
+}
+
+/// All sides in the same rounds: each ratio is of two times within one round.
+pub fn rows() {
+    let g = format(b'G', 1);
+    let times = times();
+    let now = |all| {
+        write_with(&times, all, 100, |time, control, frame| {
+            let (g, time) = (crate::library_format(g), crate::library_time(time));
+            duskveyra::write(g, time, control, frame).is_ok()
+        })
+    };
     let plain = |all| {
-        write_with(times, all, 100, |time, control, frame| {
+        write_with(&times, all, 100, |time, control, frame| {
             plain::write(g, time, control, frame).is_ok()
         })
     };
     let tuned = |all| {
-        write_with(times, all, 100, |time, control, frame| {
+        write_with(&times, all, 100, |time, control, frame| {
             tuned::write(g, time, control, frame).is_ok()
         })
     };
-    assert!(library(true) == plain(true) && library(true) == tuned(true));
-    compare(
-        FRAMES,
-        &[&|| library(false), &|| plain(false), &|| tuned(false)],
-    )
-}
-
-pub fn rows() {
-    let g = format(b'G', 1);
-    let times = times();
-    heading("write, a million frames of G1");
     #[cfg(before)]
-    row(
-        "before",
-        "frame",
-        beside(g, &times, |time, control, frame| {
-            let Time { day, hundredths } = time;
-            let (bytes, length) = (frame.as_mut_ptr(), frame.len());
-            // SAFETY: the pointer and the length are those of one slice.
-            let refused = unsafe {
-                before_write(
-                    g.letter,
-                    g.expression,
-                    day,
-                    hundredths,
-                    control,
-                    bytes,
-                    length,
-                )
-            };
-            refused == 0
-        }),
+    let before = |all| {
+        write_with(&times, all, 100, |time, control, frame| {
+            write_before(g, time, control, frame)
+        })
+    };
+    #[cfg(before)]
+    assert!(before(true) == now(true));
+    assert!(now(true) == plain(true) && now(true) == tuned(true));
+    let sides = compare(
+        FRAMES,
+        &[
+            &|| now(false),
+            &|| plain(false),
+            &|| tuned(false),
+            #[cfg(before)]
+            &|| before(false),
+        ],
     );
-    row(
-        "now",
-        "frame",
-        beside(g, &times, |time, control, frame| {
-            let (g, time) = (crate::library_format(g), crate::library_time(time));
-            duskveyra::write(g, time, control, frame).is_ok()
-        }),
-    );
+    println!("\n| write, a million frames of G1 | ns per frame | library / this |");
+    println!("|---|---:|---:|");
+    let names = ["library", "plain Rust", "tuned Rust", "library before"];
+    for (name, side) in names.iter().zip(sides) {
+        println!("| {name} | {:.2} | {:.2} |", side.time, side.ratio);
+    }
 }
