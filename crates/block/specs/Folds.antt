@@ -21,7 +21,7 @@ use Rattle.timecode.specs.declared.Time.{Time}
 use Rattle.stream.specs.Feeding.{freshReader, isValid, answerOf}
 use Rattle.stream.specs.Refinement.{answers, readerAfter, answers-are-plain}
 use Rattle.stream.specs.declared.Reader.{Reader}
-use Rattle.parts.specs.Feeds.{answers-append, reader-append, length-answers, answers-take, answers-at, valid-after, refused-above, quiet-no-refusal, above-refused}
+use Rattle.stream.specs.FeedLists.{answers-append, reader-append, length-answers, answers-take, answers-at, valid-after, refused-above, quiet-no-refusal, above-refused}
 use Rattle.block.specs.Blocks.{Reported, reportAt, Block, stopped, onward, blockIn, blockOf, fieldLeft}
 use Rattle.block.specs.declared.Stop.{Stop}
 use Rattle.block.specs.declared.Stop.the-variants.{AllTaken, UnknownSymbol, NoRoom}

@@ -14,7 +14,7 @@ use Rattle.timecode.specs.declared.Refusal.{Refusal}
 use Rattle.stream.specs.Feeding.{isValid, feedOf}
 use Rattle.stream.specs.Refinement.{answers, readerAfter}
 use Rattle.stream.specs.declared.Reader.{Reader}
-use Rattle.parts.specs.Feeds.{answers-take, length-answers, reader-append, valid-after}
+use Rattle.stream.specs.FeedLists.{answers-take, length-answers, reader-append, valid-after}
 use Rattle.block.specs.Blocks.{Block, blockIn, blockOf, Lists, roomIn, areRecords, fieldLeft, listsLeft, blockFor, blockAnswer, feedBlockOf}
 use Rattle.block.specs.Folds.{block-takes}
 use Rattle.block_part.specs.Rounds.{Even, put-left, roundAt, roundOf, Leaves, standing-room, standing-part, standing-stops, FedTo, fed-stops}

@@ -24,7 +24,7 @@ use Rattle.stream.specs.Feeding.{isValid}
 use Rattle.stream.specs.Refinement.{answers, readerAfter}
 use Rattle.stream.specs.declared.Reader.{Reader}
 use Rattle.parts.specs.Behind.{past, length-past, Behind, small-there, Laid, laid-more, laid-behind, Agrees, behind-agrees}
-use Rattle.parts.specs.Feeds.{answers-at, length-answers, valid-after, refused-above}
+use Rattle.stream.specs.FeedLists.{answers-at, length-answers, valid-after, refused-above}
 use Rattle.block.specs.Blocks.{blockIn, reportAt, Lists, roomIn}
 use Rattle.block.specs.declared.Stop.{Stop}
 use Rattle.block.specs.declared.Stop.the-variants.{AllTaken, UnknownSymbol, NoRoom}

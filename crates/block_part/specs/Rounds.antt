@@ -15,7 +15,7 @@ use Rattle.stream.specs.Feeding.{nextOf, answerOf, feedOf}
 use Rattle.stream.specs.Refinement.{answers, readerAfter}
 use Rattle.stream.specs.declared.Reader.{Reader}
 use Rattle.parts.specs.Behind.{reader-start}
-use Rattle.parts.specs.Feeds.{answers-at, length-answers, reader-append}
+use Rattle.stream.specs.FeedLists.{answers-at, length-answers, reader-append}
 use Rattle.block.specs.Blocks.{Reported, reportAt, Block, stopped, onward, blockIn, Lists, lists, roomIn, fieldLeft, indexOf, dayOf, hundredthsOf, controlOf, listsLeft}
 use Rattle.block.specs.Folds.{followed, block-append, block-takes, all-taken}
 use Rattle.block_part.specs.declared.Round.{Round}

@@ -15,7 +15,7 @@ use Rattle.lines.specs.Text.{reportLine}
 use Rattle.stream.specs.Feeding.{isValid, nextOf, answerOf, feedOf}
 use Rattle.stream.specs.Refinement.{answers, readerAfter}
 use Rattle.stream.specs.declared.Reader.{Reader}
-use Rattle.parts.specs.Feeds.{length-answers}
+use Rattle.stream.specs.FeedLists.{length-answers}
 use Rattle.block.specs.Blocks.{Reported, reportAt, Block, stopped, onward, blockIn, blockOf, Lists, roomIn, areRecords, fieldLeft, indexOf, dayOf, hundredthsOf, controlOf, listsLeft, blockFor, blockAnswer, feedBlockOf}
 use Rattle.block.specs.Folds.{block-takes, left-first}
 use Rattle.block.specs.declared.BlockAnswer.{BlockAnswer}

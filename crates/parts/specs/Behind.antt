@@ -24,7 +24,7 @@ use Rattle.search.specs.Ends.{answerAt, part}
 use Rattle.stream.specs.Feeding.{isValid, nextOf, answerOf, feedOf, valid-place}
 use Rattle.stream.specs.Refinement.{answers, readerAfter, Shows, push-shows, shown-answer}
 use Rattle.stream.specs.declared.Reader.{Reader}
-use Rattle.parts.specs.Feeds.{answers-at, length-answers, reader-append, valid-next, valid-after}
+use Rattle.stream.specs.FeedLists.{answers-at, length-answers, reader-append, valid-next, valid-after}
 
 -- ---- readers that show a list
 
