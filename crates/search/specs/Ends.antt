@@ -13,11 +13,11 @@ use lib.Seq.{ext-getD, getD-take, getD-drop, getD-append-add, length-take-le, dr
 use Rattle.timecode.specs.Formats.{size}
 use Rattle.timecode.specs.Frames.{nextAfter, readOf}
 use Rattle.timecode.specs.Laws.Checks.{quiet-no-report}
-use Rattle.timecode.specs.Laws.Machine.{answer-long, answer-quiet, EndsInFrames, report-ends}
+use Rattle.timecode.specs.Laws.Machine.{answer-long, answer-quiet, report-ends}
 use Rattle.timecode.specs.Laws.Marks.{accepted-first, accepted-last, accepted-length, accepted-before-last}
 use Rattle.timecode.specs.Laws.Table.{size-range}
 use Rattle.timecode.specs.Laws.Tests.{by-test, clash}
-use Rattle.timecode.specs.Stream.{windowLength, frameIn, confirm, windowAnswer, lastOf, plainAnswer}
+use Rattle.timecode.specs.Stream.{windowLength, frameIn, confirm, windowAnswer, lastOf, plainAnswer, EndsInFrames}
 use Rattle.timecode.specs.declared.Answer.{Answer}
 use Rattle.timecode.specs.declared.Answer.the-variants.{Quiet, Report}
 use Rattle.timecode.specs.declared.Format.{Format}

@@ -85,3 +85,12 @@ above-refused r s x v h =
     by-test (isSymbol s)
     (λ y. absurd (window-no-refusal (r .format) (windowIn (r .format) (wordsOf (pushOf (r .heard) s))) x (rw (v, y) at h)))
     (λ n. leb-false s 3 n)
+
+-- ---- demand 1: a refused Feed hands back the same reader, whatever it refuses with
+
+pub refused-feed-same-reader : (r : Reader) (s : ℕ) (x : Refusal) → feedOf r s .answer ≡ Answer.Refused x → feedOf r s .reader ≡ r
+unfolding feedOf nextOf
+refused-feed-same-reader r s x h =
+    by-test (isValid r)
+    (λ v. rw (v, lt-leb s 3 (above-refused r s x v h)))
+    (λ n. rw n)

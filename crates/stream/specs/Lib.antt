@@ -2,5 +2,4 @@ pub mod Feeding
 pub mod Marked
 pub mod Refinement
 pub mod FeedLists
-pub mod Heard
 pub mod Rows

@@ -10,13 +10,13 @@ use borrow.Author.Tests.{lt-ltb, le-ltb, le-leb, lt-leb, ltb-true, ltb-false, eq
 use lib.Dec.{ltb, eqb}
 use lib.ListN.{getD, length, drop, length-append, length-drop, List·getD-append}
 use lib.Seq.{ext-getD, getD-drop, getD-append-add}
-use Rattle.timecode.specs.Demands.{holds-the-elements}
+use Rattle.timecode.specs.Demand3.{Demand3, SameAnswers, holds-the-elements, demand-3, two-readers}
 use Rattle.timecode.specs.Formats.{known, size}
 use Rattle.timecode.specs.Laws.Machine.{feed-accepts, feed-refuses, answer-long, answer-short}
 use Rattle.timecode.specs.Laws.Marks.{size-positive}
 use Rattle.timecode.specs.Laws.Table.{size-range}
 use Rattle.timecode.specs.Laws.Tests.{by-test, everyBelow, below-every}
-use Rattle.timecode.specs.Stream.{windowLength, windowAnswer, lastOf, plainAnswer, plainFeed, plainAnswers, plainHeld, elementsOf}
+use Rattle.timecode.specs.Stream.{windowLength, windowAnswer, lastOf, plainAnswer, plainFeed, plainAnswers, plainHeld, elementsOf, SameWindow}
 use Rattle.timecode.specs.declared.Answer.{Answer}
 use Rattle.timecode.specs.declared.Answer.the-variants.{Quiet}
 use Rattle.timecode.specs.declared.Format.{Format}
@@ -103,14 +103,14 @@ pub record Hears (f : Format) (r : Reader) (held : List ℕ) : Type 0 where
   pub place-is : r .place ≡ length held % size f
   pub shows : Shows (r .heard) held
 
-fresh-hears : (f : Format) → Hears f (freshReader f) []
+pub fresh-hears : (f : Format) → Hears f (freshReader f) []
 fresh-hears f = record { same-format = refl; place-is = sym (zero-mod (size f)); shows = silence-shows }
 
 pub hears-valid : (f : Format) (r : Reader) (held : List ℕ) → known f ≡ true → Hears f r held → isValid r ≡ true
 unfolding isValid
 hears-valid f r held k h = rw (h .same-format, k, h .place-is) (lt-ltb (length held % size f) (size f) (mod-lt (length held) (size-positive f)))
 
-feed-hears : (f : Format) (r : Reader) (held : List ℕ) (s : ℕ) → known f ≡ true → Hears f r held → (feedOf r s .answer ≡ plainFeed f held s .answer) × Hears f (feedOf r s .reader) (plainFeed f held s .held)
+pub feed-hears : (f : Format) (r : Reader) (held : List ℕ) (s : ℕ) → known f ≡ true → Hears f r held → (feedOf r s .answer ≡ plainFeed f held s .answer) × Hears f (feedOf r s .reader) (plainFeed f held s .held)
 unfolding feedOf answerOf nextOf
 feed-hears f r held s k h = go (decLe s 3)
   where
@@ -133,14 +133,14 @@ feed-hears f r held s k h = go (decLe s 3)
 -- ---- Demand 3
 
 module _ (f : Format) (k : known f ≡ true) where
-  answers-plain : (r : Reader) (held ss : List ℕ) → Hears f r held → answers r ss ≡ plainAnswers f held ss
+  pub answers-plain : (r : Reader) (held ss : List ℕ) → Hears f r held → answers r ss ≡ plainAnswers f held ss
   unfolding answers plainAnswers
   answers-plain r held [] h = refl
   answers-plain r held (s ∷ ss) h =
       let fed = feed-hears f r held s k h in
       ap₂ (λ (a : Answer) (as′ : List Answer). a ∷ as′) (fed .0) (answers-plain (feedOf r s .reader) (plainFeed f held s .held) ss (fed .1))
 
-  hears-after : (r : Reader) (held ss : List ℕ) → Hears f r held → Hears f (readerAfter r ss) (plainHeld f held ss)
+  pub hears-after : (r : Reader) (held ss : List ℕ) → Hears f r held → Hears f (readerAfter r ss) (plainHeld f held ss)
   unfolding readerAfter plainHeld
   hears-after r held [] h = h
   hears-after r held (s ∷ ss) h = hears-after (feedOf r s .reader) (plainFeed f held s .held) ss (feed-hears f r held s k h .1)
@@ -149,13 +149,16 @@ module _ (f : Format) (k : known f ≡ true) where
   pub answers-are-plain : (ss : List ℕ) → answers (freshReader f) ss ≡ plainAnswers f [] ss
   answers-are-plain ss = answers-plain (freshReader f) [] ss (fresh-hears f)
 
+  -- So all that demand 3 says holds of them.
+  pub reader-demand-3 : (ss : List ℕ) (none : Answer) → Demand3 f ss (answers (freshReader f) ss) none
+  reader-demand-3 ss none = demand-3 f ss (answers (freshReader f) ss) (answers-are-plain ss) none
+
+  pub two-readers-agree : (ss rs xs : List ℕ) → SameWindow f (elementsOf ss) (elementsOf rs)
+      → (none : Answer) → SameAnswers ss rs (answers (freshReader f) (ss ++ xs)) (answers (freshReader f) (rs ++ xs)) none
+  two-readers-agree ss rs xs = two-readers f ss rs xs (answers (freshReader f) (ss ++ xs)) (answers (freshReader f) (rs ++ xs)) (answers-are-plain (ss ++ xs)) (answers-are-plain (rs ++ xs))
+
   pub fed-hears : (ss : List ℕ) → Hears f (readerAfter (freshReader f) ss) (plainHeld f [] ss)
   fed-hears ss = hears-after (freshReader f) [] ss (fresh-hears f)
-
-  -- the answer to one Feed more
-  pub next-answer : (ss : List ℕ) (s : ℕ) → answerOf (readerAfter (freshReader f) ss) s ≡ plainFeed f (plainHeld f [] ss) s .answer
-  unfolding feedOf
-  next-answer ss s = feed-hears f (readerAfter (freshReader f) ss) (plainHeld f [] ss) s k (fed-hears ss) .0
 
   -- A reader made by feeding a fresh one never meets 13, and its place is the number of its elements modulo n.
   pub fed-is-valid : (ss : List ℕ) → isValid (readerAfter (freshReader f) ss) ≡ true

@@ -1,34 +1,25 @@
 -- The demands, stated over the definitions and proved for every format, time, control word, list and length.
-use mathlib.Core.Path.{_≡_, refl, sym, ap, _∙_}
+use mathlib.Core.Path.{_≡_, sym, ap, _∙_}
 use mathlib.Core.Bool.{true, false}
 use mathlib.Core.List.{List, [], _∷_, _++_}
 use mathlib.Core.Logic.{_↔_, _⊎_}
-use Prim.Native.Nat.{ℕ, suc, _+_, _*_, _-_, _/_, _%_, _<_, _≤_}
-use native.Mathlib.Nat.{div-add-mod, mod-lt, mul-le-mul-left}
+use Prim.Native.Nat.{ℕ, suc, _-_, _/_, _%_, _<_, _≤_}
 use native.Mathlib.Omega.{arith}
-use lib.ListN.{getD, length, take, drop, set, replicate, length-replicate, length-drop, length-set}
-use lib.Seq.{length-take-le}
-use Rattle.timecode.specs.Answers.{number, refusal}
+use lib.ListN.{getD, length, replicate, length-replicate}
+use Rattle.timecode.specs.Answers.{number}
 use Rattle.timecode.specs.Calls.{scanOf}
 use Rattle.timecode.specs.Formats.{member, known, size, interval, lastHundredth, dayLength, onFormat, carriesLeap, secondCarried}
-use Rattle.timecode.specs.Frames.{yearLengths, usual, kinds, dayEnd, sameDay, nextDay, stepOf, Follows, nextAfter, stepBackOf, Precedes, writeOf, writeLeaves, readOf, Sent, Generator, elements}
+use Rattle.timecode.specs.Frames.{yearLengths, usual, kinds, dayEnd, sameDay, nextDay, stepOf, Follows, nextAfter, stepBackOf, Precedes, writeOf, writeLeaves, readOf, Sent, Generator, sentAt}
 use Rattle.timecode.specs.Laws.Back.{step-back, back-step, to-last-frame, back-on-format, follows-precedes, precedes-follows, backs-usual, same-refusal}
 use Rattle.timecode.specs.Laws.Checks.{accepted, by-reading}
 use Rattle.timecode.specs.Laws.Existence.{frames, length-frames, control-at, first-time, generator, goes-on}
-use Rattle.timecode.specs.Laws.Generators.{sentAt, length-elements, EndsFrame}
-use Rattle.timecode.specs.Laws.Machine.{feed-accepts, feed-refuses, EndsInFrames, held-elements, answer-no-refusal, feed-reports, SameWindow, same-answer, same-answers, answers-behind}
-use Rattle.timecode.specs.Laws.Marks.{size-positive}
 use Rattle.timecode.specs.Laws.Reading.{accepted-was-written, refused-up-to-8}
 use Rattle.timecode.specs.Laws.Scanning.{LowestAt, NowhereAt, scan-found, scan-none}
 use Rattle.timecode.specs.Laws.Stepping.{step-on-format, steps-usual, next-follows, follows-next, three, Turn, successors}
-use Rattle.timecode.specs.Laws.Streams.{among-le, part-report, part-intact, part-replaced, part-whole, stream-replaced, report, first-report}
 use Rattle.timecode.specs.Laws.Successors.{Apart, apart}
 use Rattle.timecode.specs.Laws.Times.{is-on-format, is-carried, none-added, one-added}
 use Rattle.timecode.specs.Laws.Writing.{written-is-accepted, taken, takes, leaves}
 use Rattle.timecode.specs.Layout.{second, minute, hour}
-use Rattle.timecode.specs.Stream.{windowLength, plainAnswer, Plain, plainFeed, plainAnswers, plainHeld, elementsOf}
-use Rattle.timecode.specs.declared.Answer.{Answer}
-use Rattle.timecode.specs.declared.Answer.the-variants.{Quiet, Report}
 use Rattle.timecode.specs.declared.Format.{Format}
 use Rattle.timecode.specs.declared.Reading.{Reading}
 use Rattle.timecode.specs.declared.Reading.the-variants.{Accepted}
@@ -77,70 +68,7 @@ added-second-is-the-61st c a b = let d = one-added c a b in (d .2, d .1, d .0, o
 pub other-seconds-are-usual : (c : ℕ) → c < dayLength → (hour c ≡ c / 100 / 60 / 60) × (minute c ≡ c / 100 / 60 % 60) × (second c ≡ c / 100 % 60)
 other-seconds-are-usual c h = let d = none-added c h in (d .2, d .1, d .0)
 
--- ---- Demand 3, of the plain machine. A list of Feeds starts with a fresh one, which holds nothing.
-
--- The machine holds the elements of its Feeds, and nothing else.
-pub holds-the-elements : (f : Format) (ss : List ℕ) → plainHeld f [] ss ≡ elementsOf ss
-holds-the-elements f ss = held-elements f [] ss
-
--- Feed refuses a symbol above 3 and no other; a refused Feed reports nothing, and its symbol counts as no element.
-pub refuses-above-3 : (f : Format) (held : List ℕ) (s : ℕ) → 3 < s → plainFeed f held s ≡ record { held = held; answer = Answer.Refused (refusal 4 0) }
-refuses-above-3 = feed-refuses
-
-pub refuses-no-other : (f : Format) (held : List ℕ) (s : ℕ) → s ≤ 3 → (r : Refusal) → plainFeed f held s .answer ≡ Answer.Refused r → ⊥
-refuses-no-other f held s h r q = answer-no-refusal f (held ++ (s ∷ [])) r (sym (ap (λ (p : Plain). p .answer) (feed-accepts f held s h)) ∙ q)
-
--- A time is reported with an element exactly when the last 2n + 1 elements are a mark and two accepted frames, the second's time next after the first's. The report is the second's time and control word.
-pub reports-exactly-when : (f : Format) (ss : List ℕ) (s : ℕ) (t : Time) (w : ℕ) → (plainFeed f (plainHeld f [] ss) s .answer ≡ Report t w) ↔ ((s ≤ 3) × EndsInFrames f (elementsOf ss ++ (s ∷ [])) t w)
-reports-exactly-when f ss s t w = rw (holds-the-elements f ss) (feed-reports f (elementsOf ss) s t w)
-
--- ---- Demand 3, of a generator. Whatever was heard before, what counts is the window: 2n + 1 of its elements.
-
-module _ (f : Format) (sent : List Sent) (gen : Generator f sent) where
-  -- A frame's last mark and the two frames after it, intact: the second's time and control word are reported.
-  pub intact-window-reports : (before : List ℕ) (q : ℕ) → q + 2 < length sent
-      → plainAnswer f (before ++ take (windowLength f) (drop (size f * suc q - 1) (elements f sent))) ≡ Report (sentAt sent (q + 2) .time) (sentAt sent (q + 2) .control)
-  unfolding windowLength
-  intact-window-reports before q h =
-      let start = size f * suc q - 1 in
-      let whole : size f * suc (q + 2) ≤ size f * length sent = mul-le-mul-left (size f) h in
-      let inside : size f * suc q - 1 + (2 * size f + 1) ≤ length (elements f sent) = omega (arith, length-elements f sent, size-positive f) in
-      let n : length (take (2 * size f + 1) (drop (size f * suc q - 1) (elements f sent))) ≡ 2 * size f + 1 =
-      length-take-le (2 * size f + 1) (drop (size f * suc q - 1) (elements f sent)) (omega (arith, length-drop (size f * suc q - 1) (elements f sent))) in
-      let u : q + 2 ≡ suc q + 1 = omega arith in
-      rw u
-      (part-intact f sent gen start [] before (take (windowLength f) (drop start (elements f sent))) (part-whole f sent start (windowLength f) inside) (omega arith) (λ k b. refl) (suc q) (omega (arith, size-positive f)))
-
-  -- Any consecutive elements, at most one replaced by another symbol (none where p is past the window's end): a time is reported only where a frame of the generator has just ended, and it is that frame's.
-  pub no-false-time : (before : List ℕ) (start p s : ℕ) → start + windowLength f ≤ length (elements f sent) → (t : Time) (w : ℕ)
-      → plainAnswer f (before ++ set (take (windowLength f) (drop start (elements f sent))) p s) ≡ Report t w → EndsFrame f sent (start + windowLength f) t
-  no-false-time before start p s h t w r =
-      let window = set (take (windowLength f) (drop start (elements f sent))) p s in
-      let n : length (set (take (windowLength f) (drop start (elements f sent))) p s) ≡ windowLength f =
-      length-set (take (windowLength f) (drop start (elements f sent))) p s ∙ length-take-le (windowLength f) (drop start (elements f sent)) (omega (arith, length-drop start (elements f sent))) in
-      rw n at (part-report f sent gen start (p ∷ []) before window (part-replaced f sent start (windowLength f) p s h) (omega arith) (among-le (length window - windowLength f) (windowLength f) (p ∷ [])) t w r)
-
-  -- The same of every report of a whole stream, joined at any element: none gives a false time where one element was replaced.
-  pub no-false-time-in-stream : (start p s : ℕ) → s ≤ 3 → (none : Answer) (i : ℕ) → start + i < length (elements f sent) → (t : Time) (w : ℕ)
-      → getD (plainAnswers f [] (set (drop start (elements f sent)) p s)) i none ≡ Report t w → EndsFrame f sent (start + suc i) t
-  no-false-time-in-stream start p s small none i h t w r =
-      report f sent gen start (p ∷ []) (set (drop start (elements f sent)) p s) (stream-replaced f sent start p s small) none i
-      (omega (arith, length-set (drop start (elements f sent)) p s, length-drop start (elements f sent))) (omega arith) t w r
-
-  -- An undamaged stream joined at index i of a frame: the first report comes with element 3n - i.
-  pub first-report-exactly : (q i : ℕ) → i < size f → q + 2 < length sent → (none : Answer)
-      → ((j : ℕ) → suc j < 3 * size f - i → getD (plainAnswers f [] (drop (size f * q + i) (elements f sent))) j none ≡ Quiet)
-      × (getD (plainAnswers f [] (drop (size f * q + i) (elements f sent))) (3 * size f - i - 1) none ≡ Report (sentAt sent (q + 2) .time) (sentAt sent (q + 2) .control))
-  first-report-exactly q i h b none = let u : q + 2 ≡ suc q + 1 = omega arith in rw u (first-report f sent gen q i h (omega arith) none)
-
-  -- Joined at any element: within 3n elements, that one counted.
-  pub first-report-within-3n : (start : ℕ) → start / size f + 2 < length sent → (none : Answer)
-      → (i : ℕ) × (i < 3 * size f) × ((j : ℕ) → j < i → getD (plainAnswers f [] (drop start (elements f sent))) j none ≡ Quiet)
-      × (getD (plainAnswers f [] (drop start (elements f sent))) i none ≡ Report (sentAt sent (start / size f + 2) .time) (sentAt sent (start / size f + 2) .control))
-  first-report-within-3n start h none =
-      let index : start % size f < size f = mod-lt start (size-positive f) in
-      let first = rw (div-add-mod start (size f)) at (first-report-exactly (start / size f) (start % size f) index h none) in
-      (3 * size f - start % size f - 1, omega (arith, size-positive f), λ j b. first .0 j (omega arith), first .1)
+-- ---- Generators. What demand 3 says of them stands in Demand3.
 
 -- Generators there are: of every format, from every first time and with all control words that Write takes.
 pub generators-exist : (f : Format) (t : Time) (ws : List ℕ) → ((j : ℕ) → j < length ws → (lent : List ℕ) → length lent ≡ size f → writeOf f t (getD ws j 0) lent ≡ Done)
@@ -157,20 +85,6 @@ generators-exist f t ws h = (
 pub generators-go-on : (f : Format) (sent : List Sent) (s : Sent) → Generator f sent → 0 < length sent → Follows f (sentAt sent (length sent - 1) .time) (s .time)
     → ((lent : List ℕ) → length lent ≡ size f → writeOf f (sentAt sent 0 .time) (s .control) lent ≡ Done) → Generator f (sent ++ (s ∷ []))
 generators-go-on f sent s = goes-on sent s f
-
--- ---- Two readers of one format, each fed from fresh, whose last 2n + 1 elements agree gave the same answer to the newest of them, and give the same answers, refusals too, to the same symbols after it.
-
-pub same-window-same-answers : (f : Format) (ss rs : List ℕ) → SameWindow f (elementsOf ss) (elementsOf rs)
-    → (plainAnswer f (elementsOf ss) ≡ plainAnswer f (elementsOf rs)) × ((xs : List ℕ) → drop (length ss) (plainAnswers f [] (ss ++ xs)) ≡ drop (length rs) (plainAnswers f [] (rs ++ xs)))
-same-window-same-answers f ss rs w = (
-  same-answer f (elementsOf ss) (elementsOf rs) w,
-  λ xs.
-      answers-behind f [] ss xs
-      ∙ ap (λ (held : List ℕ). plainAnswers f held xs) (holds-the-elements f ss)
-      ∙ same-answers f xs (elementsOf ss) (elementsOf rs) w
-      ∙ ap (λ (held : List ℕ). plainAnswers f held xs) (sym (holds-the-elements f rs))
-      ∙ sym (answers-behind f [] rs xs),
-)
 
 -- ---- Step, for every kind of day: a step is a time that Write takes; next after is some step; the times that follow one, and how they differ.
 

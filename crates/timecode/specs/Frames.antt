@@ -246,3 +246,14 @@ pub record Generator (f : Format) (sent : List Sent) : Type 0 where
 unfoldable pub elements : Format → List Sent → List ℕ
 elements f [] = []
 elements f (s ∷ ss) = written f (s .time) (s .control) ++ elements f ss
+
+-- the frame that was sent as number j, from 0
+abbrev pub sentAt : List Sent → ℕ → Sent
+sentAt sent j = getD sent j noFrame
+
+-- the first k elements are those of whole frames, and t is the time of the last of these
+pub record EndsFrame (f : Format) (sent : List Sent) (k : ℕ) (t : Time) : Type 0 where
+  pub frame : ℕ
+  pub inside : frame < length sent
+  pub whole : k ≡ size f * suc frame
+  pub time : t ≡ sentAt sent frame .time

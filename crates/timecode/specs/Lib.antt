@@ -6,5 +6,6 @@ pub mod Frames
 pub mod Stream
 pub mod Calls
 pub mod Demands
+pub mod Demand3
 pub mod Rows
 pub mod Laws

@@ -1,7 +1,8 @@
 -- Document 01, "Stream reader": the plain machine, fed one symbol and a list of them.
-use mathlib.Core.Bool.{cond}
+use mathlib.Core.Path.{_≡_}
+use mathlib.Core.Bool.{true, cond}
 use mathlib.Core.List.{List, [], _∷_, _++_}
-use Prim.Native.Nat.{ℕ, _+_, _*_, _-_}
+use Prim.Native.Nat.{ℕ, suc, _+_, _*_, _-_, _<_, _≤_}
 use lib.Dec.{leb, eqb}
 use lib.ListN.{getD, length, take, drop}
 use Rattle.timecode.specs.Answers.{refusal}
@@ -12,6 +13,7 @@ use Rattle.timecode.specs.declared.Answer.the-variants.{Quiet, Report}
 use Rattle.timecode.specs.declared.Format.{Format}
 use Rattle.timecode.specs.declared.Reading.{Reading}
 use Rattle.timecode.specs.declared.Reading.the-variants.{Accepted}
+use Rattle.timecode.specs.declared.Time.{Time}
 
 -- the window: 2n + 1 symbols
 unfoldable pub windowLength : Format → ℕ
@@ -64,3 +66,38 @@ plainHeld f held (s ∷ ss) = plainHeld f (plainFeed f held s .held) ss
 abbrev pub elementsOf : List ℕ → List ℕ
 elementsOf [] = []
 elementsOf (s ∷ ss) = cond (isSymbol s) (s ∷ elementsOf ss) (elementsOf ss)
+
+-- ---- the words of demand 3. Feeds, elements and answers are counted from 0.
+
+-- Feed number i is refused; or its symbol is an element.
+abbrev pub IsRefused : List ℕ → ℕ → Type 0
+IsRefused ss i = (i < length ss) × (3 < getD ss i 0)
+
+abbrev pub IsElement : List ℕ → ℕ → Type 0
+IsElement ss i = (i < length ss) × (getD ss i 0 ≤ 3)
+
+-- It is the newest element: what was fed after it was refused.
+abbrev pub IsNewest : List ℕ → ℕ → Type 0
+IsNewest ss i = IsElement ss i × ((k : ℕ) → i < k → k < length ss → 3 < getD ss k 0)
+
+-- the elements of the Feeds up to number i, itself counted
+abbrev pub elementsUpTo : List ℕ → ℕ → List ℕ
+elementsUpTo ss i = elementsOf (take (suc i) ss)
+
+-- The list ends in a mark and two accepted frames, the second's time next after the first's. The second's time and control word are t and w.
+pub record EndsInFrames (f : Format) (held : List ℕ) (t : Time) (w : ℕ) : Type 0 where
+  pub before : List ℕ
+  pub first : List ℕ
+  pub second : List ℕ
+  pub first-time : Time
+  pub first-control : ℕ
+  pub held-is : held ≡ before ++ (2 ∷ (first ++ second))
+  pub first-accepted : readOf f first ≡ Accepted first-time first-control
+  pub second-accepted : readOf f second ≡ Accepted t w
+  pub next : nextAfter f first-time t ≡ true
+
+-- both lists have a window, and it is the same
+pub record SameWindow (f : Format) (xs ys : List ℕ) : Type 0 where
+  pub first-long : windowLength f ≤ length xs
+  pub second-long : windowLength f ≤ length ys
+  pub same : lastOf (windowLength f) xs ≡ lastOf (windowLength f) ys

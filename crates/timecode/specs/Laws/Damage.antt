@@ -9,8 +9,8 @@ use native.Mathlib.Omega.{arith}
 use lib.ListN.{length, getD, length-map}
 use lib.Seq.{ext-getD}
 use Rattle.timecode.specs.Formats.{member, size}
-use Rattle.timecode.specs.Frames.{Follows, written, readOf, Sent, Generator, elements}
-use Rattle.timecode.specs.Laws.Generators.{sentAt, frameOf, length-elements, element-at, sent-valid, frame-reads, marks, pair, EndsFrame}
+use Rattle.timecode.specs.Frames.{Follows, written, readOf, Sent, Generator, elements, sentAt, EndsFrame}
+use Rattle.timecode.specs.Laws.Generators.{frameOf, length-elements, element-at, sent-valid, frame-reads, marks, pair}
 use Rattle.timecode.specs.Laws.Marks.{size-positive, size-large, last-mark}
 use Rattle.timecode.specs.Laws.Places.{member-map, missed}
 use Rattle.timecode.specs.Laws.Reading.{accepted-was-written}

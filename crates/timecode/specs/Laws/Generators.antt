@@ -9,7 +9,7 @@ use native.Mathlib.Decide.{decLt}
 use lib.ListN.{length, getD, replicate, length-replicate, length-append, List·getD-append, List·getD-eq-default}
 use lib.Seq.{getD-append-add}
 use Rattle.timecode.specs.Formats.{size}
-use Rattle.timecode.specs.Frames.{written, readOf, Sent, noFrame, Generator, elements}
+use Rattle.timecode.specs.Frames.{written, readOf, Sent, Generator, elements, sentAt}
 use Rattle.timecode.specs.Laws.Marks.{size-positive, at-written, mark-only, mark-index}
 use Rattle.timecode.specs.Laws.Reading.{Valid}
 use Rattle.timecode.specs.Laws.Stepping.{step-on-format}
@@ -19,11 +19,6 @@ use Rattle.timecode.specs.Laws.Writing.{length-written, symbol-small, wr
 use Rattle.timecode.specs.Layout.{fields, runs, numbers, spread}
 use Rattle.timecode.specs.declared.Format.{Format}
 use Rattle.timecode.specs.declared.Reading.the-variants.{Accepted}
-use Rattle.timecode.specs.declared.Time.{Time}
-
--- the frame that was sent as number j, from 0
-abbrev pub sentAt : List Sent → ℕ → Sent
-sentAt sent j = getD sent j noFrame
 
 abbrev pub frameOf : Format → Sent → List ℕ
 frameOf f s = written f (s .time) (s .control)
@@ -125,12 +120,3 @@ pair-100 k (inr a) (inr c) = omega arith
 -- two marks side by side are a frame's last and the next frame's first
 pub pair : (f : Format) → Pair (size f)
 pair f = two-sizes Pair pair-60 pair-100 f
-
--- ---- where a report may stand, and what it says
-
--- the first k elements are those of whole frames, and t is the time of the last of these
-pub record EndsFrame (f : Format) (sent : List Sent) (k : ℕ) (t : Time) : Type 0 where
-  pub frame : ℕ
-  pub inside : frame < length sent
-  pub whole : k ≡ size f * suc frame
-  pub time : t ≡ sentAt sent frame .time

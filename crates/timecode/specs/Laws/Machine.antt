@@ -1,6 +1,6 @@
 -- The plain machine: exactly when it reports, and that its answers depend on the last 2n + 1 symbols alone.
 use mathlib.Core.Path.{_≡_, refl, sym, ap, ap₂, _∙_, subst}
-use mathlib.Core.Bool.{true}
+use mathlib.Core.Bool.{cond}
 use mathlib.Core.List.{List, [], _∷_, _++_, append-assoc, append-nil}
 use mathlib.Core.Logic.{_↔_}
 use Prim.Native.Nat.{ℕ, zero, suc, _+_, _*_, _-_, _<_, _≤_}
@@ -12,17 +12,15 @@ use lib.ListN.{getD, length, take, drop, length-append, length-drop, take-append
 use lib.Seq.{drop-cons, drop-drop, drop-at, take-at, take-all, drop-append-le}
 use Rattle.timecode.specs.Answers.{refusal}
 use Rattle.timecode.specs.Formats.{isSymbol, size}
-use Rattle.timecode.specs.Frames.{nextAfter, readOf}
 use Rattle.timecode.specs.Laws.Checks.{quiet-no-report, refused-no-report}
 use Rattle.timecode.specs.Laws.Marks.{accepted-length}
 use Rattle.timecode.specs.Laws.Stepping.{follows-next}
 use Rattle.timecode.specs.Laws.Tests.{by-test}
 use Rattle.timecode.specs.Laws.Windows.{long, Confirmed, window-confirmed, second-reads, second-follows, window-quiet}
-use Rattle.timecode.specs.Stream.{windowLength, frameIn, confirm, windowAnswer, lastOf, plainAnswer, Plain, plainFeed, plainAnswers, plainHeld, elementsOf}
+use Rattle.timecode.specs.Stream.{windowLength, frameIn, confirm, windowAnswer, lastOf, plainAnswer, Plain, plainFeed, plainAnswers, plainHeld, elementsOf, IsElement, IsNewest, elementsUpTo, EndsInFrames, SameWindow}
 use Rattle.timecode.specs.declared.Answer.{Answer}
 use Rattle.timecode.specs.declared.Answer.the-variants.{Quiet, Report}
 use Rattle.timecode.specs.declared.Format.{Format}
-use Rattle.timecode.specs.declared.Reading.the-variants.{Accepted}
 use Rattle.timecode.specs.declared.Refusal.{Refusal}
 use Rattle.timecode.specs.declared.Time.{Time}
 
@@ -86,18 +84,6 @@ unfolding lastOf
 length-last k xs h = length-drop (length xs - k) xs ∙ omega arith
 
 -- ---- exactly when a report comes
-
--- The list ends in a mark and two accepted frames, the second's time next after the first's. The second's time and control word are t and w.
-pub record EndsInFrames (f : Format) (held : List ℕ) (t : Time) (w : ℕ) : Type 0 where
-  pub before : List ℕ
-  pub first : List ℕ
-  pub second : List ℕ
-  pub first-time : Time
-  pub first-control : ℕ
-  pub held-is : held ≡ before ++ (2 ∷ (first ++ second))
-  pub first-accepted : readOf f first ≡ Accepted first-time first-control
-  pub second-accepted : readOf f second ≡ Accepted t w
-  pub next : nextAfter f first-time t ≡ true
 
 -- a window is its first symbol and its two frames
 window-parts : (f : Format) (window : List ℕ) → length window ≡ windowLength f → window ≡ getD window 0 0 ∷ (frameIn f window 0 ++ frameIn f window 1)
@@ -188,12 +174,6 @@ window-positive : (f : Format) → 1 ≤ windowLength f
 unfolding windowLength
 window-positive f = omega arith
 
--- both lists have a window, and it is the same
-pub record SameWindow (f : Format) (xs ys : List ℕ) : Type 0 where
-  pub first-long : windowLength f ≤ length xs
-  pub second-long : windowLength f ≤ length ys
-  pub same : lastOf (windowLength f) xs ≡ lastOf (windowLength f) ys
-
 pub same-answer : (f : Format) (xs ys : List ℕ) → SameWindow f xs ys → plainAnswer f xs ≡ plainAnswer f ys
 same-answer f xs ys w = answer-long f xs (w .first-long) ∙ ap (windowAnswer f) (w .same) ∙ sym (answer-long f ys (w .second-long))
 
@@ -241,3 +221,31 @@ answer-at f held (s ∷ ss) none a zero b = rw (feed-accepts f held s (a 0 (omeg
 answer-at f held (s ∷ ss) none a (suc i) b =
     rw (feed-accepts f held s (a 0 (omega arith)))
     (answer-at f (held ++ (s ∷ [])) ss none (λ k c. a (suc k) (omega arith)) i (omega arith) ∙ ap (plainAnswer f) (append-assoc held (s ∷ []) (take (suc i) ss)))
+
+-- the same where Feeds are refused: each is answered by the elements before it and its own symbol
+pub feed-at : (f : Format) (held ss : List ℕ) (none : Answer) (i : ℕ) → i < length ss → getD (plainAnswers f held ss) i none ≡ plainFeed f (held ++ elementsOf (take i ss)) (getD ss i 0) .answer
+unfolding plainAnswers
+feed-at f held [] none i b = absurd (not-suc-le-zero b)
+feed-at f held (s ∷ ss) none zero b = ap (λ (xs : List ℕ). plainFeed f xs s .answer) (sym (append-nil held))
+feed-at f held (s ∷ ss) none (suc i) b =
+    feed-at f (plainFeed f held s .held) ss none i (omega arith) ∙ ap (λ (xs : List ℕ). plainFeed f xs (getD ss i 0) .answer) (held-step f held (take i ss) s)
+
+-- ---- the elements by the index of their Feeds
+
+pub elements-next : (ss : List ℕ) (i : ℕ) → IsElement ss i → elementsUpTo ss i ≡ elementsOf (take i ss) ++ (getD ss i 0 ∷ [])
+elements-next [] i e = absurd (not-suc-le-zero (e .0))
+elements-next (s ∷ ss) zero e = rw (le-leb s 3 (e .1))
+elements-next (s ∷ ss) (suc i) e =
+    let later : elementsUpTo ss i ≡ elementsOf (take i ss) ++ (getD ss i 0 ∷ []) = elements-next ss i (omega (arith, e .0), e .1) in
+    by-test (isSymbol s) (λ y. rw y (ap (λ (xs : List ℕ). s ∷ xs) later)) (λ m. rw m later)
+
+none-accepted : (ss : List ℕ) → ((k : ℕ) → k < length ss → 3 < getD ss k 0) → elementsOf ss ≡ []
+none-accepted [] h = refl
+none-accepted (s ∷ ss) h = rw (lt-leb s 3 (h 0 (omega arith))) (none-accepted ss (λ k b. h (suc k) (omega arith)))
+
+pub elements-to-newest : (ss : List ℕ) (i : ℕ) → IsNewest ss i → elementsUpTo ss i ≡ elementsOf ss
+elements-to-newest [] i n = absurd (not-suc-le-zero (n .0 .0))
+elements-to-newest (s ∷ ss) zero n = ap (λ (xs : List ℕ). cond (isSymbol s) (s ∷ xs) xs) (sym (none-accepted ss (λ k b. n .1 (suc k) (omega arith) (omega arith))))
+elements-to-newest (s ∷ ss) (suc i) n =
+    ap (λ (xs : List ℕ). cond (isSymbol s) (s ∷ xs) xs)
+    (elements-to-newest ss i ((omega (arith, n .0 .0), n .0 .1), λ k a b. n .1 (suc k) (omega arith) (omega arith)))

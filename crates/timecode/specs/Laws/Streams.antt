@@ -11,10 +11,10 @@ use lib.Dec.{leb, ltb, eqb}
 use lib.ListN.{getD, length, take, drop, set, length-append, length-drop, length-set}
 use lib.Seq.{getD-take, getD-drop, length-take-le, getD-set-same, getD-set-other, getD-append-add}
 use Rattle.timecode.specs.Formats.{member, size}
-use Rattle.timecode.specs.Frames.{Sent, Generator, elements}
+use Rattle.timecode.specs.Frames.{Sent, Generator, elements, sentAt, EndsFrame}
 use Rattle.timecode.specs.Laws.Checks.{quiet-no-report}
 use Rattle.timecode.specs.Laws.Damage.{Near, no-false-time, intact}
-use Rattle.timecode.specs.Laws.Generators.{sentAt, length-elements, element-small, EndsFrame}
+use Rattle.timecode.specs.Laws.Generators.{length-elements, element-small}
 use Rattle.timecode.specs.Laws.Machine.{window-long, answer-long, answer-short, answer-quiet, answer-at}
 use Rattle.timecode.specs.Laws.Tests.{by-test, clash, and-left, neither-first, neither-second}
 use Rattle.timecode.specs.Laws.Windows.{window-confirmed, confirmed-window}
