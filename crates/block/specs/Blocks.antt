@@ -4,8 +4,9 @@ use mathlib.Core.List.{List, [], _∷_, _++_, map}
 use Prim.Native.Nat.{ℕ, zero, suc}
 use lib.Dec.{eqb}
 use lib.IntN.{pos}
-use lib.ListN.{length, take, drop}
+use lib.ListN.{getD, length, take, drop}
 use Rattle.timecode.specs.Answers.{check, Said, said, refused}
+use Rattle.timecode.specs.Layout.{tabulate}
 use Rattle.timecode.specs.declared.Answer.{Answer}
 use Rattle.timecode.specs.declared.Answer.the-variants.{Quiet, Report}
 use Rattle.timecode.specs.declared.Time.{Time}
@@ -87,6 +88,22 @@ controlOf r = r .control
 
 abbrev pub listsLeft : Block → Lists → Lists
 listsLeft b l = lists (fieldLeft indexOf b (l .indexes)) (fieldLeft dayOf b (l .days)) (fieldLeft hundredthsOf b (l .hundredths)) (fieldLeft controlOf b (l .controls))
+
+-- ---- what a caller reads from the list afterwards
+
+-- record number k of the lent list
+unfoldable pub recordAt : Lists → ℕ → Reported
+recordAt l k = reportAt (getD (l .indexes) k 0) (record { day = getD (l .days) k 0; hundredths = getD (l .hundredths) k 0 }) (getD (l .controls) k 0)
+
+-- its first n records
+abbrev pub recordsIn : ℕ → Lists → List Reported
+recordsIn n l = tabulate n 0 (recordAt l)
+
+-- the answers to n symbols, the first at index i: a report where a record has the index, else Quiet
+abbrev pub answersFrom : ℕ → ℕ → List Reported → List Answer
+answersFrom i zero rs = []
+answersFrom i (suc n) [] = Quiet ∷ answersFrom (suc i) n []
+answersFrom i (suc n) (r ∷ rs) = cond (eqb (r .index) i) (Report (r .time) (r .control) ∷ answersFrom (suc i) n rs) (Quiet ∷ answersFrom (suc i) n (r ∷ rs))
 
 -- ---- the call
 

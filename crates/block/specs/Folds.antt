@@ -1,28 +1,29 @@
--- A block equals feeding its symbols singly; parts of a block fed one after the other equal the whole; demand 3 of blocks.
+-- A block equals feeding its symbols singly; parts of a block fed one after the other equal the whole; what a refused block leaves; its answers from its records.
 use mathlib.Core.Path.{_≡_, refl, sym, ap, ap₂, _∙_}
 use mathlib.Core.Bool.{true}
 use mathlib.Core.List.{List, [], _∷_, _++_, append-assoc, map}
 use Prim.Native.Nat.{ℕ, zero, suc, _+_, _-_, _<_, _≤_}
 use native.Mathlib.Nat.{zero-add, suc-add, not-suc-le-zero}
 use native.Mathlib.Omega.{arith}
-use borrow.Author.Tests.{leb-true, leb-false}
-use lib.ListN.{getD, length, take, drop, length-map, List·getD-append}
-use lib.Seq.{getD-append-add, getD-drop, length-take-le, take-append-le, take-append-add}
+use borrow.Author.Tests.{leb-true, leb-false, eq-eqb, ne-eqb}
+use lib.ListN.{getD, length, take, drop, length-map, List·getD-append, List·getD-map}
+use lib.Seq.{ext-getD, getD-take, getD-append-add, getD-drop, length-take-le, take-append-le, take-append-add}
 use Rattle.timecode.specs.Answers.{refusal}
-use Rattle.timecode.specs.Formats.{isSymbol, known}
+use Rattle.timecode.specs.Formats.{isSymbol}
 use Rattle.timecode.specs.Laws.Checks.{refused-no-report}
+use Rattle.timecode.specs.Laws.Runs.{length-tabulate, getD-tabulate}
 use Rattle.timecode.specs.Laws.Tests.{by-test}
-use Rattle.timecode.specs.Stream.{plainAnswers}
+use Rattle.timecode.specs.Layout.{tabulate}
 use Rattle.timecode.specs.declared.Answer.{Answer}
 use Rattle.timecode.specs.declared.Answer.the-variants.{Quiet, Report}
-use Rattle.timecode.specs.declared.Format.{Format}
 use Rattle.timecode.specs.declared.Refusal.{Refusal}
 use Rattle.timecode.specs.declared.Time.{Time}
-use Rattle.stream.specs.Feeding.{freshReader, isValid, answerOf}
-use Rattle.stream.specs.Refinement.{answers, readerAfter, answers-are-plain}
+use Rattle.stream.specs.Feeding.{isValid, answerOf}
+use Rattle.stream.specs.Refinement.{answers, readerAfter}
 use Rattle.stream.specs.declared.Reader.{Reader}
 use Rattle.stream.specs.FeedLists.{answers-append, reader-append, length-answers, answers-take, answers-at, valid-after, refused-above, quiet-no-refusal, above-refused}
-use Rattle.block.specs.Blocks.{Reported, reportAt, Block, stopped, onward, blockIn, blockOf, fieldLeft}
+use Rattle.block.specs.Blocks.{Reported, reportAt, Block, onward, blockIn, blockOf, Lists, areRecords, fieldLeft, indexOf, dayOf, hundredthsOf, controlOf, listsLeft, recordAt, recordsIn, answersFrom, blockFor, blockAnswer, feedBlockOf}
+use Rattle.block.specs.declared.BlockAnswer.{BlockAnswer}
 use Rattle.block.specs.declared.Stop.{Stop}
 use Rattle.block.specs.declared.Stop.the-variants.{AllTaken, UnknownSymbol, NoRoom}
 
@@ -239,48 +240,68 @@ split-reader r room ss rs = rw (split-block r room ss rs) (by-stop (first .stop)
     by-stop UnknownSymbol e = front
     by-stop NoRoom e = front
 
--- ---- demand 3 of blocks
+taken-not-refused : (taken reports : ℕ) (why : Stop) (x : Refusal) → BlockAnswer.Taken taken reports why ≡ BlockAnswer.Refused x → ⊥
+taken-not-refused taken reports why x h = let n : _≡_ {A = ℕ} 0 1 = cc in omega arith
 
--- a block of symbols, and the room for its reports
-pub record Part : Type 0 where
-  pub symbols : List ℕ
-  pub room : ℕ
+-- ---- demand 1: a refused block leaves the reader and the four lists as they were
 
--- Blocks one after the other, k symbols taken before them: each takes the reader that the block before gave back. The symbols that were taken, and the reports, their indexes counted over all that were taken.
-unfoldable pub takenOver : Reader → List Part → List ℕ
-takenOver r [] = []
-takenOver r (p ∷ ps) = take (blockOf r (p .room) (p .symbols) .taken) (p .symbols) ++ takenOver (readerAfter r (take (blockOf r (p .room) (p .symbols) .taken) (p .symbols))) ps
+pub refused-block-leaves : (r : Reader) (ss : List ℕ) (l : Lists) (x : Refusal) → feedBlockOf r ss l .answer ≡ BlockAnswer.Refused x → (feedBlockOf r ss l .reader ≡ r) × (listsLeft (blockFor r ss l) l ≡ l)
+unfolding feedBlockOf blockAnswer blockFor fieldLeft readerAfter
+refused-block-leaves r ss l x h =
+    by-test (isValid r)
+    (λ v.
+    by-test (areRecords l)
+    (λ y. absurd (taken-not-refused _ _ _ x (rw (v, y) at h)))
+    (λ n. rw (v, n) (refl, refl)))
+    (λ n. rw n (refl, refl))
 
-unfoldable pub reportsOver : ℕ → Reader → List Part → List Reported
-reportsOver k r [] = []
-reportsOver k r (p ∷ ps) =
-    later k (blockOf r (p .room) (p .symbols)) .reports
-    ++ reportsOver (k + blockOf r (p .room) (p .symbols) .taken) (readerAfter r (take (blockOf r (p .room) (p .symbols) .taken) (p .symbols))) ps
+-- ---- the answers to the symbols of a block, from its records
 
-reports-append : (i : ℕ) (as′ bs : List Answer) → reportsIn i (as′ ++ bs) ≡ reportsIn i as′ ++ reportsIn (i + length as′) bs
-reports-append i [] bs = let here : i + 0 ≡ i = omega arith in rw here
-reports-append i (Quiet ∷ as′) bs = let place : i + suc (length as′) ≡ suc i + length as′ = omega arith in rw place (reports-append (suc i) as′ bs)
-reports-append i (Report t w ∷ as′) bs = let place : i + suc (length as′) ≡ suc i + length as′ = omega arith in rw place (ap (λ (rs : List Reported). reportAt i t w ∷ rs) (reports-append (suc i) as′ bs))
-reports-append i (Answer.Refused x ∷ as′) bs = let place : i + suc (length as′) ≡ suc i + length as′ = omega arith in rw place (reports-append (suc i) as′ bs)
+-- The first records are the reports.
+pub records-are-reports : (b : Block) (l : Lists) → recordsIn (length (b .reports)) (listsLeft b l) ≡ b .reports
+unfolding recordAt
+records-are-reports b l =
+    ext-getD noReport (tabulate n 0 (recordAt (listsLeft b l))) (b .reports) (length-tabulate n 0 (recordAt (listsLeft b l)))
+    (λ k h.
+    let inside : k < length (b .reports) = omega (arith, length-tabulate n 0 (recordAt (listsLeft b l))) in
+    getD-tabulate n 0 (recordAt (listsLeft b l)) noReport k inside
+    ∙ ap (recordAt (listsLeft b l)) (zero-add k)
+    ∙ rw (put-at indexOf refl (l .indexes) k inside, put-at dayOf refl (l .days) k inside, put-at hundredthsOf refl (l .hundredths) k inside, put-at controlOf refl (l .controls) k inside))
+  where
+    n : ℕ
+    n = length (b .reports)
 
--- The reports of blocks are those of single Feeds of the symbols that they took.
-pub blocks-are-feeds : (k : ℕ) (r : Reader) (ps : List Part) → reportsOver k r ps ≡ reportsIn k (answers r (takenOver r ps))
-unfolding takenOver reportsOver answers
-blocks-are-feeds k r [] = refl
-blocks-are-feeds k r (p ∷ ps) =
-    let b = blockOf r (p .room) (p .symbols) in
-    let ss = take (b .taken) (p .symbols) in
-    let next = readerAfter r ss in
-    let here : k + 0 ≡ k = omega arith in
-    let takes = block-takes k (p .room) (answers r (p .symbols)) in
-    let same : later k b ≡ blockIn k (p .room) (answers r (p .symbols)) = rw here at (block-later k 0 (p .room) (answers r (p .symbols))) in
-    let first : later k b .reports ≡ reportsIn k (answers r ss) = rw (sym same) at (takes .reported) ∙ ap (reportsIn k) (sym (answers-take r (p .symbols) (b .taken))) in
-    let long : length (answers r ss) ≡ b .taken = length-answers r ss ∙ length-take-le (b .taken) (p .symbols) (omega (arith, block-takes 0 (p .room) (answers r (p .symbols)) .within, length-answers r (p .symbols))) in
-    ap₂ (λ (xs ys : List Reported). xs ++ ys) first (blocks-are-feeds (k + b .taken) next ps)
-    ∙ ap (λ (n : ℕ). reportsIn k (answers r ss) ++ reportsIn (k + n) (answers next (takenOver next ps))) (sym long)
-    ∙ sym (reports-append k (answers r ss) (answers next (takenOver next ps)))
-    ∙ sym (ap (reportsIn k) (answers-append r ss (takenOver next ps)))
+    noReport : Reported
+    noReport = reportAt 0 (record { day = 0; hundredths = 0 }) 0
 
--- From a fresh reader they are the plain machine's.
-pub blocks-are-plain : (f : Format) → known f ≡ true → (ps : List Part) → reportsOver 0 (freshReader f) ps ≡ reportsIn 0 (plainAnswers f [] (takenOver (freshReader f) ps))
-blocks-are-plain f k ps = blocks-are-feeds 0 (freshReader f) ps ∙ ap (reportsIn 0) (answers-are-plain f k (takenOver (freshReader f) ps))
+    put-at : (field : Reported → ℕ) → field noReport ≡ 0 → (entries : List ℕ) (k : ℕ) → k < length (b .reports) → getD (fieldLeft field b entries) k 0 ≡ field (getD (b .reports) k noReport)
+    put-at field z entries k h = left-first field b entries k h ∙ ap (getD (map field (b .reports)) k) (sym z) ∙ List·getD-map field (b .reports) k noReport
+
+quiet-before : (i j n : ℕ) (as′ : List Answer) → i < j → answersFrom i (suc n) (reportsIn j as′) ≡ Quiet ∷ answersFrom (suc i) n (reportsIn j as′)
+quiet-before i j n [] h = refl
+quiet-before i j n (Quiet ∷ as′) h = quiet-before i (suc j) n as′ (omega arith)
+quiet-before i j n (Report t w ∷ as′) h = rw (ne-eqb j i (λ e. let no : ⊥ = omega arith in no))
+quiet-before i j n (Answer.Refused x ∷ as′) h = quiet-before i (suc j) n as′ (omega arith)
+
+-- Where none is refused, the reports with their indexes give all answers back.
+pub answers-from-reports : (i : ℕ) (as′ : List Answer) → ((k : ℕ) → k < length as′ → (x : Refusal) (none : Answer) → getD as′ k none ≡ Answer.Refused x → ⊥) → answersFrom i (length as′) (reportsIn i as′) ≡ as′
+answers-from-reports i [] h = refl
+answers-from-reports i (Quiet ∷ as′) h =
+    quiet-before i (suc i) (length as′) as′ (omega arith) ∙ ap (λ (xs : List Answer). Quiet ∷ xs) (answers-from-reports (suc i) as′ (λ k b. h (suc k) (omega arith)))
+answers-from-reports i (Report t w ∷ as′) h = rw (eq-eqb i i refl) (ap (λ (xs : List Answer). Report t w ∷ xs) (answers-from-reports (suc i) as′ (λ k b. h (suc k) (omega arith))))
+answers-from-reports i (Answer.Refused x ∷ as′) h = absurd (h 0 (omega arith) x Quiet refl)
+
+-- The symbols that a block takes got the answers of single Feeds.
+pub block-answers : (r : Reader) (room : ℕ) (ss : List ℕ) (l : Lists)
+    → answersFrom 0 (blockOf r room ss .taken) (recordsIn (length (blockOf r room ss .reports)) (listsLeft (blockOf r room ss) l)) ≡ answers r (take (blockOf r room ss .taken) ss)
+block-answers r room ss l =
+    let b = blockOf r room ss in
+    let takes = block-takes 0 room (answers r ss) in
+    let long : length (take (b .taken) (answers r ss)) ≡ b .taken = length-take-le (b .taken) (answers r ss) (takes .within) in
+    ap (answersFrom 0 (b .taken)) (records-are-reports b l ∙ takes .reported)
+    ∙ ap (λ (k : ℕ). answersFrom 0 k (reportsIn 0 (take (b .taken) (answers r ss)))) (sym long)
+    ∙ answers-from-reports 0 (take (b .taken) (answers r ss))
+    (λ k h x none e.
+    let inside : k < b .taken = omega arith in
+    takes .refused-none k inside x none (sym (getD-take (b .taken) (answers r ss) k none inside) ∙ e))
+    ∙ sym (answers-take r ss (b .taken))

@@ -1,5 +1,6 @@
 -- Document 01's third call of the classifier: one pulse classified and fed, number 10, then those of Feed.
 use mathlib.Core.Path.{_≡_}
+use mathlib.Core.Bool.{true}
 use Prim.Native.Nat.{ℕ, _*_, _≤_}
 use native.Mathlib.Omega.{arith}
 use Rattle.timecode.specs.Answers.{check}
@@ -9,6 +10,7 @@ use Rattle.timecode.specs.declared.Answer.{Answer}
 use Rattle.timecode.specs.declared.Classified.{Classified}
 use Rattle.timecode.specs.declared.Classified.the-variants.{Symbol}
 use Rattle.timecode.specs.declared.Refusal.{Refusal}
+use Rattle.stream.specs.FeedLists.{refused-feed-same-reader}
 use Rattle.stream.specs.Feeding.{feedOf}
 use Rattle.stream.specs.declared.Fed.{Fed}
 use Rattle.stream.specs.declared.Reader.{Reader}
@@ -43,3 +45,16 @@ symbol-small T width period =
     (λ b. rw b
     (by-test (within (75 * T) (85 * T) (100 * width)) (λ d. rw d (omega arith)) (λ d. rw d (omega arith))))))))
     (λ n. rw n (omega arith))
+
+-- A pulse whose interval is in range is the Feed of its symbol.
+pub pulse-is-fed : (r : Reader) (T width period : ℕ) → isInterval T ≡ true → feedPulseOf r T width period ≡ feedOf r (symbolOf T width period)
+unfolding feedPulseOf
+pulse-is-fed r T width period h = rw h
+
+-- Demand 1: a refused pulse hands back the same reader, whatever it refuses with.
+pub refused-pulse-same-reader : (r : Reader) (T width period : ℕ) (x : Refusal) → feedPulseOf r T width period .answer ≡ Answer.Refused x → feedPulseOf r T width period .reader ≡ r
+unfolding feedPulseOf
+refused-pulse-same-reader r T width period x h =
+    by-test (isInterval T)
+    (λ y. rw y (refused-feed-same-reader r (symbolOf T width period) x (rw y at h)))
+    (λ n. rw n)

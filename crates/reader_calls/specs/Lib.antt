@@ -1,0 +1,2 @@
+pub mod ReaderCalls
+pub mod MixedCalls
