@@ -1,27 +1,33 @@
--- A C program's reader: its ten words give the reader back, and the answers to any list of its Feeds are the plain machine's.
-use mathlib.Core.Path.{_≡_, refl, sym, ap, subst, _∙_}
+-- A C program's reader: its ten words give the reader back, and demand 3 holds of any list of calls on them.
+use mathlib.Core.Path.{_≡_, refl, sym, ap, ap₂, subst, _∙_}
 use mathlib.Core.Bool.{true, false, _&&_}
-use mathlib.Core.List.{List, [], _∷_}
+use mathlib.Core.List.{List, [], _∷_, _++_}
 use Prim.Native.Nat.{ℕ, _<_, _≤_}
-use borrow.Author.Tests.{lt-ltb, le-ltb, ltb-true}
-use lib.Dec.{ltb, eqb}
+use borrow.Author.Tests.{lt-ltb, le-ltb, ltb-true, ne-eqb}
+use lib.Dec.{ltb}
 use lib.ListN.{getD}
 use Rattle.timecode.specs.Answers.{answerSaid}
-use Rattle.timecode.specs.Calls.{symbolOf, isInterval}
+use Rattle.timecode.specs.Demand3.{Demand3, SameAnswers, demand-3, two-readers}
 use Rattle.timecode.specs.Formats.{isSymbol, known, lookUp, rowOf, table}
-use Rattle.timecode.specs.Frames.{nextAfter, readOf}
 use Rattle.timecode.specs.Laws.Table.{everyFormat, of-every}
 use Rattle.timecode.specs.Laws.Tests.{by-test, clash, and-left, and-right}
-use Rattle.timecode.specs.Stream.{confirm, frameIn, plainAnswers, windowAnswer}
+use Rattle.timecode.specs.Stream.{plainAnswers, elementsOf, SameWindow}
 use Rattle.timecode.specs.declared.Answer.{Answer}
+use Rattle.timecode.specs.declared.Answer.the-variants.{Quiet, Report}
 use Rattle.timecode.specs.declared.Format.{Format}
-use Rattle.timecode.specs.declared.Reading.{Reading}
-use Rattle.timecode.specs.declared.Reading.the-variants.{Accepted}
+use Rattle.timecode.specs.declared.Refusal.{Refusal}
+use Rattle.stream.specs.FeedLists.{refused-feed-same-reader}
 use Rattle.stream.specs.Feeding.{freshReader, madeOf, isValid, nextOf, answerOf, feedOf}
-use Rattle.stream.specs.Refinement.{answers, readerAfter, answers-are-plain}
+use Rattle.stream.specs.Refinement.{readerAfter}
 use Rattle.stream.specs.declared.Reader.{Reader}
-use Rattle.pulse_feed.specs.Pulses.{feedPulseOf}
-use Rattle.border.specs.Border.{formatOf, fedSaid, wordsFor, byteIn, readerIn, freshLeft, feedWords, feedPulseWords, wordsLeft}
+use Rattle.block.specs.Blocks.{Lists, listsLeft, blockSaid, blockFor, feedBlockOf}
+use Rattle.block.specs.Folds.{refused-block-leaves}
+use Rattle.block.specs.declared.BlockAnswer.{BlockAnswer}
+use Rattle.pulse_feed.specs.Pulses.{feedPulseOf, refused-pulse-same-reader}
+use Rattle.reader_calls.specs.MixedCalls.{call-reader, calls-are-plain}
+use Rattle.reader_calls.specs.ReaderCalls.{Call, symbol, symbolInPlace, pulse, block, Result, symbolResult, inPlaceResult, pulseResult, blockResult, symbolsFed, allFed, allAnswers, resultOf, readerOf, results, readerAfterCalls, plainResults}
+use Rattle.border.specs.Border.{unlessRefused, formatOf, fedSaid, fedWith, wordsFor, byteIn, readerIn, freshLeft, feedWords, feedPulseWords, wordsLeft, feedBlockWords, blockWordsLeft}
+use Rattle.border.specs.Laws.{refusal-numbered}
 
 -- ---- packed and unpacked
 
@@ -57,85 +63,128 @@ pub expression-above-255 : (words : List ℕ) (s : ℕ) → 256 ≤ getD words 1
 unfolding feedOf answerOf isValid readerIn byteIn
 expression-above-255 words s h = rw (le-ltb (getD words 1 0) 256 h, no-expression (byteIn (getD words 0 0)))
 
--- ---- one Feed
+-- ---- calls in any mix: each takes the words that the call before left
 
--- a window is never refused
-confirmed : (f : Format) (first second : Reading) → eqb (answerSaid (confirm f first second) .number) 0 ≡ true
-unfolding confirm
-confirmed f (Accepted t v) (Accepted u w) = by-test (nextAfter f t u) (λ y. rw y) (λ n. rw n)
-confirmed f (Accepted t v) (Reading.Refused x) = refl
-confirmed f (Reading.Refused x) second = refl
+abbrev pub wordsResult : List ℕ → Call → Result
+wordsResult words (symbol s) = symbolResult s (feedWords words s .answer)
+wordsResult words (symbolInPlace s) = inPlaceResult s (feedWords words s .answer)
+wordsResult words (pulse T width period) = pulseResult T width period (feedPulseWords words T width period .answer)
+wordsResult words (block ss l) = blockResult ss l (feedBlockWords words ss l .answer) (listsLeft (blockFor (readerIn words) ss l) l)
 
-not-refused : (f : Format) (window : List ℕ) → eqb (answerSaid (windowAnswer f window) .number) 0 ≡ true
-unfolding windowAnswer
-not-refused f window =
-    by-test (eqb (getD window 0 0) 2)
-    (λ y. rw y (confirmed f (readOf f (frameIn f window 0)) (readOf f (frameIn f window 1))))
-    (λ n. rw n)
+abbrev pub wordsAfter : List ℕ → Call → List ℕ
+wordsAfter words (symbol s) = wordsLeft (feedWords words s) words
+wordsAfter words (symbolInPlace s) = wordsLeft (feedWords words s) words
+wordsAfter words (pulse T width period) = wordsLeft (feedPulseWords words T width period) words
+wordsAfter words (block ss l) = blockWordsLeft (feedBlockWords words ss l) words
 
--- the words after a Feed are those of the reader that it gives back, refused or not
-left-words : (r : Reader) (s : ℕ) → wordsLeft (feedOf r s) (wordsFor r) ≡ wordsFor (feedOf r s .reader)
-unfolding feedOf nextOf answerOf
-left-words r s =
-    by-test (isValid r)
-    (λ v. rw v
-    (by-test (isSymbol s)
-    (λ y. rw (y, not-refused (r .format) _))
-    (λ n. rw n)))
-    (λ v. rw v)
+unfoldable pub wordsResults : List ℕ → List Call → List Result
+wordsResults words [] = []
+wordsResults words (c ∷ cs) = wordsResult words c ∷ wordsResults (wordsAfter words c) cs
 
-format-kept : (r : Reader) (s : ℕ) → feedOf r s .reader .format ≡ r .format
-unfolding feedOf nextOf
-format-kept r s = by-test (isValid r && isSymbol s) (λ y. rw y) (λ n. rw n)
+unfoldable pub wordsAfterCalls : List ℕ → List Call → List ℕ
+wordsAfterCalls words [] = words
+wordsAfterCalls words (c ∷ cs) = wordsAfterCalls (wordsAfter words c) cs
 
--- ---- a list of Feeds: each takes the words that the Feed before left
+-- the number that a call returns
+abbrev pub numberGiven : Result → ℕ
+numberGiven (symbolResult s a) = answerSaid a .number
+numberGiven (inPlaceResult s a) = answerSaid a .number
+numberGiven (pulseResult T width period a) = answerSaid a .number
+numberGiven (blockResult ss l a left) = blockSaid a .number
 
-unfoldable pub borderAnswers : List ℕ → List ℕ → List Answer
-borderAnswers words [] = []
-borderAnswers words (s ∷ ss) = feedWords words s .answer ∷ borderAnswers (wordsLeft (feedWords words s) words) ss
+-- Demand 1: a call that refuses, on any words, leaves the words as they were,
+pub refused-call-leaves-words : (words : List ℕ) (c : Call) → (numberGiven (wordsResult words c) ≡ 0 → ⊥) → wordsAfter words c ≡ words
+refused-call-leaves-words words (symbol s) h = rw (ne-eqb (fedSaid (feedWords words s) .number) 0 h)
+refused-call-leaves-words words (symbolInPlace s) h = rw (ne-eqb (fedSaid (feedWords words s) .number) 0 h)
+refused-call-leaves-words words (pulse T width period) h = rw (ne-eqb (fedSaid (feedPulseWords words T width period) .number) 0 h)
+refused-call-leaves-words words (block ss l) h = rw (ne-eqb (blockSaid (feedBlockWords words ss l .answer) .number) 0 h)
 
-unfoldable pub wordsAfter : List ℕ → List ℕ → List ℕ
-wordsAfter words [] = words
-wordsAfter words (s ∷ ss) = wordsAfter (wordsLeft (feedWords words s) words) ss
+-- and a block the lists too.
+pub refused-block-leaves-lists : (words ss : List ℕ) (l : Lists) (x : Refusal) → feedBlockWords words ss l .answer ≡ BlockAnswer.Refused x → listsLeft (blockFor (readerIn words) ss l) l ≡ l
+refused-block-leaves-lists words ss l x h = refused-block-leaves (readerIn words) ss l x h .1
 
-pub answers-of-words : (r : Reader) → AreBytes (r .format) → (ss : List ℕ) → borderAnswers (wordsFor r) ss ≡ answers r ss
-unfolding borderAnswers answers
-answers-of-words r h [] = refl
-answers-of-words r h (s ∷ ss) =
-    rw (packed-back r h, left-words r s)
-    (ap (λ (as′ : List Answer). feedOf r s .answer ∷ as′) (answers-of-words (feedOf r s .reader) (subst AreBytes (sym (format-kept r s)) h) ss))
+-- ---- the words after a call are those of the reader that it gives back, refused or not
 
-pub words-of-reader : (r : Reader) → AreBytes (r .format) → (ss : List ℕ) → wordsAfter (wordsFor r) ss ≡ wordsFor (readerAfter r ss)
-unfolding wordsAfter readerAfter
+left-fed : (r next : Reader) (a : Answer) → ((x : Refusal) → a ≡ Answer.Refused x → next ≡ r) → wordsLeft (fedWith next a) (wordsFor r) ≡ wordsFor next
+left-fed r next Quiet h = refl
+left-fed r next (Report t w) h = refl
+left-fed r next (Answer.Refused x) h = rw (refusal-numbered x) (ap wordsFor (sym (h x refl)))
+
+left-block : (r next : Reader) (a : BlockAnswer) → ((x : Refusal) → a ≡ BlockAnswer.Refused x → next ≡ r) → unlessRefused (blockSaid a) (wordsFor next) (wordsFor r) ≡ wordsFor next
+left-block r next (BlockAnswer.Taken taken reports why) h = refl
+left-block r next (BlockAnswer.Refused x) h = rw (refusal-numbered x) (ap wordsFor (sym (h x refl)))
+
+left-words : (r : Reader) (c : Call) → AreBytes (r .format) → wordsAfter (wordsFor r) c ≡ wordsFor (readerOf r c)
+left-words r (symbol s) h = rw (packed-back r h) (left-fed r (feedOf r s .reader) (feedOf r s .answer) (refused-feed-same-reader r s))
+left-words r (symbolInPlace s) h = rw (packed-back r h) (left-fed r (feedOf r s .reader) (feedOf r s .answer) (refused-feed-same-reader r s))
+left-words r (pulse T width period) h =
+    rw (packed-back r h) (left-fed r (feedPulseOf r T width period .reader) (feedPulseOf r T width period .answer) (refused-pulse-same-reader r T width period))
+left-words r (block ss l) h = rw (packed-back r h) (left-block r (feedBlockOf r ss l .reader) (feedBlockOf r ss l .answer) (λ x e. refused-block-leaves r ss l x e .0))
+
+format-kept : (r : Reader) (ss : List ℕ) → readerAfter r ss .format ≡ r .format
+unfolding readerAfter feedOf nextOf
+format-kept r [] = refl
+format-kept r (s ∷ ss) = format-kept (nextOf r s) ss ∙ by-test (isValid r && isSymbol s) (λ y. rw y) (λ n. rw n)
+
+bytes-kept : (r : Reader) (c : Call) → AreBytes (r .format) → AreBytes (readerOf r c .format)
+bytes-kept r c h = subst (λ (q : Reader). AreBytes (q .format)) (sym (call-reader r c)) (subst AreBytes (sym (format-kept r (symbolsFed (resultOf r c)))) h)
+
+-- ---- so the words give the results of their reader
+
+result-of-words : (r : Reader) (c : Call) → AreBytes (r .format) → wordsResult (wordsFor r) c ≡ resultOf r c
+result-of-words r (symbol s) h = rw (packed-back r h)
+result-of-words r (symbolInPlace s) h = rw (packed-back r h)
+result-of-words r (pulse T width period) h = rw (packed-back r h)
+result-of-words r (block ss l) h = rw (packed-back r h)
+
+pub results-of-words : (r : Reader) → AreBytes (r .format) → (cs : List Call) → wordsResults (wordsFor r) cs ≡ results r cs
+unfolding wordsResults results
+results-of-words r h [] = refl
+results-of-words r h (c ∷ cs) =
+    ap₂ (λ (x : Result) (xs : List Result). x ∷ xs) (result-of-words r c h) (ap (λ (words : List ℕ). wordsResults words cs) (left-words r c h) ∙ results-of-words (readerOf r c) (bytes-kept r c h) cs)
+
+pub words-of-reader : (r : Reader) → AreBytes (r .format) → (cs : List Call) → wordsAfterCalls (wordsFor r) cs ≡ wordsFor (readerAfterCalls r cs)
+unfolding wordsAfterCalls readerAfterCalls
 words-of-reader r h [] = refl
-words-of-reader r h (s ∷ ss) =
-    rw (packed-back r h, left-words r s)
-    (words-of-reader (feedOf r s .reader) (subst AreBytes (sym (format-kept r s)) h) ss)
+words-of-reader r h (c ∷ cs) = ap (λ (words : List ℕ). wordsAfterCalls words cs) (left-words r c h) ∙ words-of-reader (readerOf r c) (bytes-kept r c h) cs
 
--- a pulse with an interval in range is the Feed of its symbol
-pub pulse-is-a-feed : (words : List ℕ) (T width period : ℕ) → isInterval T ≡ true → feedPulseWords words T width period ≡ feedWords words (symbolOf T width period)
-unfolding feedPulseOf
-pulse-is-a-feed words T width period h = rw h
-
--- and one with another interval is refused with 10 and leaves the words
-pub refused-pulse : (words : List ℕ) (T width period : ℕ) → isInterval T ≡ false → (fedSaid (feedPulseWords words T width period) .number ≡ 10) × (wordsLeft (feedPulseWords words T width period) words ≡ words)
-unfolding feedPulseOf
-refused-pulse words T width period h = rw h (refl, refl)
-
--- ---- Demand 3, of the words that a C program holds
+-- ---- demand 3, of the words that a C program holds
 
 module _ (letter expression : ℕ) (old : List ℕ) (k : known (formatOf letter expression) ≡ true) where
   abbrev f : Format
   f = formatOf letter expression
 
-  made-words : freshLeft letter expression old ≡ wordsFor (freshReader f)
+  -- the words after duskveyra_fresh, whatever they were before
+  abbrev fresh : List ℕ
+  fresh = freshLeft letter expression old
+
+  made-words : fresh ≡ wordsFor (freshReader f)
   unfolding madeOf
   made-words = rw k
 
-  -- After duskveyra_fresh, whatever the words were before, the answers to any list of duskveyra_feed are the plain machine's, refusals too.
-  pub border-answers-are-plain : (symbols : List ℕ) → borderAnswers (freshLeft letter expression old) symbols ≡ plainAnswers f [] symbols
-  border-answers-are-plain symbols = rw made-words (answers-of-words (freshReader f) (known-bytes f k) symbols ∙ answers-are-plain f k symbols)
+  -- The results of any list of calls in any mix are those of the reader,
+  pub words-results : (cs : List Call) → wordsResults fresh cs ≡ results (freshReader f) cs
+  words-results cs = ap (λ (words : List ℕ). wordsResults words cs) made-words ∙ results-of-words (freshReader f) (known-bytes f k) cs
 
-  -- and the words are those of the reader fed so
-  pub border-words : (symbols : List ℕ) → wordsAfter (freshLeft letter expression old) symbols ≡ wordsFor (readerAfter (freshReader f) symbols)
-  border-words symbols = rw made-words (words-of-reader (freshReader f) (known-bytes f k) symbols)
+  -- so each is the plain machine's, refusals too,
+  pub words-results-are-plain : (cs : List Call) → wordsResults fresh cs ≡ plainResults f [] cs
+  words-results-are-plain cs = words-results cs ∙ calls-are-plain f k cs .each-result
+
+  -- the answers are the plain machine's to the symbols fed,
+  pub words-answers-are-plain : (cs : List Call) → allAnswers (wordsResults fresh cs) ≡ plainAnswers f [] (allFed (wordsResults fresh cs))
+  words-answers-are-plain cs = rw (words-results cs) (calls-are-plain f k cs .all-answers)
+
+  -- and the words afterwards are those of the reader fed so.
+  pub words-after-calls : (cs : List Call) → wordsAfterCalls fresh cs ≡ wordsFor (readerAfterCalls (freshReader f) cs)
+  words-after-calls cs = ap (λ (words : List ℕ). wordsAfterCalls words cs) made-words ∙ words-of-reader (freshReader f) (known-bytes f k) cs
+
+  -- So demand 3 holds of them.
+  pub words-demand-3 : (cs : List Call) (none : Answer) → Demand3 f (allFed (wordsResults fresh cs)) (allAnswers (wordsResults fresh cs)) none
+  words-demand-3 cs = demand-3 f (allFed (wordsResults fresh cs)) (allAnswers (wordsResults fresh cs)) (words-answers-are-plain cs)
+
+  pub two-words-agree : (cs ds : List Call) (ss rs xs : List ℕ) → allFed (wordsResults fresh cs) ≡ ss ++ xs → allFed (wordsResults fresh ds) ≡ rs ++ xs
+      → SameWindow f (elementsOf ss) (elementsOf rs) → (none : Answer) → SameAnswers ss rs (allAnswers (wordsResults fresh cs)) (allAnswers (wordsResults fresh ds)) none
+  two-words-agree cs ds ss rs xs first second =
+      two-readers f ss rs xs (allAnswers (wordsResults fresh cs)) (allAnswers (wordsResults fresh ds))
+      (words-answers-are-plain cs ∙ ap (plainAnswers f []) first)
+      (words-answers-are-plain ds ∙ ap (plainAnswers f []) second)
