@@ -182,9 +182,13 @@ module _ (letter expression : ℕ) (old : List ℕ) (k : known (formatOf letter 
   pub words-demand-3 : (cs : List Call) (none : Answer) → Demand3 f (allFed (wordsResults fresh cs)) (allAnswers (wordsResults fresh cs)) none
   words-demand-3 cs = demand-3 f (allFed (wordsResults fresh cs)) (allAnswers (wordsResults fresh cs)) (words-answers-are-plain cs)
 
-  pub two-words-agree : (cs ds : List Call) (ss rs xs : List ℕ) → allFed (wordsResults fresh cs) ≡ ss ++ xs → allFed (wordsResults fresh ds) ≡ rs ++ xs
-      → SameWindow f (elementsOf ss) (elementsOf rs) → (none : Answer) → SameAnswers ss rs (allAnswers (wordsResults fresh cs)) (allAnswers (wordsResults fresh ds)) none
-  two-words-agree cs ds ss rs xs first second =
-      two-readers f ss rs xs (allAnswers (wordsResults fresh cs)) (allAnswers (wordsResults fresh ds))
-      (words-answers-are-plain cs ∙ ap (plainAnswers f []) first)
-      (words-answers-are-plain ds ∙ ap (plainAnswers f []) second)
+-- Two readers in two memories.
+pub two-words-agree : (letter expression : ℕ) (old other : List ℕ) → known (formatOf letter expression) ≡ true → (cs ds : List Call) (ss rs xs : List ℕ)
+    → allFed (wordsResults (freshLeft letter expression old) cs) ≡ ss ++ xs → allFed (wordsResults (freshLeft letter expression other) ds) ≡ rs ++ xs
+    → SameWindow (formatOf letter expression) (elementsOf ss) (elementsOf rs)
+    → (none : Answer) → SameAnswers ss rs (allAnswers (wordsResults (freshLeft letter expression old) cs)) (allAnswers (wordsResults (freshLeft letter expression other) ds)) none
+two-words-agree letter expression old other k cs ds ss rs xs first second =
+    let f = formatOf letter expression in
+    two-readers f ss rs xs (allAnswers (wordsResults (freshLeft letter expression old) cs)) (allAnswers (wordsResults (freshLeft letter expression other) ds))
+    (words-answers-are-plain letter expression old k cs ∙ ap (plainAnswers f []) first)
+    (words-answers-are-plain letter expression other k ds ∙ ap (plainAnswers f []) second)

@@ -58,7 +58,7 @@ pub record Demand3 (f : Format) (ss : List ℕ) (answers : List Answer) (none : 
       → (i : ℕ) × (i < 3 * size f) × ((j : ℕ) → j < i → getD answers j none ≡ Quiet)
       × (getD answers i none ≡ Report (sentAt sent (start / size f + 2) .time) (sentAt sent (start / size f + 2) .control))
 
--- Two readers fed ss and rs, and both the same symbols after these: the newest elements of ss and rs got the same answer, and so did, refusals too, the symbols after these.
+-- Two readers fed ss and rs, and both the same symbols after these: the newest elements of ss and rs got the same answer (Laws.Machine.newest-exists: where there are elements one is the newest), and so did, refusals too, the symbols after these.
 pub record SameAnswers (ss rs : List ℕ) (first second : List Answer) (none : Answer) : Type 0 where
   pub to-newest : (i j : ℕ) → IsNewest ss i → IsNewest rs j → getD first i none ≡ getD second j none
   pub after : drop (length ss) first ≡ drop (length rs) second

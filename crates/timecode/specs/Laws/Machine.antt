@@ -6,8 +6,8 @@ use mathlib.Core.Logic.{_↔_}
 use Prim.Native.Nat.{ℕ, zero, suc, _+_, _*_, _-_, _<_, _≤_}
 use native.Mathlib.Nat.{not-suc-le-zero}
 use native.Mathlib.Omega.{arith}
-use native.Mathlib.Decide.{decLe}
-use borrow.Author.Tests.{le-leb, lt-leb}
+use native.Mathlib.Decide.{decLe, decLt}
+use borrow.Author.Tests.{leb-true, leb-false, le-leb, lt-leb}
 use lib.ListN.{getD, length, take, drop, length-append, length-drop, take-append-drop}
 use lib.Seq.{drop-cons, drop-drop, drop-at, take-at, take-all, drop-append-le}
 use Rattle.timecode.specs.Answers.{refusal}
@@ -249,3 +249,40 @@ elements-to-newest (s ∷ ss) zero n = ap (λ (xs : List ℕ). cond (isSymbol s)
 elements-to-newest (s ∷ ss) (suc i) n =
     ap (λ (xs : List ℕ). cond (isSymbol s) (s ∷ xs) xs)
     (elements-to-newest ss i ((omega (arith, n .0 .0), n .0 .1), λ k a b. n .1 (suc k) (omega arith) (omega arith)))
+
+none-elements : (ss : List ℕ) → length (elementsOf ss) ≤ 0 → (k : ℕ) → k < length ss → 3 < getD ss k 0
+none-elements [] h k b = absurd (not-suc-le-zero b)
+none-elements (s ∷ ss) h zero b =
+    by-test (isSymbol s)
+    (λ y. let more : suc (length (elementsOf ss)) ≤ 0 = rw y at h in absurd (not-suc-le-zero more))
+    (λ m. leb-false s 3 m)
+none-elements (s ∷ ss) h (suc k) b =
+    by-test (isSymbol s)
+    (λ y. let more : suc (length (elementsOf ss)) ≤ 0 = rw y at h in absurd (not-suc-le-zero more))
+    (λ m. none-elements ss (rw m at h) k (omega arith))
+
+newest-later : (s : ℕ) (ss : List ℕ) (i : ℕ) → IsNewest ss i → IsNewest (s ∷ ss) (suc i)
+newest-later s ss i n = ((omega (arith, n .0 .0), n .0 .1), later)
+  where
+    later : (k : ℕ) → suc i < k → k < suc (length ss) → 3 < getD (s ∷ ss) k 0
+    later zero a b = absurd (not-suc-le-zero a)
+    later (suc k) a b = n .1 k (omega arith) (omega arith)
+
+newest-first : (s : ℕ) (ss : List ℕ) → 0 < length (elementsOf (s ∷ ss)) → length (elementsOf ss) ≤ 0 → IsNewest (s ∷ ss) 0
+newest-first s ss h none = ((omega arith, small), later)
+  where
+    small : s ≤ 3
+    small = by-test (isSymbol s) (λ y. leb-true s 3 y) (λ m. let some : 0 < length (elementsOf ss) = rw m at h in let no : ⊥ = omega arith in absurd no)
+
+    later : (k : ℕ) → 0 < k → k < suc (length ss) → 3 < getD (s ∷ ss) k 0
+    later zero a b = absurd (not-suc-le-zero a)
+    later (suc k) a b = none-elements ss none k (omega arith)
+
+-- where there is an element, there is a newest
+pub newest-exists : (ss : List ℕ) → 0 < length (elementsOf ss) → (i : ℕ) × IsNewest ss i
+newest-exists [] h = absurd (not-suc-le-zero h)
+newest-exists (s ∷ ss) h = go (newest-exists ss) (decLt 0 (length (elementsOf ss)))
+  where
+    go : (0 < length (elementsOf ss) → (i : ℕ) × IsNewest ss i) → Dec (0 < length (elementsOf ss)) → (i : ℕ) × IsNewest (s ∷ ss) i
+    go later (yes l) = let n = later l in (suc (n .0), newest-later s ss (n .0) (n .1))
+    go later (no l) = (0, newest-first s ss h (omega arith))
