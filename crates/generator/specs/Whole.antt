@@ -1,4 +1,4 @@
--- The parts put one behind another are the lines of all the frames; these are a generator's, as document 01 has it, and timeread reads its elements.
+-- The parts put one behind another are the lines of all the frames; these are a generator's, as document 01 has it.
 use mathlib.Core.Path.{_≡_, refl, sym, ap, _∙_}
 use mathlib.Core.Bool.{Bool, true, false, cond, _&&_}
 use mathlib.Core.List.{List, [], _∷_, _++_, append-assoc, append-nil}
@@ -10,23 +10,20 @@ use borrow.Author.Tests.{eqb-true, eqb-false, ltb-true, ltb-false, eq-eqb}
 use lib.Dec.{eqb, ltb}
 use lib.ListN.{getD, length, length-append, List·getD-append}
 use lib.Seq.{getD-at}
-use Rattle.timecode.specs.Frames.{usual, following, stepOf, written, Sent, noFrame, Generator, elements}
+use Rattle.timecode.specs.Frames.{usual, following, stepOf, written, Sent, noFrame, Generator}
 use Rattle.timecode.specs.Laws.Checks.{done}
 use Rattle.timecode.specs.Laws.Reading.{Valid}
 use Rattle.timecode.specs.Laws.Back.{step-again}
 use Rattle.timecode.specs.Laws.Stepping.{went, answers, day-end-range, Lands, lands}
 use Rattle.timecode.specs.Laws.Tests.{by-test, and-right}
 use Rattle.timecode.specs.Laws.Writing.{length-written, taken, takes}
-use Rattle.timecode.specs.Stream.{plainAnswers}
 use Rattle.timecode.specs.declared.Format.{Format}
 use Rattle.timecode.specs.declared.Stepped.{Stepped}
 use Rattle.timecode.specs.declared.Stepped.the-variants.{Next}
 use Rattle.timecode.specs.declared.Time.{Time}
 use Rattle.timecode.specs.declared.Written.{Written}
 use Rattle.timecode.specs.declared.Written.the-variants.{Done}
-use Rattle.listing.specs.Printed.{printedFor, printed}
-use Rattle.frametext.specs.Characters.{lineOf, takenOf, firstLine, framesText, recordingText}
-use Rattle.frametext.specs.Recording.{recording-is-read}
+use Rattle.frametext.specs.Characters.{lineOf, takenOf, framesText}
 use Rattle.generator.specs.Sending.{begun, begunOf, kindAfter, stepped, nextStart, startOf, lineFor, linesOf, framesOf}
 use Rattle.generator.specs.declared.Start.{Start}
 
@@ -149,7 +146,7 @@ module _ (f : Format) (s : Start) (w year : ℕ) (b : begunOf f s w year ≡ Don
   unfolding begunOf
   begins = begun-done (takenOf f (s .time) w) (stepOf f (s .time) year (s .kind)) b
 
-  valid : Valid f (s .time) w
+  pub valid : Valid f (s .time) w
   unfolding takenOf
   valid = taken f (s .time) w (written f (s .time) w) (begins .0) .0
 
@@ -213,8 +210,3 @@ module _ (f : Format) (s : Start) (w year : ℕ) (b : begunOf f s w year ≡ Don
             let a : suc j < k = omega (arith, length-frames k) in
             (year, startOf f s year j .kind, rw (frame-at k j (omega arith), frame-at k (suc j) a) (step-at j));
       }
-
-  -- What timeread prints of the first line and these lines is the listing of exactly the frames' elements.
-  pub recording-read : (k : ℕ) → printed (firstLine f ++ linesOf f s w year k) ≡ printedFor 0 0 (plainAnswers f [] (elements f (framesOf f s w year k)))
-  unfolding recordingText
-  recording-read k = rw (lines-are k) (recording-is-read f (framesOf f s w year k) (valid .format))

@@ -3,36 +3,20 @@
 ghost use mathlib.Core.Path.{_≡_};
 ghost use mathlib.Core.Bool.{true, false};
 ghost use Rattle.hearing.specs.Bytes.{afterOf};
-use lines::refused_line;
 use listing::begin;
 use listing::finish;
 use listing::list;
 use listing::start;
+use output::print_refused;
+use output::write_first;
 use progress::Progress;
-use refusals::number_of;
 use stream::Made;
 use stream::Reader;
-use timecode::Refusal;
 
 // The progress after a read, and whether another is to come.
 struct Printed {
     progress: Progress,
     more: bool,
-}
-
-fn write_part(out: &[u8], filled: usize) -> bool {
-    if filled <= out.len() {
-        if io::write_all(libc::STDOUT_FILENO, &out[0..filled]) {
-            return true;
-        }
-        os::fail(b"standard output");
-    }
-    false
-}
-
-// Writes the first bytes of the output, or says on standard error why it cannot.
-pub fn write_first(out: &mut [u8; 65536], filled: usize) -> bool {
-    write_part(out, filled)
 }
 
 // Where nothing can be written any more, the listing has ended.
@@ -104,17 +88,6 @@ fn print_recording(fd: i32, reader: Reader) {
     let progress = print_reads(fd, reader, &mut out);
     let filled = finish(progress, &mut out);
     write_first(&mut out, filled);
-}
-
-// The line of a refusal, with document 01's number.
-pub fn print_refused(refusal: Refusal) {
-    let mut line = [0u8; 64];
-    let filled = refused_line(&mut line, number_of(refusal) as u64);
-    write_line(&line, filled);
-}
-
-fn write_line(line: &[u8; 64], filled: usize) {
-    write_part(line, filled);
 }
 
 // The whole listing of what the descriptor gives.

@@ -14,7 +14,7 @@ use Rattle.printing.proofs.print_part.Reads as reads
 use Rattle.printing.proofs.print_part.Lts as lts
 use Rattle.listing.proofs.list.Reads as list-reads
 use Rattle.printing.proofs.stop.Reads as stop-reads
-use Rattle.printing.proofs.write_first.Reads as write-first-reads
+use Rattle.output.proofs.write_first.Reads as write-first-reads
 
 abbrev Inv-loop : tie.InvT-loop
 Inv-loop bytes out₀ current₀ taken₀ out current taken = (taken ≤ length bytes) × (current ≡ afterOf current₀ (take taken bytes))

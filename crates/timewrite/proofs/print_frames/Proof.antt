@@ -12,7 +12,7 @@ use Rattle.timewrite.proofs.print_frames.Reads as reads
 use Rattle.timewrite.proofs.print_frames.Lts as lts
 use Rattle.generator.proofs.generate.Reads as generate-reads
 use Rattle.io.proofs.large_buffer.Reads as large-buffer-reads
-use Rattle.printing.proofs.write_first.Reads as write-first-reads
+use Rattle.output.proofs.write_first.Reads as write-first-reads
 
 abbrev Inv-loop : tie.InvT-loop
 Inv-loop format control year out₀ next₀ left₀ more₀ out next left more = (left ≤ left₀) × (next ≡ startOf format next₀ year (left₀ - left))

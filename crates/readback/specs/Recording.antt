@@ -14,10 +14,14 @@ use Rattle.timecode.specs.Laws.Tests.{by-test, and-left, and-right}
 use Rattle.timecode.specs.Laws.Writing.{written-symbols}
 use Rattle.timecode.specs.Stream.{plainAnswers}
 use Rattle.timecode.specs.declared.Format.{Format}
+use Rattle.timecode.specs.declared.Written.the-variants.{Done}
 use Rattle.lines.specs.Text.{space, newline}
 use Rattle.listing.specs.Printed.{formatIn, isFirstLine, printedFor, printed}
 use Rattle.characters.specs.Symbols.{isSkipped, symbolOf, feedsOf}
+use Rattle.generator.specs.Sending.{begunOf, linesOf, framesOf}
+use Rattle.generator.specs.Whole.{valid, lines-are}
+use Rattle.generator.specs.declared.Start.{Start}
 use Rattle.frametext.specs.Characters.{characterOf, opensGroup, elementText, frameText, lineOf, firstLine, framesText, recordingText}
 
 -- ---- a character is read as the symbol that it was put for
 
@@ -87,3 +91,8 @@ module _ (f : Format) (k : known f ≡ true) (text : List ℕ) where
 pub recording-is-read : (f : Format) (sent : List Sent) → known f ≡ true → printed (recordingText f sent) ≡ printedFor 0 0 (plainAnswers f [] (elements f sent))
 unfolding printed recordingText
 recording-is-read f sent k = rw (first-is f k (framesText f sent), format-back f k (framesText f sent), feeds-of-frames f sent)
+
+-- So of the lines that timewrite prints, once its checks are passed.
+pub recording-read : (f : Format) (s : Start) (w year : ℕ) → begunOf f s w year ≡ Done → (k : ℕ) → printed (firstLine f ++ linesOf f s w year k) ≡ printedFor 0 0 (plainAnswers f [] (elements f (framesOf f s w year k)))
+unfolding recordingText
+recording-read f s w year b k = rw (lines-are f s w year b k) (recording-is-read f (framesOf f s w year k) (valid f s w year b .format))

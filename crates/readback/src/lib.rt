@@ -1,0 +1,1 @@
+// timeread reads what timewrite prints: theorems over both, no code.
