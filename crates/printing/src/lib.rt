@@ -1,8 +1,11 @@
 // Prints the listing of the recording behind a descriptor on standard output.
-// What a read brings and where a write goes is the C library's: beneath this crate nothing says which bytes they are.
+// What a read brings and where a write goes is the C library's: beneath this crate nothing says which bytes they are,
+// or that a call failed.
 ghost use mathlib.Core.Path.{_≡_};
-ghost use mathlib.Core.Bool.{true, false};
-ghost use Rattle.hearing.specs.Bytes.{afterOf};
+ghost use mathlib.Core.Bool.{false};
+ghost use lib.ListN.{length};
+ghost use Rattle.progress.specs.Progress.{goingOn};
+ghost use Rattle.printing.specs.Printing.{stopped, Prints, Reads, ReadsAll};
 use listing::begin;
 use listing::finish;
 use listing::list;
@@ -19,21 +22,28 @@ struct Printed {
     more: bool,
 }
 
-// Where nothing can be written any more, the listing has ended.
+// The next byte of the input, or why there is none.
+enum Next {
+    Byte(u8),
+    End,
+    Failed,
+}
+
+// Where a read or a write has failed, no other line follows.
 fn stop(progress: Progress) -> Printed
-    ensures { λ r. ⌜ (r .more ≡ false) × (r .progress .ended ≡ true) ⌝ }
+    ensures { λ r. ⌜ (r .more ≡ false) × (r .progress ≡ stopped progress) ⌝ }
 {
-    let mut stopped = progress;
-    stopped.ended = true;
+    let mut last = progress;
+    last.ended = true;
     Printed {
-        progress: stopped,
+        progress: last,
         more: false,
     }
 }
 
 // Lists one read's bytes, and writes the lines whenever the output is full, and at the end.
 fn print_part(progress: Progress, bytes: &[u8], out: &mut [u8; 65536]) -> Printed
-    ensures { λ r. ⌜ (r .more ≡ true → r .progress ≡ afterOf progress (now (bytes .entry))) ⌝ }
+    ensures { λ r. ⌜ Prints progress (now (bytes .entry)) r ⌝ }
 {
     let mut current = progress;
     let mut taken = 0;
@@ -53,13 +63,16 @@ fn print_part(progress: Progress, bytes: &[u8], out: &mut [u8; 65536]) -> Printe
     }
 }
 
-fn print_read(fd: i32, progress: Progress, out: &mut [u8; 65536]) -> Printed {
+fn print_read(fd: i32, progress: Progress, out: &mut [u8; 65536]) -> Printed
+    ensures { λ r. ⌜ Reads progress r ⌝ }
+{
     let mut input = io::large_buffer();
     let got = libc::read(fd, &mut input);
     if got < 0 {
         os::fail(b"input");
+        return stop(progress);
     }
-    if got <= 0 {
+    if got == 0 {
         return Printed {
             progress: progress,
             more: false,
@@ -70,7 +83,9 @@ fn print_read(fd: i32, progress: Progress, out: &mut [u8; 65536]) -> Printed {
 }
 
 // A proved loop has to end, and nothing says that the input does: the reads are counted down from a number that no run uses up.
-fn print_reads(fd: i32, reader: Reader, out: &mut [u8; 65536]) -> Progress {
+fn print_reads(fd: i32, reader: Reader, out: &mut [u8; 65536]) -> Progress
+    ensures { λ r. ⌜ ReadsAll (goingOn reader 0 0) r ⌝ }
+{
     let mut progress = start(reader);
     let mut more = true;
     let mut left = u64::MAX;
@@ -90,10 +105,50 @@ fn print_recording(fd: i32, reader: Reader) {
     write_first(&mut out, filled);
 }
 
-// The whole listing of what the descriptor gives.
+fn next_byte(fd: i32) -> Next {
+    let mut byte = [0u8; 1];
+    let got = libc::read(fd, &mut byte);
+    if got < 0 {
+        os::fail(b"input");
+        return Next::Failed;
+    }
+    if got == 0 {
+        return Next::End;
+    }
+    Next::Byte(byte[0])
+}
+
+// The input's first three bytes, fewer where it ends: how many there are, or -1 where a read failed.
+fn read_head(fd: i32, head: &mut [u8]) -> isize
+    requires { ⌜ length (now head) ≡ 3 ⌝ }
+{
+    let mut n = 0;
+    while n < 3 {
+        let next = next_byte(fd);
+        match next {
+            Next::Byte(byte) => {
+                head[n] = byte;
+                n += 1;
+            }
+            Next::End => {
+                return n as isize;
+            }
+            Next::Failed => {
+                return -1;
+            }
+        }
+    }
+    3
+}
+
+// The whole listing of what the descriptor gives; nothing where the first line cannot be read.
 pub fn print_listing(fd: i32) {
     let mut head = [0u8; 3];
-    let n = io::read_full(fd, &mut head);
+    let got = read_head(fd, &mut head);
+    if got < 0 {
+        return;
+    }
+    let n = io::count(got, &head);
     match begin(&head[..n]) {
         Made::Fresh(reader) => print_recording(fd, reader),
         Made::Refused(refusal) => print_refused(refusal),

@@ -1,13 +1,16 @@
--- `print_part` meets its contract: the progress is that after the bytes taken, and all of them are taken while writing goes on.
+-- `print_part` meets its contract: the progress is that after the bytes taken, and all of them are taken unless a write fails.
 use borrow.Author.Needs.{needs}
 use native.Mathlib.Omega.{arith}
-use mathlib.Core.Path.{_≡_, sym, _∙_}
-use mathlib.Core.Bool.{false≢true}
-use Prim.Native.Nat.{_-_, _≤_}
+use mathlib.Core.Path.{_≡_, refl, sym, ap, _∙_}
+use mathlib.Core.Bool.{not}
+use mathlib.Core.Logic.{inl, inr}
+use Prim.Native.Nat.{_+_, _-_, _≤_}
 use lib.ListN.{length, take}
 use Rattle.hearing.specs.Hearing.{restOf, length-rest}
 use Rattle.listing.specs.Parts.{reached-start, reached-turn, reached-all}
 use Rattle.hearing.specs.Bytes.{afterOf}
+use Rattle.progress.specs.declared.Progress.{Progress}
+use Rattle.printing.specs.Printing.{stopped}
 use Rattle.printing.proofs.print_part.Statement.{statement}
 use Rattle.printing.proofs.print_part.Tie as tie
 use Rattle.printing.proofs.print_part.Reads as reads
@@ -53,10 +56,12 @@ stop-requires : tie.Need-stop-requires Inv-loop μ-loop
 stop-requires c κs = search needs
 
 returns : tie.Need-returns Inv-loop μ-loop
-returns c = λ h. absurd (false≢true (sym (c .stop .ensures .0) ∙ h))
+returns c =
+    let part : length (restOf (c .before .before .before .before .before .before .before .before .before .before .before .before .args .bytes .now) (c .before .before .before .before .before .before .before .before .before .before .loop .taken)) ≡ length (c .before .before .before .before .before .before .before .before .before .before .before .before .args .bytes .now) - (c .before .before .before .before .before .before .before .before .before .before .loop .taken) = length-rest (c .before .before .before .before .before .before .before .before .before .before .before .before .args .bytes .now) (c .before .before .before .before .before .before .before .before .before .before .loop .taken) in
+    (inr ((c .before .before .before .before .before .before .before .before .before .before .loop .taken) + (c .before .before .before .before .before .before .list .result .taken), omega (arith, c .before .before .before .before .before .before .list .ensures .3), c .stop .ensures .1 ∙ ap stopped (reached-turn (c .before .before .before .before .before .before .before .before .before .before .before .before .args .progress) (c .before .before .before .before .before .before .before .before .before .before .loop .current) _ (c .before .before .before .before .before .before .before .before .before .before .before .before .args .bytes .now) (c .before .before .before .before .before .before .before .before .before .before .loop .taken) (c .before .before .before .before .before .before .list .result .taken) (c .before .before .before .before .before .before .before .before .before .before .loop .inv .1) (c .before .before .before .before .before .before .list .ensures .1))), c .stop .ensures .0 ∙ sym (ap (λ (q : Progress). not (q .ended)) (c .stop .ensures .1)))
 
 returns-2 : tie.Need-returns-2 Inv-loop μ-loop
-returns-2 c = λ h. reached-all (c .before .before .before .before .args .progress) (c .before .before .loop .current) (c .before .before .before .before .args .bytes .now) (c .before .before .loop .taken) (omega arith) (c .before .before .loop .inv .1)
+returns-2 c = (inl (reached-all (c .before .before .before .before .args .progress) (c .before .before .loop .current) (c .before .before .before .before .args .bytes .now) (c .before .before .loop .taken) (omega arith) (c .before .before .loop .inv .1)), refl)
 
 pub print-part-spec : {M : Type 1} → statement M
 print-part-spec =

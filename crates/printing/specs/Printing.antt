@@ -1,0 +1,63 @@
+-- What reading and printing leave of the progress. That a read or a write failed stands in no contract of the C library:
+-- these say what a failure leaves, and not that there was one.
+use mathlib.Core.Path.{_≡_, refl, sym, ap, _∙_}
+use mathlib.Core.Bool.{Bool, true, false, not, false≢true}
+use mathlib.Core.List.{List, [], _++_}
+use mathlib.Core.Logic.{_⊎_, inl, inr}
+use Prim.Native.Nat.{ℕ, _≤_}
+use native.Mathlib.Omega.{arith}
+use lib.ListN.{length, take}
+use lib.Seq.{take-length}
+use Rattle.hearing.specs.Bytes.{afterOf, after-parts}
+use Rattle.listing.specs.Parts.{reached-start}
+use Rattle.progress.specs.declared.Progress.{Progress}
+use Rattle.printing.specs.declared.Printed.{Printed}
+
+-- where a read or a write has failed, no other line follows
+abbrev pub stopped : Progress → Progress
+stopped p = record { reader = p .reader; elements = p .elements; reports = p .reports; ended = true }
+
+-- the progress after all of the bytes; or, where something failed, after the first k, and stopped
+abbrev pub Reaches : Progress → List ℕ → Progress → Type 0
+Reaches p bytes q = (q ≡ afterOf p bytes) ⊎ ((k : ℕ) × (k ≤ length bytes) × (q ≡ stopped (afterOf p (take k bytes))))
+
+-- what one read's bytes leave: another read is to come unless no other line follows
+abbrev pub Prints : Progress → List ℕ → Printed → Type 0
+Prints p bytes r = Reaches p bytes (r .progress) × (r .more ≡ not (r .progress .ended))
+
+-- what a read leaves, whatever it brings
+abbrev pub Reads : Progress → Printed → Type 0
+Reads p r = ((bytes : List ℕ) × Reaches p bytes (r .progress)) × (r .more ≡ true → r .progress .ended ≡ false)
+
+-- and all reads
+abbrev pub ReadsAll : Progress → Progress → Type 0
+ReadsAll p q = (bytes : List ℕ) × Reaches p bytes q
+
+-- ---- no bytes, and a failure before any
+
+pub reads-nothing : (p : Progress) → Reaches p [] p
+reads-nothing p = inl (reached-start p [])
+
+pub reads-failed : (p q : Progress) → q ≡ stopped p → Reaches p [] q
+reads-failed p q e = inr (0, omega arith, e ∙ ap stopped (reached-start p []))
+
+-- ---- one read more
+
+pub not-true : (b m : Bool) → m ≡ not b → m ≡ true → b ≡ false
+not-true true m e t = absurd (false≢true (sym e ∙ t))
+not-true false m e t = refl
+
+not-ended : (p : Progress) (bytes : List ℕ) (q : Progress) → q .ended ≡ false → Reaches p bytes q → q ≡ afterOf p bytes
+not-ended p bytes q n (inl e) = e
+not-ended p bytes q n (inr (k, h, e)) = absurd (false≢true (sym n ∙ ap (λ (x : Progress). x .ended) e))
+
+module _ (p q : Progress) (n : q .ended ≡ false) where
+  further : (xs ys : List ℕ) → Reaches p xs q → afterOf q ys ≡ afterOf p (xs ++ ys)
+  further xs ys a = ap (λ (x : Progress). afterOf x ys) (not-ended p xs q n a) ∙ sym (after-parts p xs ys)
+
+  pub reads-more : (r : Progress) → ReadsAll p q → ReadsAll q r → ReadsAll p r
+  reads-more r (xs, a) (ys, inl e) = (xs ++ ys, inl (e ∙ further xs ys a))
+  reads-more r (xs, a) (ys, inr (k, h, e)) =
+      let zs = xs ++ take k ys in
+      let whole : take (length zs) zs ≡ zs = take-length zs in
+      (zs, inr (length zs, omega arith, e ∙ ap stopped (further xs (take k ys) a ∙ ap (afterOf p) (sym whole))))
