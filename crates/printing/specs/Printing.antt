@@ -4,10 +4,14 @@ use mathlib.Core.Path.{_≡_, refl, sym, ap, _∙_}
 use mathlib.Core.Bool.{Bool, true, false, not, false≢true}
 use mathlib.Core.List.{List, [], _++_}
 use mathlib.Core.Logic.{_⊎_, inl, inr}
-use Prim.Native.Nat.{ℕ, _≤_}
+use Prim.Native.Nat.{ℕ, zero, suc, _≤_}
 use native.Mathlib.Omega.{arith}
+use borrow.Author.Tests.{ltb-true}
+use lib.IntN.{ℤ, pos, negsuc}
 use lib.ListN.{length, take}
+use lib.Signed.{ltZ}
 use lib.Seq.{take-length}
+use Rattle.io.specs.Counts.{clamped}
 use Rattle.hearing.specs.Bytes.{afterOf, after-parts}
 use Rattle.listing.specs.Parts.{reached-start}
 use Rattle.progress.specs.declared.Progress.{Progress}
@@ -24,6 +28,12 @@ Reaches p bytes q = (q ≡ afterOf p bytes) ⊎ ((k : ℕ) × (k ≤ length byte
 -- what one read's bytes leave: another read is to come unless no other line follows
 abbrev pub Prints : Progress → List ℕ → Printed → Type 0
 Prints p bytes r = Reaches p bytes (r .progress) × (r .more ≡ not (r .progress .ended))
+
+-- what a read's answer leaves: a failure stops the listing, the end of the input leaves the progress, and bytes are printed
+abbrev pub Answered : Progress → ℤ → List ℕ → Printed → Type 0
+Answered p (negsuc k) input r = (r .more ≡ false) × (r .progress ≡ stopped p)
+Answered p (pos zero) input r = (r .more ≡ false) × (r .progress ≡ p)
+Answered p (pos (suc k)) input r = Prints p (take (clamped (pos (suc k)) (length input)) input) r
 
 -- what a read leaves, whatever it brings
 abbrev pub Reads : Progress → Printed → Type 0
@@ -61,3 +71,20 @@ module _ (p q : Progress) (n : q .ended ≡ false) where
       let zs = xs ++ take k ys in
       let whole : take (length zs) zs ≡ zs = take-length zs in
       (zs, inr (length zs, omega arith, e ∙ ap stopped (further xs (take k ys) a ∙ ap (afterOf p) (sym whole))))
+
+-- ---- whatever a read answers
+
+pub answered-reads : (p : Progress) (got : ℤ) (input : List ℕ) (r : Printed) → Answered p got input r → Reads p r
+answered-reads p (negsuc k) input r (m, e) = (([], reads-failed p (r .progress) e), λ t. absurd (false≢true (sym m ∙ t)))
+answered-reads p (pos zero) input r (m, e) = (([], inl (e ∙ reached-start p [])), λ t. absurd (false≢true (sym m ∙ t)))
+answered-reads p (pos (suc k)) input r (a, m) = ((take (clamped (pos (suc k)) (length input)) input, a), not-true (r .progress .ended) (r .more) m)
+
+module _ (p : Progress) (input : List ℕ) (r : Printed) where
+  pub answered-failed : (got : ℤ) → ltZ got (pos 0) ≡ true → (r .more ≡ false) × (r .progress ≡ stopped p) → Answered p got input r
+  answered-failed (pos k) t a = let n : ⊥ = omega (arith, ltb-true k 0 t) in absurd n
+  answered-failed (negsuc k) t a = a
+
+  pub answered-bytes : (got : ℤ) → ltZ got (pos 0) ≡ false → (got ≡ pos 0 → ⊥) → Prints p (take (clamped got (length input)) input) r → Answered p got input r
+  answered-bytes (pos zero) t n a = absurd (n refl)
+  answered-bytes (pos (suc k)) t n a = a
+  answered-bytes (negsuc k) t n a = absurd (false≢true (sym t))

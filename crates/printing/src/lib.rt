@@ -5,7 +5,7 @@ ghost use mathlib.Core.Path.{_≡_};
 ghost use mathlib.Core.Bool.{false};
 ghost use lib.ListN.{length};
 ghost use Rattle.progress.specs.Progress.{goingOn};
-ghost use Rattle.printing.specs.Printing.{stopped, Prints, Reads, ReadsAll};
+ghost use Rattle.printing.specs.Printing.{stopped, Prints, Answered, Reads, ReadsAll};
 use listing::begin;
 use listing::finish;
 use listing::list;
@@ -63,11 +63,10 @@ fn print_part(progress: Progress, bytes: &[u8], out: &mut [u8; 65536]) -> Printe
     }
 }
 
-fn print_read(fd: i32, progress: Progress, out: &mut [u8; 65536]) -> Printed
-    ensures { λ r. ⌜ Reads progress r ⌝ }
+// What one read answered: that it failed, the end of the input, or how many bytes it brought.
+fn print_answered(progress: Progress, got: isize, input: &[u8], out: &mut [u8; 65536]) -> Printed
+    ensures { λ r. ⌜ Answered progress got (now (input .entry)) r ⌝ }
 {
-    let mut input = io::large_buffer();
-    let got = libc::read(fd, &mut input);
     if got < 0 {
         os::fail(b"input");
         return stop(progress);
@@ -78,8 +77,16 @@ fn print_read(fd: i32, progress: Progress, out: &mut [u8; 65536]) -> Printed
             more: false,
         };
     }
-    let n = io::count(got, &input);
+    let n = io::count(got, input);
     print_part(progress, &input[..n], out)
+}
+
+fn print_read(fd: i32, progress: Progress, out: &mut [u8; 65536]) -> Printed
+    ensures { λ r. ⌜ Reads progress r ⌝ }
+{
+    let mut input = io::large_buffer();
+    let got = libc::read(fd, &mut input);
+    print_answered(progress, got, &input, out)
 }
 
 // A proved loop has to end, and nothing says that the input does: the reads are counted down from a number that no run uses up.
