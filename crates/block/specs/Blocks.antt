@@ -9,6 +9,7 @@ use Rattle.timecode.specs.Answers.{check, Said, said, refused}
 use Rattle.timecode.specs.Layout.{tabulate}
 use Rattle.timecode.specs.declared.Answer.{Answer}
 use Rattle.timecode.specs.declared.Answer.the-variants.{Quiet, Report}
+use Rattle.timecode.specs.declared.Refusal.the-variants.{WrongLength, InvalidReader}
 use Rattle.timecode.specs.declared.Time.{Time}
 use Rattle.stream.specs.Feeding.{isValid}
 use Rattle.stream.specs.Refinement.{answers, readerAfter}
@@ -113,8 +114,8 @@ blockFor r ss l = cond (isValid r && areRecords l) (blockOf r (roomIn l) ss) (st
 
 unfoldable pub blockAnswer : Reader → List ℕ → Lists → BlockAnswer
 blockAnswer r ss l =
-    check BlockAnswer.Refused 13 (isValid r)
-    (check BlockAnswer.Refused 3 (areRecords l)
+    check BlockAnswer.Refused InvalidReader (isValid r)  -- 13
+    (check BlockAnswer.Refused WrongLength (areRecords l)  -- 3
     (BlockAnswer.Taken (blockOf r (roomIn l) ss .taken) (length (blockOf r (roomIn l) ss .reports)) (blockOf r (roomIn l) ss .stop)))
 
 -- what the answer says: the symbols taken, the reports put in, and why it stopped (0 all taken, 1 before a symbol above 3, 2 no room)

@@ -8,7 +8,6 @@ use native.Mathlib.Omega.{arith}
 use borrow.Author.Tests.{leb-true, leb-false, eq-eqb, ne-eqb}
 use lib.ListN.{getD, length, take, drop, length-map, List·getD-append, List·getD-map}
 use lib.Seq.{ext-getD, getD-take, getD-append-add, getD-drop, length-take-le, take-append-le, take-append-add}
-use Rattle.timecode.specs.Answers.{refusal}
 use Rattle.timecode.specs.Formats.{isSymbol}
 use Rattle.timecode.specs.Laws.Checks.{refused-no-report}
 use Rattle.timecode.specs.Laws.Runs.{length-tabulate, getD-tabulate}
@@ -138,7 +137,7 @@ block-is-fed-singly r room ss v =
       fits = t .fits;
       reported = t .reported ∙ ap (reportsIn 0) (sym (answers-take r ss (b .taken)));
       accepted = λ k h. by-test (isSymbol (getD ss k 0)) (λ y. leb-true (getD ss k 0) 3 y) (λ n.
-          absurd (t .refused-none k h (refusal 4 0) Quiet
+          absurd (t .refused-none k h Refusal.UnknownSymbol Quiet
           (answers-at r ss Quiet k (omega (arith, t .within, length-answers r ss)) ∙ refused-above (readerAfter r (take k ss)) (getD ss k 0) (valid-after r (take k ss) v) (leb-false (getD ss k 0) 3 n))));
       stops = stops-before (b .stop) r room ss (b .taken) (length (b .reports)) v (t .stops);
     }

@@ -10,13 +10,13 @@ use borrow.Author.Tests.{ltb-true, ltb-false}
 use lib.Dec.{ltb}
 use lib.ListN.{getD, length, take, drop, set, replicate, length-append, length-drop, length-replicate}
 use lib.Seq.{take-suc, length-take-le, take-length}
-use Rattle.timecode.specs.Answers.{refusal}
 use Rattle.timecode.specs.Laws.Runs.{length-tabulate, getD-tabulate}
 use Rattle.timecode.specs.Laws.Table.{size-range}
 use Rattle.timecode.specs.Layout.{tabulate}
 use Rattle.timecode.specs.declared.Answer.{Answer}
 use Rattle.timecode.specs.declared.Answer.the-variants.{Quiet, Report}
 use Rattle.timecode.specs.declared.Format.{Format}
+use Rattle.timecode.specs.declared.Refusal.{Refusal}
 use Rattle.timecode.specs.declared.Time.{Time}
 use Rattle.search.specs.Accepted.{acceptedIn, accepted-within, unaccepted-at}
 use Rattle.search.specs.Ends.{answerAt, QuietFrom, Knows, none-known, reported-known}
@@ -159,7 +159,7 @@ module _ {r : Reader} {ss held : List ℕ} {count : ℕ} (t : Together r ss held
   together-packs = (omega (arith, taken-few, t .room), λ some. (t .behind .valid, λ k b. small-there r ss held count (t .behind) k (omega (arith, taken-few))))
 
   -- the symbol behind the last accepted one is refused
-  unknown-there : count < length ss → getD (answers r ss) count Quiet ≡ Answer.Refused (refusal 4 0)
+  unknown-there : count < length ss → getD (answers r ss) count Quiet ≡ Answer.Refused Refusal.UnknownSymbol
   unknown-there b = answers-at r ss Quiet count b ∙ refused-above (readerAfter r (take count ss)) (getD ss count 0) (valid-after r (take count ss) (t .behind .valid)) (rw (t .counted) (unaccepted-at ss (rw (t .counted) at b)))
 
   stops-there : (full unknown : Bool) → found .full ≡ full → ltb count (length ss) ≡ unknown → partOf r ss first put (roomIn l₀) ≡ stopsAt first (roomIn l₀ - put) (answers r ss) taken (stopOf full unknown)
@@ -167,7 +167,7 @@ module _ {r : Reader} {ss held : List ℕ} {count : ℕ} (t : Together r ss held
   stops-there false true e u =
       let b = ltb-true count (length ss) u in
       let all : taken ≡ count = omega (arith, together-hears .ended e) in
-      standing-refused (together-hears .standing) (omega (arith, length-answers r ss)) Quiet (refusal 4 0) (rw all (unknown-there b))
+      standing-refused (together-hears .standing) (omega (arith, length-answers r ss)) Quiet Refusal.UnknownSymbol (rw all (unknown-there b))
   stops-there false false e u =
       let all : taken ≡ count = omega (arith, together-hears .ended e) in
       standing-end (together-hears .standing) (omega (arith, length-answers r ss, t .behind .within, ltb-false count (length ss) u))

@@ -7,6 +7,7 @@ use clock::step_back;
 use frame::read;
 use frame::write;
 use pulse::classify;
+use refusals::number_of;
 use scan::scan;
 use std::num::wrapping_add_u64;
 use timecode::Classified;
@@ -101,34 +102,18 @@ fn put_time(text: &mut [u8; 4096], at: usize, time: Time) -> usize {
     put_decimal(text, at, time.hundredths as u64)
 }
 
-fn put_number(text: &mut [u8; 4096], at: usize, number: u64) -> usize {
-    let at = put(text, at, b'R');
-    put_decimal(text, at, number)
-}
-
-fn put_indexed(text: &mut [u8; 4096], at: usize, number: u64, index: usize) -> usize {
-    let at = put_number(text, at, number);
+fn put_index(text: &mut [u8; 4096], at: usize, index: usize) -> usize {
     let at = put(text, at, b'@');
     put_decimal(text, at, index as u64)
 }
 
 fn put_refusal(text: &mut [u8; 4096], at: usize, refusal: Refusal) -> usize {
+    let at = put(text, at, b'R');
+    let at = put_decimal(text, at, number_of(refusal) as u64);
     match refusal {
-        Refusal::UnknownFormat => put_number(text, at, 1),
-        Refusal::InvalidTime => put_number(text, at, 2),
-        Refusal::WrongLength => put_number(text, at, 3),
-        Refusal::UnknownSymbol => put_number(text, at, 4),
-        Refusal::MisplacedMark(index) => put_indexed(text, at, 5, index),
-        Refusal::InvalidElement(index) => put_indexed(text, at, 6, index),
-        Refusal::InvalidDigit => put_number(text, at, 7),
-        Refusal::SecondsDiffer => put_number(text, at, 8),
-        Refusal::ControlTooLong => put_number(text, at, 9),
-        Refusal::InvalidInterval => put_number(text, at, 10),
-        Refusal::InvalidYearLength => put_number(text, at, 11),
-        Refusal::StartPastEnd => put_number(text, at, 12),
-        Refusal::InvalidReader => put_number(text, at, 13),
-        Refusal::SecondNotCarried => put_number(text, at, 14),
-        Refusal::InvalidKind => put_number(text, at, 15),
+        Refusal::MisplacedMark(index) => put_index(text, at, index),
+        Refusal::InvalidElement(index) => put_index(text, at, index),
+        _ => at,
     }
 }
 

@@ -7,6 +7,7 @@ ghost use Rattle.timecode.specs.Answers.{check};
 ghost use Rattle.timecode.specs.Calls.{differenceOf};
 ghost use Rattle.timecode.specs.Formats.{known, inRange, onFormat, secondCarried};
 ghost use Rattle.timecode.specs.Frames.{inYear, kinds, dayEnd, onDay, following, checkStep, stepOf, sameTime, gives, any, nextAfter, preceding, stepBackOf};
+ghost use Rattle.timecode.specs.declared.Refusal.the-variants.{InvalidYearLength, InvalidKind};
 ghost use Rattle.timecode.specs.declared.Stepped.the-variants.{Next, Refused};
 use layout::carries_leap;
 use layout::frame_interval;
@@ -136,7 +137,7 @@ fn earlier(format: Format, time: Time, year: u16, kind: u8) -> Time
 
 // The time itself, where the year and the day's kind are right for it.
 fn check_day(format: Format, time: Time, year: u16, kind: u8) -> Stepped
-    ensures { λ r. ⌜ r ≡ check Refused 11 (inYear time year) (check Refused 15 (onDay format time kind) (Next time)) ⌝ }
+    ensures { λ r. ⌜ r ≡ check Refused InvalidYearLength (inYear time year) (check Refused InvalidKind (onDay format time kind) (Next time)) ⌝ }
 {
     if in_year(time, year) {
         if on_day(format, time, kind) {

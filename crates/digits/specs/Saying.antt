@@ -18,6 +18,7 @@ use Rattle.timecode.specs.Layout.{seconds, minutes, hours, days, tenths, hundre
 use Rattle.timecode.specs.declared.Format.{Format}
 use Rattle.timecode.specs.declared.Reading.{Reading}
 use Rattle.timecode.specs.declared.Reading.the-variants.{Accepted}
+use Rattle.timecode.specs.declared.Refusal.the-variants.{InvalidDigit, SecondsDiffer}
 use Rattle.timecode.specs.declared.Time.{Time}
 use Rattle.layout.specs.Tables.{widthsOf}
 use Rattle.digits.specs.Splitting.{straight-width}
@@ -48,7 +49,7 @@ controlOf f ds =
     getD ds 13 0 + 2 ^ getD (widthsOf f) 13 0 * (getD ds 14 0 + 2 ^ getD (widthsOf f) 14 0 * (getD ds 15 0 + 2 ^ getD (widthsOf f) 15 0 * (getD ds 16 0 + 2 ^ getD (widthsOf f) 16 0 * getD ds 17 0)))
 
 unfoldable pub meaningOf : Format → List ℕ → Reading
-meaningOf f ds = check Reading.Refused 7 (isTimeOf f ds) (check Reading.Refused 8 (agreeOf f ds) (Accepted (timeOf ds) (controlOf f ds)))
+meaningOf f ds = check Reading.Refused InvalidDigit (isTimeOf f ds) (check Reading.Refused SecondsDiffer (agreeOf f ds) (Accepted (timeOf ds) (controlOf f ds)))
 
 -- ---- a frame's digits say what the frame says
 
@@ -117,7 +118,7 @@ module _ (f : Format) (frame : List ℕ) where
   unfolding agreeOf secondsAgree
   agree-is = by-test (hasSeconds f) (λ y. rw (y, straight-is y, time-is)) (λ m. rw m)
 
-  pub meaning-is : meaningOf f ds ≡ check Reading.Refused 7 (isTime f frame) (check Reading.Refused 8 (secondsAgree f frame) (Accepted (timeIn f frame) (numberIn frame (control f))))
+  pub meaning-is : meaningOf f ds ≡ check Reading.Refused InvalidDigit (isTime f frame) (check Reading.Refused SecondsDiffer (secondsAgree f frame) (Accepted (timeIn f frame) (numberIn frame (control f))))
   unfolding meaningOf
   meaning-is = rw (is-time-is, agree-is, time-is, control-is)
 

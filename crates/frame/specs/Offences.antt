@@ -1,6 +1,6 @@
 -- The search for the lowest index that offends, by the format's shape: its frame with every bit a one.
 use mathlib.Core.Path.{_≡_, refl, sym, ap, _∙_}
-use mathlib.Core.Bool.{Bool, true, false, cond, _&&_, _||_}
+use mathlib.Core.Bool.{Bool, true, cond, not, _&&_}
 use mathlib.Core.List.{List, [], _∷_, map}
 use Prim.Native.Nat.{ℕ, zero, suc, _+_, _*_, _-_, _/_, _%_, _^_, _<_, _≤_}
 use native.Mathlib.Nat.{add-zero, add-suc, suc-add, zero-add, not-suc-le-zero, one-mul, two-pow-succ}
@@ -11,10 +11,9 @@ use lib.Dec.{leb, ltb, eqb}
 use lib.ListN.{getD, length, drop, drop-of-length-le}
 use lib.Pow.{high, ones-lt, ones-split, pow-pos, shl-exact}
 use lib.Seq.{drop-cons}
-use Rattle.timecode.specs.Answers.{refusal}
 use Rattle.timecode.specs.Formats.{size}
-use Rattle.timecode.specs.Frames.{areSymbols, held, offence, checkElements}
-use Rattle.timecode.specs.Laws.Runs.{in-run, Small, Clean, getD-encode, length-encode}
+use Rattle.timecode.specs.Frames.{areSymbols, held, marksAgree, elementFits, checkElements}
+use Rattle.timecode.specs.Laws.Runs.{in-run, Small, Clean, fits-agree, getD-encode, length-encode}
 use Rattle.timecode.specs.Laws.Tests.{by-test}
 use Rattle.timecode.specs.Layout.{Run, seconds, minutes, hours, days, tenths, hundredths, straightSeconds, control, timeFields, fields, inRun, bitOf, isMark, rest, runs, symbolAt, tabulate, encode}
 use Rattle.timecode.specs.declared.Format.{Format}
@@ -33,14 +32,18 @@ greatestDigits rs = map (λ (r : Run). 2 ^ r .width - 1) rs
 unfoldable pub shape : Format → List ℕ
 shape f = encode 100 (rest f) (runs f) (greatestDigits (runs f))
 
--- what is wrong with the symbol s where the shape has m
-unfoldable pub judged : ℕ → ℕ → ℕ
-judged m s = cond (eqb m 1) (cond (ltb s 2) 0 (cond (eqb s 2) 5 6)) (cond (eqb s m) 0 (cond (eqb s 2) 5 (cond (eqb m 2) 5 6)))
+-- the symbol s is a mark exactly where the shape has one
+unfoldable pub agreesWith : ℕ → ℕ → Bool
+agreesWith m s = cond (eqb m 2) (eqb s 2) (not (eqb s 2))
+
+-- the symbol s fits where the shape has m
+unfoldable pub fitsIn : ℕ → ℕ → Bool
+fitsIn m s = cond (eqb m 1) (ltb s 2) (eqb s m)
 
 unfoldable pub offendedFrom : ℕ → List ℕ → List ℕ → Offence
 offendedFrom i ms [] = Nothing
 offendedFrom i [] (s ∷ ss) = Nothing
-offendedFrom i (m ∷ ms) (s ∷ ss) = cond (eqb (judged m s) 5) (At (MisplacedMark i)) (cond (eqb (judged m s) 6) (At (InvalidElement i)) (offendedFrom (suc i) ms ss))
+offendedFrom i (m ∷ ms) (s ∷ ss) = cond (agreesWith m s) (cond (fitsIn m s) (offendedFrom (suc i) ms ss) (At (InvalidElement i))) (At (MisplacedMark i))
 
 abbrev pub offendedOf : List ℕ → List ℕ → Offence
 offendedOf form frame = offendedFrom 0 form frame
@@ -54,19 +57,11 @@ abbrev pub settled : Offence → Reading → Reading
 settled Nothing answer = answer
 settled (At r) answer = Reading.Refused r
 
--- nothing, a mark missing or where none belongs, or another symbol that does not belong
-judged-cases : (m s : ℕ) (P : ℕ → Type 0) → P 0 → P 5 → P 6 → P (judged m s)
-unfolding judged
-judged-cases m s P a b d =
-    by-test (eqb m 1)
-    (λ y. rw y (by-test (ltb s 2) (λ u. rw u a) (λ v. rw v (by-test (eqb s 2) (λ u. rw u b) (λ w. rw w d)))))
-    (λ n. rw n (by-test (eqb s m) (λ u. rw u a) (λ v. rw v (by-test (eqb s 2) (λ u. rw u b) (λ w. rw w (by-test (eqb m 2) (λ u. rw u b) (λ x. rw x d)))))))
-
 -- ---- turns of the loop
 
 pub offended-turn : (form frame : List ℕ) (i : ℕ) → i < length form → i < length frame
     → offendedFrom i (drop i form) (drop i frame)
-    ≡ cond (eqb (judged (getD form i 0) (getD frame i 0)) 5) (At (MisplacedMark i)) (cond (eqb (judged (getD form i 0) (getD frame i 0)) 6) (At (InvalidElement i)) (offendedFrom (i + 1) (drop (i + 1) form) (drop (i + 1) frame)))
+    ≡ cond (agreesWith (getD form i 0) (getD frame i 0)) (cond (fitsIn (getD form i 0) (getD frame i 0)) (offendedFrom (i + 1) (drop (i + 1) form) (drop (i + 1) frame)) (At (InvalidElement i))) (At (MisplacedMark i))
 unfolding offendedFrom
 offended-turn form frame i a b = rw (drop-cons form i 0 a, drop-cons frame i 0 b, add-one i)
 
@@ -122,69 +117,71 @@ rest-not-1 : (f : Format) (i : ℕ) → rest f i ≡ 1 → ⊥
 unfolding rest
 rest-not-1 f i h = by-test (isMark i) (λ y. let z : _≡_ {A = ℕ} 2 1 = rw y at h in omega arith) (λ m. let z : _≡_ {A = ℕ} 0 1 = rw m at h in omega arith)
 
-either : (a b : Bool) → _≡_ {A = ℕ} (cond a 5 (cond b 5 6)) (cond (a || b) 5 6)
-either true b = refl
-either false b = refl
+shape-agrees : (f : Format) (i s : ℕ) → i < 100 → agreesWith (getD (shape f) i 0) s ≡ marksAgree (rest f) (runs f) i s
+unfolding agreesWith marksAgree
+shape-agrees f i s h = rw (shape-at f i h) (by-test (held (runs f) i) (λ y. rw y) (λ m. rw m))
 
-judged-offence : (f : Format) (i s : ℕ) → i < 100 → judged (getD (shape f) i 0) s ≡ offence (rest f) (runs f) i s
-unfolding judged offence
-judged-offence f i s h =
-    rw (shape-at f i h)
-    (by-test (held (runs f) i)
-    (λ y. rw y)
-    (λ m. rw (m, ne-eqb (rest f i) 1 (rest-not-1 f i)) (ap (λ (n : ℕ). cond (eqb s (rest f i)) 0 n) (either (eqb s 2) (eqb (rest f i) 2)))))
+shape-fits : (f : Format) (i s : ℕ) → i < 100 → fitsIn (getD (shape f) i 0) s ≡ elementFits (rest f) (runs f) i s
+unfolding fitsIn elementFits
+shape-fits f i s h = rw (shape-at f i h) (by-test (held (runs f) i) (λ y. rw y) (λ m. rw (m, ne-eqb (rest f i) 1 (rest-not-1 f i))))
 
 -- ---- what the search finds is what the definition refuses
 
-found-elements : (rests : ℕ → ℕ) (rs : List Run) (i : ℕ) (form frame : List ℕ) (a : Reading)
-    → length frame ≤ length form → ((k s : ℕ) → k < length frame → judged (getD form k 0) s ≡ offence rests rs (i + k) s)
+found-elements : (rests : ℕ → ℕ) (rs : List Run) (i : ℕ) (form frame : List ℕ) (a : Reading) → length frame ≤ length form
+    → ((k s : ℕ) → k < length frame → (agreesWith (getD form k 0) s ≡ marksAgree rests rs (i + k) s) × (fitsIn (getD form k 0) s ≡ elementFits rests rs (i + k) s))
     → checkElements rests rs i frame a ≡ settled (offendedFrom i form frame) a
 unfolding checkElements offendedFrom
 found-elements rests rs i form [] a l same = refl
 found-elements rests rs i [] (s ∷ ss) a l same = absurd (not-suc-le-zero l)
 found-elements rests rs i (m ∷ ms) (s ∷ ss) a l same =
     let later : checkElements rests rs (suc i) ss a ≡ settled (offendedFrom (suc i) ms ss) a =
-    found-elements rests rs (suc i) ms ss a (omega arith) (λ k x b. same (suc k) x (omega arith) ∙ ap (λ (n : ℕ). offence rests rs n x) (add-suc i k ∙ sym (suc-add i k))) in
-    let here : judged m s ≡ offence rests rs i s = same 0 s (omega arith) ∙ ap (λ (n : ℕ). offence rests rs n s) (add-zero i) in
-    rw (← here)
-    (judged-cases m s
-    (λ n. cond (eqb n 0) (checkElements rests rs (suc i) ss a) (Reading.Refused (refusal n i)) ≡ settled (cond (eqb n 5) (At (MisplacedMark i)) (cond (eqb n 6) (At (InvalidElement i)) (offendedFrom (suc i) ms ss))) a)
-    later refl refl)
+    found-elements rests rs (suc i) ms ss a (omega arith) (λ k x b. rw (suc-add i k, ← add-suc i k) (same (suc k) x (omega arith))) in
+    let here : (agreesWith m s ≡ marksAgree rests rs i s) × (fitsIn m s ≡ elementFits rests rs i s) = rw (add-zero i) at (same 0 s (omega arith)) in
+    rw (← here .0, ← here .1)
+    (by-test (agreesWith m s)
+    (λ y. rw y (by-test (fitsIn m s) (λ z. rw z later) (λ z. rw z)))
+    (λ n. rw n))
 
 pub offended-refuses : (f : Format) (frame : List ℕ) → length frame ≤ 100 → (a : Reading) → checkElements (rest f) (runs f) 0 frame a ≡ settled (offendedOf (shape f) frame) a
 offended-refuses f frame h a =
-    found-elements (rest f) (runs f) 0 (shape f) frame a (omega (arith, length-shape f)) (λ i s l. rw (zero-add i) (judged-offence f i s (omega arith)))
+    found-elements (rest f) (runs f) 0 (shape f) frame a (omega (arith, length-shape f)) (λ i s l. rw (zero-add i) (shape-agrees f i s (omega arith), shape-fits f i s (omega arith)))
 
 -- ---- where the search finds nothing, the frame is clean
 
 pub some-offence : (r : Refusal) → At r ≡ Nothing → ⊥
 some-offence r h = let z : _≡_ {A = ℕ} 0 1 = cc in omega arith
 
-clean-from : (i : ℕ) (form frame : List ℕ) → length frame ≤ length form → offendedFrom i form frame ≡ Nothing → (k : ℕ) → k < length frame → judged (getD form k 0) (getD frame k 0) ≡ 0
+clean-from : (i : ℕ) (form frame : List ℕ) → length frame ≤ length form → offendedFrom i form frame ≡ Nothing → (k : ℕ) → k < length frame → fitsIn (getD form k 0) (getD frame k 0) ≡ true
 unfolding offendedFrom
 clean-from i form [] l h k b = absurd (not-suc-le-zero b)
 clean-from i [] (s ∷ ss) l h k b = absurd (not-suc-le-zero l)
 clean-from i (m ∷ ms) (s ∷ ss) l h k b =
-    let both : (judged m s ≡ 0) × (offendedFrom (suc i) ms ss ≡ Nothing) =
-    judged-cases m s
-    (λ n. cond (eqb n 5) (At (MisplacedMark i)) (cond (eqb n 6) (At (InvalidElement i)) (offendedFrom (suc i) ms ss)) ≡ Nothing → (n ≡ 0) × (offendedFrom (suc i) ms ss ≡ Nothing))
-    (λ q. (refl, q)) (λ q. absurd (some-offence (MisplacedMark i) q)) (λ q. absurd (some-offence (InvalidElement i) q)) h in
-    by-index k b (both .0) (clean-from (suc i) ms ss (omega arith) (both .1))
+    by-test (agreesWith m s)
+    (λ y.
+    by-test (fitsIn m s)
+    (λ z. by-index k b z (clean-from (suc i) ms ss (omega arith) (rw (y, z) at h)))
+    (λ z. absurd (some-offence (InvalidElement i) (rw (y, z) at h))))
+    (λ n. absurd (some-offence (MisplacedMark i) (rw n at h)))
   where
-    by-index : (k : ℕ) → k < suc (length ss) → judged m s ≡ 0 → ((k : ℕ) → k < length ss → judged (getD ms k 0) (getD ss k 0) ≡ 0) → judged (getD (m ∷ ms) k 0) (getD (s ∷ ss) k 0) ≡ 0
+    by-index : (k : ℕ) → k < suc (length ss) → fitsIn m s ≡ true → ((k : ℕ) → k < length ss → fitsIn (getD ms k 0) (getD ss k 0) ≡ true) → fitsIn (getD (m ∷ ms) k 0) (getD (s ∷ ss) k 0) ≡ true
     by-index zero b here later = here
     by-index (suc k) b here later = later k (omega arith)
 
 pub offended-clean : (f : Format) (frame : List ℕ) → length frame ≡ size f → size f ≤ 100 → offendedOf (shape f) frame ≡ Nothing → Clean (size f) (rest f) (runs f) frame
 offended-clean f frame n small h i l =
-    sym (judged-offence f i (getD frame i 0) (omega arith)) ∙ clean-from 0 (shape f) frame (omega (arith, length-shape f)) h i (omega arith)
+    sym (shape-fits f i (getD frame i 0) (omega arith)) ∙ clean-from 0 (shape f) frame (omega (arith, length-shape f)) h i (omega arith)
 
-nothing-from : (i : ℕ) (form frame : List ℕ) → length frame ≤ length form → ((k : ℕ) → k < length frame → judged (getD form k 0) (getD frame k 0) ≡ 0) → offendedFrom i form frame ≡ Nothing
+nothing-from : (i : ℕ) (form frame : List ℕ) → length frame ≤ length form
+    → ((k : ℕ) → k < length frame → (agreesWith (getD form k 0) (getD frame k 0) ≡ true) × (fitsIn (getD form k 0) (getD frame k 0) ≡ true)) → offendedFrom i form frame ≡ Nothing
 unfolding offendedFrom
 nothing-from i form [] l h = refl
 nothing-from i [] (s ∷ ss) l h = absurd (not-suc-le-zero l)
-nothing-from i (m ∷ ms) (s ∷ ss) l h = rw (h 0 (omega arith)) (nothing-from (suc i) ms ss (omega arith) (λ k b. h (suc k) (omega arith)))
+nothing-from i (m ∷ ms) (s ∷ ss) l h = rw (h 0 (omega arith) .0, h 0 (omega arith) .1) (nothing-from (suc i) ms ss (omega arith) (λ k b. h (suc k) (omega arith)))
 
 pub clean-offended : (f : Format) (frame : List ℕ) → length frame ≡ size f → size f ≤ 100 → Clean (size f) (rest f) (runs f) frame → offendedOf (shape f) frame ≡ Nothing
 clean-offended f frame n small c =
-    nothing-from 0 (shape f) frame (omega (arith, length-shape f)) (λ i l. judged-offence f i (getD frame i 0) (omega arith) ∙ c i (omega arith))
+    nothing-from 0 (shape f) frame (omega (arith, length-shape f))
+    (λ i l.
+    let s = getD frame i 0 in
+    let fits = c i (omega arith) in
+    (shape-agrees f i s (omega arith) ∙ fits-agree (size f) (rest f) (runs f) i s fits, shape-fits f i s (omega arith) ∙ fits))

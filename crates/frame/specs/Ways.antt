@@ -10,7 +10,7 @@ use lib.Dec.{ltb}
 use lib.ListN.{getD, length, length-map}
 use lib.Seq.{ext-getD}
 use Rattle.timecode.specs.Formats.{known, size}
-use Rattle.timecode.specs.Frames.{writeOf, writeLeaves, areSymbols, offence, readOf}
+use Rattle.timecode.specs.Frames.{writeOf, writeLeaves, areSymbols, elementFits, readOf}
 use Rattle.timecode.specs.Laws.Digits.{decode}
 use Rattle.timecode.specs.Laws.Runs.{getD-encode, length-encode, Small, Clean, clean-bits, encode-clean, held-inside, small-decoded, small-length}
 use Rattle.timecode.specs.Laws.Table.{size-range, two-sizes, layout-proper}
@@ -87,7 +87,7 @@ module _ (f : Format) (frame : List ℕ) (k : known f ≡ true) (n : length fram
   unfolding offenceIn encode
   written-nothing e =
       let clean : Clean (size f) (rest f) (runs f) frame =
-      λ i l. ap (λ (ss : List ℕ). offence (rest f) (runs f) i (getD ss i 0)) e ∙ encode-clean (size f) (rest f) (runs f) (decode (runs f) frame) (length-map (runs f) _) i l in
+      λ i l. ap (λ (ss : List ℕ). elementFits (rest f) (runs f) i (getD ss i 0)) e ∙ encode-clean (size f) (rest f) (runs f) (decode (runs f) frame) (length-map (runs f) _) i l in
       rw (ap areSymbols e ∙ symbols-tabulate (size f) 0 _ (symbol-small f (runs f) (decode (runs f) frame))) (clean-offended f frame n (size-range f .1) clean)
 
 -- two lists that agree below i and at i

@@ -13,7 +13,7 @@ ghost use Rattle.timecode.specs.Laws.Reading.{Valid};
 ghost use Rattle.timecode.specs.Layout.{runs, rest, encode};
 ghost use Rattle.layout.specs.Tables.{widthsOf};
 ghost use Rattle.digits.specs.Splitting.{Widths};
-ghost use Rattle.frame.specs.Offences.{greatestDigits, shape, judged, offendedOf, offenceIn};
+ghost use Rattle.frame.specs.Offences.{greatestDigits, shape, agreesWith, fitsIn, offendedOf, offenceIn};
 use clock::on_format;
 use clock::second_carried;
 use digits::control_fits;
@@ -104,29 +104,24 @@ fn are_symbols(frame: &[u8]) -> bool
     all
 }
 
-// What is wrong with a symbol where the format's shape has this one: 0 nothing, else 5 or 6.
-fn judge(form: u8, symbol: u8) -> u8
-    ensures { λ r. ⌜ r ≡ judged form symbol ⌝ }
+// The symbol is a mark exactly where the format's shape has one.
+fn marks_agree(form: u8, symbol: u8) -> bool
+    ensures { λ r. ⌜ r ≡ agreesWith form symbol ⌝ }
+{
+    if form == 2 {
+        return symbol == 2;
+    }
+    symbol != 2
+}
+
+// The symbol fits where the format's shape has this one.
+fn element_fits(form: u8, symbol: u8) -> bool
+    ensures { λ r. ⌜ r ≡ fitsIn form symbol ⌝ }
 {
     if form == 1 {
-        if symbol < 2 {
-            return 0;
-        }
-        if symbol == 2 {
-            return 5;
-        }
-        return 6;
+        return symbol < 2;
     }
-    if symbol == form {
-        return 0;
-    }
-    if symbol == 2 {
-        return 5;
-    }
-    if form == 2 {
-        return 5;
-    }
-    6
+    symbol == form
 }
 
 // The lowest index that offends, by the format's shape.
@@ -136,11 +131,10 @@ fn lowest_offence(form: &[u8], frame: &[u8]) -> Offence
 {
     let mut index = 0;
     while index < frame.len() {
-        let number = judge(form[index], frame[index]);
-        if number == 5 {
+        if !marks_agree(form[index], frame[index]) {
             return Offence::At(Refusal::MisplacedMark(index));
         }
-        if number == 6 {
+        if !element_fits(form[index], frame[index]) {
             return Offence::At(Refusal::InvalidElement(index));
         }
         index += 1;

@@ -5,6 +5,7 @@ use mathlib.Core.List.{List, []}
 use Prim.Native.Nat.{ℕ, _≤_}
 use lib.ListN.{length, take}
 use Rattle.timecode.specs.Answers.{check}
+use Rattle.timecode.specs.declared.Refusal.the-variants.{UnknownFormat}
 use Rattle.lines.specs.Text.{countsLine}
 use Rattle.stream.specs.Feeding.{freshReader}
 use Rattle.stream.specs.declared.Made.{Made}
@@ -15,7 +16,7 @@ use Rattle.listing.specs.declared.Listed.{Listed}
 
 -- the reader that the first line asks for, or number 1
 unfoldable pub begunOf : List ℕ → Made
-begunOf bytes = check Made.Refused 1 (isFirstLine bytes) (Made.Fresh (freshReader (formatIn bytes)))
+begunOf bytes = check Made.Refused UnknownFormat (isFirstLine bytes) (Made.Fresh (freshReader (formatIn bytes)))
 
 -- the last line, unless a refusal was it
 unfoldable pub endingOf : Progress → List ℕ

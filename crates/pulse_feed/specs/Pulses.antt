@@ -9,6 +9,7 @@ use Rattle.timecode.specs.Laws.Tests.{by-test}
 use Rattle.timecode.specs.declared.Answer.{Answer}
 use Rattle.timecode.specs.declared.Classified.{Classified}
 use Rattle.timecode.specs.declared.Classified.the-variants.{Symbol}
+use Rattle.timecode.specs.declared.Refusal.the-variants.{InvalidInterval}
 use Rattle.timecode.specs.declared.Refusal.{Refusal}
 use Rattle.stream.specs.FeedLists.{refused-feed-same-reader}
 use Rattle.stream.specs.Feeding.{feedOf}
@@ -20,7 +21,7 @@ abbrev pub refusedFeed : Reader → Refusal → Fed
 refusedFeed r x = record { reader = r; answer = Answer.Refused x }
 
 unfoldable pub feedPulseOf : Reader → ℕ → ℕ → ℕ → Fed
-feedPulseOf r T width period = check (refusedFeed r) 10 (isInterval T) (feedOf r (symbolOf T width period))
+feedPulseOf r T width period = check (refusedFeed r) InvalidInterval (isInterval T) (feedOf r (symbolOf T width period))
 
 -- the answer by the classifier's
 abbrev pub fedBy : Reader → Classified → Fed

@@ -36,6 +36,7 @@ use stream::next_reader;
 use stream::pass;
 use timecode::Classified;
 use timecode::Reading;
+use timecode::Refusal;
 use timecode::Scanned;
 use timecode::Subtracted;
 
@@ -185,9 +186,9 @@ fn feed_other(reader: &mut [u64; 10], symbol: u8, reported: &mut u8) -> u8
         return 0;
     }
     if is_valid(held) {
-        return 4;
+        return number_of(Refusal::UnknownSymbol);
     }
-    13
+    number_of(Refusal::InvalidReader)
 }
 
 // One Feed of a symbol.

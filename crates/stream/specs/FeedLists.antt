@@ -8,7 +8,6 @@ use native.Mathlib.Omega.{arith}
 use borrow.Author.Tests.{lt-ltb, leb-false, lt-leb}
 use lib.Dec.{ltb}
 use lib.ListN.{getD, length, take}
-use Rattle.timecode.specs.Answers.{refusal}
 use Rattle.timecode.specs.Formats.{isSymbol, known, size}
 use Rattle.timecode.specs.Laws.Checks.{refused-no-report}
 use Rattle.timecode.specs.Laws.Marks.{size-positive}
@@ -18,6 +17,7 @@ use Rattle.timecode.specs.Stream.{windowAnswer}
 use Rattle.timecode.specs.declared.Answer.{Answer}
 use Rattle.timecode.specs.declared.Answer.the-variants.{Quiet}
 use Rattle.timecode.specs.declared.Format.{Format}
+use Rattle.timecode.specs.declared.Refusal.the-variants.{UnknownSymbol}
 use Rattle.timecode.specs.declared.Refusal.{Refusal}
 use Rattle.register.specs.Symbols.{wordsOf, pushOf}
 use Rattle.stream.specs.Feeding.{isValid, nextOf, windowIn, answerOf, feedOf}
@@ -68,7 +68,7 @@ unfolding readerAfter feedOf
 valid-after r [] v = v
 valid-after r (s ∷ ss) v = valid-after (nextOf r s) ss (valid-next r s v)
 
-pub refused-above : (r : Reader) (s : ℕ) → isValid r ≡ true → 3 < s → answerOf r s ≡ Answer.Refused (refusal 4 0)
+pub refused-above : (r : Reader) (s : ℕ) → isValid r ≡ true → 3 < s → answerOf r s ≡ Answer.Refused UnknownSymbol
 unfolding answerOf
 refused-above r s v h = rw (v, lt-leb s 3 h)
 

@@ -11,6 +11,7 @@ use Rattle.timecode.specs.Laws.Tests.{and-right}
 use Rattle.timecode.specs.Stream.{windowLength, windowAnswer}
 use Rattle.timecode.specs.declared.Answer.{Answer}
 use Rattle.timecode.specs.declared.Format.{Format}
+use Rattle.timecode.specs.declared.Refusal.the-variants.{UnknownFormat, UnknownSymbol, InvalidReader}
 use Rattle.register.specs.Symbols.{wordsOf, pushOf, heardFrame}
 use Rattle.register.specs.declared.Register.{Register}
 use Rattle.stream.specs.declared.Fed.{Fed}
@@ -37,7 +38,7 @@ freshReader f = record { format = f; place = 0; heard = silence }
 
 -- Making a fresh reader checks 1.
 unfoldable pub madeOf : Format → Made
-madeOf f = check Made.Refused 1 (known f) (Made.Fresh (freshReader f))
+madeOf f = check Made.Refused UnknownFormat (known f) (Made.Fresh (freshReader f))
 
 -- what making a reader says: document 01 gives no value with it
 abbrev pub madeSaid : Made → Said
@@ -66,8 +67,8 @@ windowIn f words = heardFrame words 0 (windowLength f)
 -- Feed checks 13, 4.
 unfoldable pub answerOf : Reader → ℕ → Answer
 answerOf r s =
-    check Answer.Refused 13 (isValid r)
-    (check Answer.Refused 4 (isSymbol s)
+    check Answer.Refused InvalidReader (isValid r)  -- 13
+    (check Answer.Refused UnknownSymbol (isSymbol s)  -- 4
     (windowAnswer (r .format) (windowIn (r .format) (wordsOf (pushOf (r .heard) s)))))
 
 unfoldable pub feedOf : Reader → ℕ → Fed

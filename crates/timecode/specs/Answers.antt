@@ -1,9 +1,8 @@
 -- Document 01, "Numbers a call refuses with": the number and the values of each case of each answer. 14 and 15 are document 02's.
 use mathlib.Core.Bool.{Bool, true, false}
 use mathlib.Core.List.{List, [], _∷_}
-use Prim.Native.Nat.{ℕ, _-_}
+use Prim.Native.Nat.{ℕ}
 use lib.IntN.{ℤ, pos}
-use lib.ListN.{getD}
 use Rattle.timecode.specs.declared.Answer.{Answer}
 use Rattle.timecode.specs.declared.Answer.the-variants.{Quiet, Report}
 use Rattle.timecode.specs.declared.Classified.{Classified}
@@ -55,25 +54,17 @@ number InvalidReader = 13
 number SecondNotCarried = 14
 number InvalidKind = 15
 
--- the refusal with the number k; i is the index that 5 and 6 carry
-abbrev pub refusal : ℕ → ℕ → Refusal
-refusal k i =
-    getD
-    (UnknownFormat ∷ InvalidTime ∷ WrongLength ∷ UnknownSymbol ∷ MisplacedMark i ∷ InvalidElement i ∷ InvalidDigit
-    ∷ SecondsDiffer ∷ ControlTooLong ∷ InvalidInterval ∷ InvalidYearLength ∷ StartPastEnd ∷ InvalidReader ∷ SecondNotCarried ∷ InvalidKind ∷ [])
-    (k - 1)
-    UnknownFormat
-
--- One check of a call: the answer goes on where it passes, and refuses with the number k where it fails.
-abbrev pub check : {Any : Type 0} → (Refusal → Any) → ℕ → Bool → Any → Any
-check refused k true answer = answer
-check refused k false answer = refused (refusal k 0)
+-- One check of a call: the answer goes on where it passes, and is that refusal where it fails.
+abbrev pub check : {Any : Type 0} → (Refusal → Any) → Refusal → Bool → Any → Any
+check refused r true answer = answer
+check refused r false answer = refused r
 
 -- What an answer says: 0 and its values, or the number of a refusal and the value beside it.
 pub record Said : Type 0 where
   pub number : ℕ
   pub values : List ℤ
 
+-- the value of a refusal: the index of the element, with 5 and 6 alone
 abbrev index : Refusal → List ℤ
 index UnknownFormat = []
 index InvalidTime = []

@@ -13,6 +13,7 @@ use Rattle.timecode.specs.declared.Classified.the-variants.{Symbol}
 use Rattle.timecode.specs.declared.Format.{Format}
 use Rattle.timecode.specs.declared.Reading.{Reading}
 use Rattle.timecode.specs.declared.Reading.the-variants.{Accepted}
+use Rattle.timecode.specs.declared.Refusal.the-variants.{UnknownFormat, InvalidTime, WrongLength, InvalidInterval, StartPastEnd}
 use Rattle.timecode.specs.declared.Scanned.{Scanned}
 use Rattle.timecode.specs.declared.Scanned.the-variants.{Found, None}
 use Rattle.timecode.specs.declared.Subtracted.{Subtracted}
@@ -41,7 +42,7 @@ unfoldable pub isInterval : ℕ → Bool
 isInterval T = within 100 10000000 T
 
 unfoldable pub classifyOf : ℕ → ℕ → ℕ → Classified
-classifyOf T width period = check Classified.Refused 10 (isInterval T) (Symbol (symbolOf T width period))
+classifyOf T width period = check Classified.Refused InvalidInterval (isInterval T) (Symbol (symbolOf T width period))
 
 -- pulse by pulse
 unfoldable pub symbolsOf : ℕ → List ℕ → List ℕ → List ℕ
@@ -52,8 +53,8 @@ symbolsOf T (w ∷ ws) (p ∷ ps) = symbolOf T w p ∷ symbolsOf T ws ps
 -- over lists 10, then 3: all of one length
 unfoldable pub classifyListOf : ℕ → List ℕ → List ℕ → List ℕ → Written
 classifyListOf T widths periods lent =
-    check Written.Refused 10 (isInterval T)
-    (check Written.Refused 3 (eqb (length widths) (length lent) && eqb (length periods) (length lent))
+    check Written.Refused InvalidInterval (isInterval T)  -- 10
+    (check Written.Refused WrongLength (eqb (length widths) (length lent) && eqb (length periods) (length lent))  -- 3
     Done)
 
 unfoldable pub classifyListLeaves : ℕ → List ℕ → List ℕ → List ℕ → List ℕ
@@ -63,7 +64,7 @@ classifyListLeaves T widths periods lent = left (classifyListOf T widths periods
 
 unfoldable pub differenceOf : Time → Time → Subtracted
 differenceOf t u =
-    check Subtracted.Refused 2 (inRange t && inRange u)
+    check Subtracted.Refused InvalidTime (inRange t && inRange u)  -- 2
     (Hundredths (pos dayLength *ℤ (pos (t .day) -ℤ pos (u .day)) +ℤ (pos (t .hundredths) -ℤ pos (u .hundredths))))
 
 -- ---- Scan
@@ -90,6 +91,6 @@ firstPlace start = cond (leb 1 start) start 1
 -- Scan checks 1, 12; a frame at a has room where a + n is at most the recording's length.
 unfoldable pub scanOf : Format → List ℕ → ℕ → Scanned
 scanOf f recording start =
-    check Scanned.Refused 1 (known f)
-    (check Scanned.Refused 12 (leb start (length recording))
+    check Scanned.Refused UnknownFormat (known f)  -- 1
+    (check Scanned.Refused StartPastEnd (leb start (length recording))  -- 12
     (lowestOf f recording (length recording + 1 - (firstPlace start + size f)) (firstPlace start)))

@@ -23,6 +23,7 @@ use Rattle.timecode.specs.Layout.{second, minute, hour}
 use Rattle.timecode.specs.declared.Format.{Format}
 use Rattle.timecode.specs.declared.Reading.{Reading}
 use Rattle.timecode.specs.declared.Reading.the-variants.{Accepted}
+use Rattle.timecode.specs.declared.Refusal.the-variants.{UnknownSymbol}
 use Rattle.timecode.specs.declared.Refusal.{Refusal}
 use Rattle.timecode.specs.declared.Scanned.the-variants.{Found, None}
 use Rattle.timecode.specs.declared.Stepped.{Stepped}

@@ -1,17 +1,18 @@
 -- Document 01, "Stepping, writing, reading": Step and next after, Write, Read, and the generator.
 -- Document 02: the step back; both steps are told the kind of the earlier time's day, and 23:59:60 is read where it is carried.
 use mathlib.Core.Path.{_≡_}
-use mathlib.Core.Bool.{Bool, true, false, cond, _&&_, _||_}
+use mathlib.Core.Bool.{Bool, true, false, cond, not, _&&_, _||_}
 use mathlib.Core.List.{List, [], _∷_, _++_}
 use Prim.Native.Nat.{ℕ, suc, _+_, _-_, _*_, _/_, _^_, _<_}
 use lib.Dec.{leb, ltb, eqb}
 use lib.ListN.{getD, length}
-use Rattle.timecode.specs.Answers.{refusal, check}
+use Rattle.timecode.specs.Answers.{check}
 use Rattle.timecode.specs.Formats.{member, isSymbol, known, size, interval, lastDay, dayLength, onFormat, carriesLeap, secondCarried}
 use Rattle.timecode.specs.Layout.{Run, Field, seconds, minutes, hours, days, tenths, hundredths, hasSeconds, straightSeconds, control, timeFields, fields, flatten, runs, numbers, spread, inRun, rest, encode, digitIn, numberIn}
 use Rattle.timecode.specs.declared.Format.{Format}
 use Rattle.timecode.specs.declared.Reading.{Reading}
 use Rattle.timecode.specs.declared.Reading.the-variants.{Accepted}
+use Rattle.timecode.specs.declared.Refusal.the-variants.{UnknownFormat, InvalidTime, WrongLength, UnknownSymbol, MisplacedMark, InvalidElement, InvalidDigit, SecondsDiffer, ControlTooLong, InvalidYearLength, SecondNotCarried, InvalidKind}
 use Rattle.timecode.specs.declared.Stepped.{Stepped}
 use Rattle.timecode.specs.declared.Stepped.the-variants.{Next}
 use Rattle.timecode.specs.declared.Time.{Time}
@@ -71,11 +72,11 @@ following f t year kind = cond (eqb (t .hundredths + interval f) (dayEnd f kind)
 -- Both steps check the time that is given with 1, 2, 14, 11, 15. The kind is that of the earlier time's day.
 abbrev pub checkStep : Format → Time → ℕ → ℕ → Stepped → Stepped
 checkStep f t year kind answer =
-    check Stepped.Refused 1 (known f)
-    (check Stepped.Refused 2 (onFormat f t)
-    (check Stepped.Refused 14 (secondCarried f t)
-    (check Stepped.Refused 11 (inYear t year)
-    (check Stepped.Refused 15 (onDay f t kind)
+    check Stepped.Refused UnknownFormat (known f)  -- 1
+    (check Stepped.Refused InvalidTime (onFormat f t)  -- 2
+    (check Stepped.Refused SecondNotCarried (secondCarried f t)  -- 14
+    (check Stepped.Refused InvalidYearLength (inYear t year)  -- 11
+    (check Stepped.Refused InvalidKind (onDay f t kind)  -- 15
     answer))))
 
 unfoldable pub stepOf : Format → Time → ℕ → ℕ → Stepped
@@ -144,11 +145,11 @@ controlFits f w = ltb w (2 ^ totalWidth (control f))
 -- Write checks 1, 2, 14, 9, 3.
 unfoldable pub writeOf : Format → Time → ℕ → List ℕ → Written
 writeOf f t w lent =
-    check Written.Refused 1 (known f)
-    (check Written.Refused 2 (onFormat f t)
-    (check Written.Refused 14 (secondCarried f t)
-    (check Written.Refused 9 (controlFits f w)
-    (check Written.Refused 3 (eqb (length lent) (size f))
+    check Written.Refused UnknownFormat (known f)  -- 1
+    (check Written.Refused InvalidTime (onFormat f t)  -- 2
+    (check Written.Refused SecondNotCarried (secondCarried f t)  -- 14
+    (check Written.Refused ControlTooLong (controlFits f w)  -- 9
+    (check Written.Refused WrongLength (eqb (length lent) (size f))  -- 3
     Done))))
 
 -- lent memory after a call: new contents where it was done, and the old where it was refused
@@ -172,18 +173,25 @@ abbrev pub held : List Run → ℕ → Bool
 held [] i = false
 held (r ∷ rs) i = inRun r i || held rs i
 
--- What is wrong with symbol s at index i: 0, nothing; 5, a mark missing or where none belongs; 6, another symbol than the index marker's, or a 3 in the place of a digit, SBS or control bit.
-unfoldable pub offence : (ℕ → ℕ) → List Run → ℕ → ℕ → ℕ
-offence rests rs i s =
-    cond (held rs i)
-    (cond (ltb s 2) 0 (cond (eqb s 2) 5 6))
-    (cond (eqb s (rests i)) 0 (cond (eqb s 2 || eqb (rests i) 2) 5 6))
+-- a mark belongs at index i: no run holds it, and a mark is what rests there
+abbrev pub markBelongs : (ℕ → ℕ) → List Run → ℕ → Bool
+markBelongs rests rs i = not (held rs i) && eqb (rests i) 2
 
--- numbers 5 and 6: the lowest index that offends, counted from i on, decides
+-- number 5: symbol s at index i is a mark exactly where one belongs
+unfoldable pub marksAgree : (ℕ → ℕ) → List Run → ℕ → ℕ → Bool
+marksAgree rests rs i s = cond (markBelongs rests rs i) (eqb s 2) (not (eqb s 2))
+
+-- number 6: 0 or 1 in the place of a digit, SBS or control bit, and elsewhere what rests there
+unfoldable pub elementFits : (ℕ → ℕ) → List Run → ℕ → ℕ → Bool
+elementFits rests rs i s = cond (held rs i) (ltb s 2) (eqb s (rests i))
+
+-- The lowest index that offends, counted from i on, decides.
 unfoldable pub checkElements : (ℕ → ℕ) → List Run → ℕ → List ℕ → Reading → Reading
 checkElements rests rs i [] answer = answer
 checkElements rests rs i (s ∷ ss) answer =
-    cond (eqb (offence rests rs i s) 0) (checkElements rests rs (suc i) ss answer) (Reading.Refused (refusal (offence rests rs i s) i))
+    check Reading.Refused (MisplacedMark i) (marksAgree rests rs i s)  -- 5
+    (check Reading.Refused (InvalidElement i) (elementFits rests rs i s)  -- 6
+    (checkElements rests rs (suc i) ss answer))
 
 -- every digit is at most 9
 abbrev pub areDigits : List ℕ → List Run → Bool
@@ -218,12 +226,12 @@ secondsAgree f frame = cond (hasSeconds f) (eqb (numberIn frame (straightSeconds
 -- Read checks 1, 3, 4, then the lowest index that offends with 5 or 6, then 7, 8.
 unfoldable pub readOf : Format → List ℕ → Reading
 readOf f frame =
-    check Reading.Refused 1 (known f)
-    (check Reading.Refused 3 (eqb (length frame) (size f))
-    (check Reading.Refused 4 (areSymbols frame)
+    check Reading.Refused UnknownFormat (known f)  -- 1
+    (check Reading.Refused WrongLength (eqb (length frame) (size f))  -- 3
+    (check Reading.Refused UnknownSymbol (areSymbols frame)  -- 4
     (checkElements (rest f) (runs f) 0 frame
-    (check Reading.Refused 7 (isTime f frame)
-    (check Reading.Refused 8 (secondsAgree f frame)
+    (check Reading.Refused InvalidDigit (isTime f frame)  -- 7
+    (check Reading.Refused SecondsDiffer (secondsAgree f frame)  -- 8
     (Accepted (timeIn f frame) (numberIn frame (control f))))))))
 
 -- ---- Generator

@@ -9,7 +9,7 @@ use lib.ListN.{drop, set, replicate}
 use Rattle.timecode.specs.Answers.{Said, writtenSaid, readingSaid, steppedSaid, subtractedSaid, classifiedSaid, scannedSaid}
 use Rattle.timecode.specs.Calls.{symbolOf, isInterval, classifyOf, differenceOf, partAt, lowestOf, scanOf}
 use Rattle.timecode.specs.Formats.{A, B, D, E, G, H, table, lookUp, rowOf, known, size, interval, carriesControl, carriesSeconds, inRange, onFormat, carriesLeap, secondCarried}
-use Rattle.timecode.specs.Frames.{inYear, dayAfter, usual, secondAdded, secondTaken, dayLengthOf, dayEnd, onDay, following, stepOf, nextAfter, dayBefore, preceding, stepBackOf, written, controlFits, writeOf, writeLeaves, offence, checkElements, lastSecond, isTime, timeIn, secondsAgree, readOf}
+use Rattle.timecode.specs.Frames.{inYear, dayAfter, usual, secondAdded, secondTaken, dayLengthOf, dayEnd, onDay, following, stepOf, nextAfter, dayBefore, preceding, stepBackOf, written, controlFits, writeOf, writeLeaves, marksAgree, elementFits, checkElements, lastSecond, isTime, timeIn, secondsAgree, readOf}
 use Rattle.timecode.specs.Layout.{seconds, minutes, hours, days, tenths, hundredths, hasSeconds, straightSeconds, controlRange, control, timeFields, fields, runs, timeNumbers, numbers, isMark, rest, symbolAt, encode, value}
 use Rattle.timecode.specs.declared.Format.{Format}
 use Rattle.timecode.specs.declared.Time.{Time}
@@ -286,5 +286,5 @@ lines =
     ∷ []
 
 pub all-lines : map (λ l. says (l .call)) lines ≡ map (λ l. l .said) lines
-unfolding lines readOf checkElements offence lastSecond isTime timeIn secondsAgree value scanOf lowestOf partAt stepOf nextAfter known rowOf lookUp table size interval carriesControl carriesSeconds inRange onFormat carriesLeap secondCarried inYear dayAfter dayLengthOf dayEnd onDay following dayBefore preceding stepBackOf writeOf writeLeaves written controlFits encode symbolAt rest isMark runs fields timeFields numbers timeNumbers seconds minutes hours days tenths hundredths straightSeconds hasSeconds control controlRange differenceOf classifyOf isInterval symbolOf
+unfolding lines readOf checkElements marksAgree elementFits lastSecond isTime timeIn secondsAgree value scanOf lowestOf partAt stepOf nextAfter known rowOf lookUp table size interval carriesControl carriesSeconds inRange onFormat carriesLeap secondCarried inYear dayAfter dayLengthOf dayEnd onDay following dayBefore preceding stepBackOf writeOf writeLeaves written controlFits encode symbolAt rest isMark runs fields timeFields numbers timeNumbers seconds minutes hours days tenths hundredths straightSeconds hasSeconds control controlRange differenceOf classifyOf isInterval symbolOf
 all-lines = refl

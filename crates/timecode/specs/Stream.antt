@@ -5,7 +5,6 @@ use mathlib.Core.List.{List, [], _∷_, _++_}
 use Prim.Native.Nat.{ℕ, suc, _+_, _*_, _-_, _<_, _≤_}
 use lib.Dec.{leb, eqb}
 use lib.ListN.{getD, length, take, drop}
-use Rattle.timecode.specs.Answers.{refusal}
 use Rattle.timecode.specs.Formats.{isSymbol, size}
 use Rattle.timecode.specs.Frames.{nextAfter, readOf}
 use Rattle.timecode.specs.declared.Answer.{Answer}
@@ -13,6 +12,7 @@ use Rattle.timecode.specs.declared.Answer.the-variants.{Quiet, Report}
 use Rattle.timecode.specs.declared.Format.{Format}
 use Rattle.timecode.specs.declared.Reading.{Reading}
 use Rattle.timecode.specs.declared.Reading.the-variants.{Accepted}
+use Rattle.timecode.specs.declared.Refusal.the-variants.{UnknownSymbol}
 use Rattle.timecode.specs.declared.Time.{Time}
 
 -- the window: 2n + 1 symbols
@@ -51,7 +51,7 @@ unfoldable pub plainFeed : Format → List ℕ → ℕ → Plain
 plainFeed f held s =
     cond (isSymbol s)
     (record { held = held ++ (s ∷ []); answer = plainAnswer f (held ++ (s ∷ [])) })
-    (record { held = held; answer = Answer.Refused (refusal 4 0) })
+    (record { held = held; answer = Answer.Refused UnknownSymbol })
 
 -- the answers to a list of Feeds, and the list held after them
 unfoldable pub plainAnswers : Format → List ℕ → List ℕ → List Answer

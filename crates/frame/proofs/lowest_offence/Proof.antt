@@ -3,7 +3,7 @@ use borrow.Author.Needs.{needs}
 use native.Mathlib.Omega.{arith}
 use mathlib.Core.Path.{_≡_, refl, sym, _∙_}
 use Prim.Native.Nat.{_-_, _≤_}
-use borrow.Author.Tests.{eq-eqb, ne-eqb}
+use borrow.Author.Tests.{not-true, not-false}
 use lib.ListN.{length, drop}
 use Rattle.frame.specs.Offences.{offendedOf, offendedFrom, offended-turn, offended-end}
 use Rattle.frame.proofs.lowest_offence.Statement.{statement}
@@ -18,24 +18,33 @@ abbrev μ-loop : tie.MeasureT-loop
 loop-holds : tie.Need-loop-holds Inv-loop μ-loop
 loop-holds c = (omega arith, refl)
 
-shared-slice-read-judge : tie.Need-shared-slice-read-judge Inv-loop μ-loop
-shared-slice-read-judge c = omega (arith, c .before .before .before .before .before .pre)
+shared-slice-read-marks-agree : tie.Need-shared-slice-read-marks-agree Inv-loop μ-loop
+shared-slice-read-marks-agree c = omega (arith, c .before .before .before .before .before .pre)
 
-shared-slice-read-judge-2 : tie.Need-shared-slice-read-judge-2 Inv-loop μ-loop
-shared-slice-read-judge-2 c = omega arith
+shared-slice-read-marks-agree-2 : tie.Need-shared-slice-read-marks-agree-2 Inv-loop μ-loop
+shared-slice-read-marks-agree-2 c = omega arith
 
-judge-requires : tie.Need-judge-requires Inv-loop μ-loop
-judge-requires c κs = search needs
+marks-agree-requires : tie.Need-marks-agree-requires Inv-loop μ-loop
+marks-agree-requires c κs = search needs
 
 returns : tie.Need-returns Inv-loop μ-loop
 returns c =
     let start = c .before .before .before .before .before .before .before .before in
-    sym (c .before .before .before .before .before .loop .inv .1 ∙ offended-turn (start .args .form .now) (start .args .frame .now) (c .before .before .before .before .before .loop .index) (omega (arith, start .pre)) (omega arith) ∙ rw (← c .before .judge .ensures, eq-eqb _ _ (c .if1 .taken)))
+    sym (c .before .before .before .before .before .loop .inv .1 ∙ offended-turn (start .args .form .now) (start .args .frame .now) (c .before .before .before .before .before .loop .index) (omega (arith, start .pre)) (omega arith) ∙ rw (← c .before .marks-agree .ensures, not-true (c .before .marks-agree .result) (c .if1 .taken)))
+
+shared-slice-read-element-fits : tie.Need-shared-slice-read-element-fits Inv-loop μ-loop
+shared-slice-read-element-fits c = omega (arith, c .before .before .before .before .before .before .before .before .before .pre)
+
+shared-slice-read-element-fits-2 : tie.Need-shared-slice-read-element-fits-2 Inv-loop μ-loop
+shared-slice-read-element-fits-2 c = omega arith
+
+element-fits-requires : tie.Need-element-fits-requires Inv-loop μ-loop
+element-fits-requires c κs = search needs
 
 returns-2 : tie.Need-returns-2 Inv-loop μ-loop
 returns-2 c =
-    let start = c .before .before .before .before .before .before .before .before .before in
-    sym (c .before .before .before .before .before .before .loop .inv .1 ∙ offended-turn (start .args .form .now) (start .args .frame .now) (c .before .before .before .before .before .before .loop .index) (omega (arith, start .pre)) (omega arith) ∙ rw (← c .before .before .judge .ensures, ne-eqb _ _ (c .before .if1 .left), eq-eqb _ _ (c .if2 .taken)))
+    let start = c .before .before .before .before .before .before .before .before .before .before .before .before in
+    sym (c .before .before .before .before .before .before .before .before .before .loop .inv .1 ∙ offended-turn (start .args .form .now) (start .args .frame .now) (c .before .before .before .before .before .before .before .before .before .loop .index) (omega (arith, start .pre)) (omega arith) ∙ rw (← c .before .before .before .before .before .marks-agree .ensures, not-false (c .before .before .before .before .before .marks-agree .result) (c .before .before .before .before .if1 .left), ← c .before .element-fits .ensures, not-true (c .before .element-fits .result) (c .if2 .taken)))
 
 add-index : tie.Need-add-index Inv-loop μ-loop
 add-index c = omega arith
@@ -45,8 +54,8 @@ loop-less c = omega arith
 
 loop-again : tie.Need-loop-again Inv-loop μ-loop
 loop-again c =
-    let start = c .before .before .before .before .before .before .before .before .before in
-    (omega arith, c .before .before .before .before .before .before .loop .inv .1 ∙ offended-turn (start .args .form .now) (start .args .frame .now) (c .before .before .before .before .before .before .loop .index) (omega (arith, start .pre)) (omega arith) ∙ rw (← c .before .before .judge .ensures, ne-eqb _ _ (c .before .if1 .left), ne-eqb _ _ (c .if2 .left)))
+    let start = c .before .before .before .before .before .before .before .before .before .before .before .before in
+    (omega arith, c .before .before .before .before .before .before .before .before .before .loop .inv .1 ∙ offended-turn (start .args .form .now) (start .args .frame .now) (c .before .before .before .before .before .before .before .before .before .loop .index) (omega (arith, start .pre)) (omega arith) ∙ rw (← c .before .before .before .before .before .marks-agree .ensures, not-false (c .before .before .before .before .before .marks-agree .result) (c .before .before .before .before .if1 .left), ← c .before .element-fits .ensures, not-false (c .before .element-fits .result) (c .if2 .left)))
 
 returns-3 : tie.Need-returns-3 Inv-loop μ-loop
 returns-3 c = sym (c .before .loop .inv .1 ∙ offended-end (c .before .before .before .before .args .form .now) (c .before .before .before .before .args .frame .now) (c .before .loop .index) (omega arith))
@@ -58,10 +67,13 @@ lowest-offence-spec =
     Inv-loop
     μ-loop
     loop-holds
-    shared-slice-read-judge
-    shared-slice-read-judge-2
-    judge-requires
+    shared-slice-read-marks-agree
+    shared-slice-read-marks-agree-2
+    marks-agree-requires
     returns
+    shared-slice-read-element-fits
+    shared-slice-read-element-fits-2
+    element-fits-requires
     returns-2
     add-index
     loop-less

@@ -12,6 +12,7 @@ use Rattle.border.proofs.reader_in.Reads as reader-in-reads
 use Rattle.border.proofs.words_for.Reads as words-for-reads
 use Rattle.stream.proofs.is_valid.Reads as is-valid-reads
 use Rattle.stream.proofs.pass.Reads as pass-reads
+use Rattle.refusals.proofs.number_of.Reads as number-of-reads
 
 reader-in-requires : tie.Need-reader-in-requires
 reader-in-requires c κs = search needs
@@ -35,13 +36,19 @@ enum-told c = search needs
 is-valid-requires : tie.Need-is-valid-requires
 is-valid-requires c κs = search needs
 
+number-of-requires : tie.Need-number-of-requires
+number-of-requires c κs = search needs
+
 returns-2 : tie.Need-returns-2
 unfolding feedOf
-returns-2 c = let valid = sym (c .before .is-valid .ensures) ∙ c .if1 .taken in rw (← c .before .before .before .before .before .reader-in .ensures, unknown-answer (c .before .before .before .before .before .reader-in .result) (c .before .before .before .before .before .before .before .args .symbol) valid (not-passed (c .before .before .before .before .before .reader-in .result) (c .before .before .before .before .before .before .before .args .symbol) (sym (c .before .before .enum-told .given .1) ∙ c .before .before .before .before .pass .ensures) (c .before .before .before .before .before .before .before .pre) valid)) (refl, (refl, (refl, refl)))
+returns-2 c = let valid = sym (c .before .before .is-valid .ensures) ∙ c .before .if1 .taken in rw (← c .before .before .before .before .before .before .reader-in .ensures, unknown-answer (c .before .before .before .before .before .before .reader-in .result) (c .before .before .before .before .before .before .before .before .args .symbol) valid (not-passed (c .before .before .before .before .before .before .reader-in .result) (c .before .before .before .before .before .before .before .before .args .symbol) (sym (c .before .before .before .enum-told .given .1) ∙ c .before .before .before .before .before .pass .ensures) (c .before .before .before .before .before .before .before .before .pre) valid)) (c .number-of .ensures, (refl, (refl, refl)))
+
+number-of-requires-2 : tie.Need-number-of-requires-2
+number-of-requires-2 c κs = search needs
 
 returns-3 : tie.Need-returns-3
 unfolding feedOf
-returns-3 c = rw (← c .before .before .before .before .before .reader-in .ensures, invalid-answer (c .before .before .before .before .before .reader-in .result) (c .before .before .before .before .before .before .before .args .symbol) (sym (c .before .is-valid .ensures) ∙ c .if1 .left)) (refl, (refl, (refl, refl)))
+returns-3 c = rw (← c .before .before .before .before .before .before .reader-in .ensures, invalid-answer (c .before .before .before .before .before .before .reader-in .result) (c .before .before .before .before .before .before .before .before .args .symbol) (sym (c .before .before .is-valid .ensures) ∙ c .before .if1 .left)) (c .number-of2 .ensures, (refl, (refl, refl)))
 
 pub feed-other-spec : {M : Type 1} → statement M
 feed-other-spec =
@@ -54,5 +61,7 @@ feed-other-spec =
     returns
     enum-told
     is-valid-requires
+    number-of-requires
     returns-2
+    number-of-requires-2
     returns-3)

@@ -1,10 +1,9 @@
 -- A chain of checks taken apart: an answer that is no refusal passed them all.
 use mathlib.Core.Path.{_≡_, refl, subst}
 use mathlib.Core.Bool.{Bool, true, false}
-use mathlib.Core.List.{[], _∷_, map}
 use Prim.Native.Nat.{ℕ, _≤_}
 use native.Mathlib.Omega.{arith}
-use Rattle.timecode.specs.Answers.{number, refusal, check}
+use Rattle.timecode.specs.Answers.{number, check}
 use Rattle.timecode.specs.declared.Answer.{Answer}
 use Rattle.timecode.specs.declared.Answer.the-variants.{Quiet, Report}
 use Rattle.timecode.specs.declared.Reading.{Reading}
@@ -16,23 +15,19 @@ use Rattle.timecode.specs.declared.Time.{Time}
 use Rattle.timecode.specs.declared.Written.{Written}
 use Rattle.timecode.specs.declared.Written.the-variants.{Done}
 
--- the refusal with the number k has the number k
-pub numbered : (i : ℕ) → map (λ k. number (refusal k i)) (1 ∷ 2 ∷ 3 ∷ 4 ∷ 5 ∷ 6 ∷ 7 ∷ 8 ∷ 9 ∷ 10 ∷ 11 ∷ 12 ∷ 13 ∷ 14 ∷ 15 ∷ []) ≡ 1 ∷ 2 ∷ 3 ∷ 4 ∷ 5 ∷ 6 ∷ 7 ∷ 8 ∷ 9 ∷ 10 ∷ 11 ∷ 12 ∷ 13 ∷ 14 ∷ 15 ∷ []
-numbered i = refl
-
 -- the answer a is none of the refusals
 abbrev pub Taken : {Any : Type 0} → (Refusal → Any) → Any → Type 0
 Taken refused a = (r : Refusal) → refused r ≡ a → ⊥
 
-pub passed : {Any : Type 0} (refused : Refusal → Any) (k : ℕ) (b : Bool) (a x : Any) → Taken refused x → check refused k b a ≡ x → (b ≡ true) × (a ≡ x)
+pub passed : {Any : Type 0} (refused : Refusal → Any) (k : Refusal) (b : Bool) (a x : Any) → Taken refused x → check refused k b a ≡ x → (b ≡ true) × (a ≡ x)
 passed refused k true a x t h = (refl, h)
-passed refused k false a x t h = absurd (t (refusal k 0) h)
+passed refused k false a x t h = absurd (t k h)
 
-pub passes : {Any : Type 0} (refused : Refusal → Any) (k : ℕ) (b : Bool) (a : Any) → b ≡ true → check refused k b a ≡ a
+pub passes : {Any : Type 0} (refused : Refusal → Any) (k : Refusal) (b : Bool) (a : Any) → b ≡ true → check refused k b a ≡ a
 passes refused k b a h = rw h
 
 -- one check before two answers: what it makes of the first it makes of the second
-pub same-check : {Any : Type 0} (refused : Refusal → Any) (k : ℕ) (b : Bool) (a c x : Any) → (a ≡ x → c ≡ x) → check refused k b a ≡ x → check refused k b c ≡ x
+pub same-check : {Any : Type 0} (refused : Refusal → Any) (k : Refusal) (b : Bool) (a c x : Any) → (a ≡ x → c ≡ x) → check refused k b a ≡ x → check refused k b c ≡ x
 same-check refused k true a c x f h = f h
 same-check refused k false a c x f h = h
 
@@ -60,6 +55,6 @@ by-reading (Reading.Refused x) refused taken = refused x refl
 by-reading (Accepted t w) refused taken = taken t w refl
 
 -- a check of Read that refuses has its own number or a later one's
-pub refused-up-to : (n k : ℕ) (b : Bool) (a : Reading) (r : Refusal) → number (refusal k 0) ≤ n → (a ≡ Reading.Refused r → number r ≤ n) → check Reading.Refused k b a ≡ Reading.Refused r → number r ≤ n
+pub refused-up-to : (n : ℕ) (k : Refusal) (b : Bool) (a : Reading) (r : Refusal) → number k ≤ n → (a ≡ Reading.Refused r → number r ≤ n) → check Reading.Refused k b a ≡ Reading.Refused r → number r ≤ n
 refused-up-to n k true a r h later q = later q
-refused-up-to n k false a r h later q = let p : refusal k 0 ≡ r = cc in subst (λ (x : Refusal). number x ≤ n) p h
+refused-up-to n k false a r h later q = let p : k ≡ r = cc in subst (λ (x : Refusal). number x ≤ n) p h

@@ -10,7 +10,6 @@ use native.Mathlib.Decide.{decLe, decLt}
 use borrow.Author.Tests.{leb-true, leb-false, le-leb, lt-leb}
 use lib.ListN.{getD, length, take, drop, length-append, length-drop, take-append-drop}
 use lib.Seq.{drop-cons, drop-drop, drop-at, take-at, take-all, drop-append-le}
-use Rattle.timecode.specs.Answers.{refusal}
 use Rattle.timecode.specs.Formats.{isSymbol, size}
 use Rattle.timecode.specs.Laws.Checks.{quiet-no-report, refused-no-report}
 use Rattle.timecode.specs.Laws.Marks.{accepted-length}
@@ -21,6 +20,7 @@ use Rattle.timecode.specs.Stream.{windowLength, frameIn, confirm, window
 use Rattle.timecode.specs.declared.Answer.{Answer}
 use Rattle.timecode.specs.declared.Answer.the-variants.{Quiet, Report}
 use Rattle.timecode.specs.declared.Format.{Format}
+use Rattle.timecode.specs.declared.Refusal.the-variants.{UnknownSymbol}
 use Rattle.timecode.specs.declared.Refusal.{Refusal}
 use Rattle.timecode.specs.declared.Time.{Time}
 
@@ -30,7 +30,7 @@ pub feed-accepts : (f : Format) (held : List ℕ) (s : ℕ) → s ≤ 3 → plai
 unfolding plainFeed
 feed-accepts f held s h = rw (le-leb s 3 h)
 
-pub feed-refuses : (f : Format) (held : List ℕ) (s : ℕ) → 3 < s → plainFeed f held s ≡ record { held = held; answer = Answer.Refused (refusal 4 0) }
+pub feed-refuses : (f : Format) (held : List ℕ) (s : ℕ) → 3 < s → plainFeed f held s ≡ record { held = held; answer = Answer.Refused UnknownSymbol }
 unfolding plainFeed
 feed-refuses f held s h = rw (lt-leb s 3 h)
 
@@ -156,7 +156,7 @@ feed-reports f held s t w = (λ h. go h (decLe s 3), λ e. ap (λ (p : Plain). p
   where
     go : plainFeed f held s .answer ≡ Report t w → Dec (s ≤ 3) → (s ≤ 3) × EndsInFrames f (held ++ (s ∷ [])) t w
     go h (yes l) = (l, report-ends f (held ++ (s ∷ [])) t w (sym (ap (λ (p : Plain). p .answer) (feed-accepts f held s l)) ∙ h))
-    go h (no l) = refused-no-report (refusal 4 0) t w (sym (ap (λ (p : Plain). p .answer) (feed-refuses f held s (omega arith))) ∙ h)
+    go h (no l) = refused-no-report UnknownSymbol t w (sym (ap (λ (p : Plain). p .answer) (feed-refuses f held s (omega arith))) ∙ h)
 
 -- ---- the answers depend on the last 2n + 1 symbols alone
 
@@ -196,7 +196,7 @@ same-answers f (s ∷ ss) xs ys w = go (same-answers f ss) (decLe s 3)
         let longer = same-longer f xs ys s w in
         rw (feed-accepts f xs s h, feed-accepts f ys s h)
         (ap₂ (λ (a : Answer) (as′ : List Answer). a ∷ as′) (same-answer f (xs ++ (s ∷ [])) (ys ++ (s ∷ [])) longer) (later (xs ++ (s ∷ [])) (ys ++ (s ∷ [])) longer))
-    go later (no h) = rw (feed-refuses f xs s (omega arith), feed-refuses f ys s (omega arith)) (ap (λ (zs : List Answer). Answer.Refused (refusal 4 0) ∷ zs) (later xs ys w))
+    go later (no h) = rw (feed-refuses f xs s (omega arith), feed-refuses f ys s (omega arith)) (ap (λ (zs : List Answer). Answer.Refused UnknownSymbol ∷ zs) (later xs ys w))
 
 -- ---- the answers by their index
 

@@ -9,13 +9,13 @@ use native.Mathlib.Omega.{arith}
 use borrow.Author.Tests.{leb-true, leb-false, eqb-true, eq-eqb}
 use lib.Dec.{leb, ltb, eqb}
 use lib.ListN.{getD, length}
-use Rattle.timecode.specs.Answers.{number, refusal}
+use Rattle.timecode.specs.Answers.{number}
 use Rattle.timecode.specs.Formats.{known, size, lastDay, lastHundredth, dayLength, carriesLeap}
-use Rattle.timecode.specs.Frames.{totalWidth, written, areSymbols, held, offence, checkElements, areDigits, lastSecond, isTime, timeIn, secondsAgree, readOf}
+use Rattle.timecode.specs.Frames.{totalWidth, written, areSymbols, marksAgree, elementFits, checkElements, areDigits, lastSecond, isTime, timeIn, secondsAgree, readOf}
 use Rattle.timecode.specs.Laws.Checks.{passed, accepted, refused-up-to}
 use Rattle.timecode.specs.Laws.Digits.{Below, capacity, joined, decode, joined-lt, digits-agree, number-joined}
 use Rattle.timecode.specs.Laws.Fields.{fields-together, digits-back, AreDigits, are-digits, Binary, binary-positive, binary-capacity, binary-below}
-use Rattle.timecode.specs.Laws.Runs.{Small, Clean, clean-bits, encode-decode, small-decoded, small-front, small-back}
+use Rattle.timecode.specs.Laws.Runs.{Small, Clean, fits-agree, clean-bits, encode-decode, small-decoded, small-front, small-back}
 use Rattle.timecode.specs.Laws.Table.{layout-proper}
 use Rattle.timecode.specs.Laws.Tests.{by-test, clash, and-left, and-right}
 use Rattle.timecode.specs.Laws.Times.{OnFormat, none-added, one-added, time-grid}
@@ -23,6 +23,7 @@ use Rattle.timecode.specs.Layout.{Run, seconds, minutes, hours, days, te
 use Rattle.timecode.specs.declared.Format.{Format}
 use Rattle.timecode.specs.declared.Reading.{Reading}
 use Rattle.timecode.specs.declared.Reading.the-variants.{Accepted}
+use Rattle.timecode.specs.declared.Refusal.the-variants.{UnknownFormat, WrongLength, UnknownSymbol, MisplacedMark, InvalidElement, InvalidDigit, SecondsDiffer}
 use Rattle.timecode.specs.declared.Refusal.{Refusal}
 use Rattle.timecode.specs.declared.Time.{Time}
 
@@ -34,30 +35,26 @@ pub record Valid (f : Format) (t : Time) (w : ℕ) : Type 0 where
 
 -- ---- elements that offend
 
-elements-head : (rests : ℕ → ℕ) (rs : List Run) (s : ℕ) (ss : List ℕ) (i : ℕ) (a : Reading) (t : Time) (w : ℕ) → checkElements rests rs i (s ∷ ss) a ≡ Accepted t w → eqb (offence rests rs i s) 0 ≡ true
-unfolding checkElements
-elements-head rests rs s ss i a t w h =
-    by-test (eqb (offence rests rs i s) 0) (λ y. y) (λ m. absurd (accepted t w (refusal (offence rests rs i s) i) (rw m at h)))
-
 elements-passed : (rests : ℕ → ℕ) (rs : List Run) (ss : List ℕ) (i : ℕ) (a : Reading) (t : Time) (w : ℕ) → checkElements rests rs i ss a ≡ Accepted t w
-    → ((k : ℕ) → k < length ss → offence rests rs (i + k) (getD ss k 0) ≡ 0) × (a ≡ Accepted t w)
+    → ((k : ℕ) → k < length ss → elementFits rests rs (i + k) (getD ss k 0) ≡ true) × (a ≡ Accepted t w)
 unfolding checkElements
 elements-passed rests rs [] i a t w h = (λ k l. absurd (not-suc-le-zero l), h)
 elements-passed rests rs (s ∷ ss) i a t w h =
-    let here = elements-head rests rs s ss i a t w h in
-    let later = elements-passed rests rs ss (suc i) a t w (rw here at h) in
-    (clean (eqb-true (offence rests rs i s) 0 here) (later .0), later .1)
+    let marks = passed Reading.Refused (MisplacedMark i) (marksAgree rests rs i s) _ (Accepted t w) (accepted t w) h in
+    let here = passed Reading.Refused (InvalidElement i) (elementFits rests rs i s) _ (Accepted t w) (accepted t w) (marks .1) in
+    let later = elements-passed rests rs ss (suc i) a t w (here .1) in
+    (clean (here .0) (later .0), later .1)
   where
-    clean : offence rests rs i s ≡ 0 → ((k : ℕ) → k < length ss → offence rests rs (suc i + k) (getD ss k 0) ≡ 0) → (k : ℕ) → k < suc (length ss) → offence rests rs (i + k) (getD (s ∷ ss) k 0) ≡ 0
+    clean : elementFits rests rs i s ≡ true → ((k : ℕ) → k < length ss → elementFits rests rs (suc i + k) (getD ss k 0) ≡ true) → (k : ℕ) → k < suc (length ss) → elementFits rests rs (i + k) (getD (s ∷ ss) k 0) ≡ true
     clean z c zero l = rw (add-zero i) z
     clean z c (suc k) l = rw (add-suc i k, ← suc-add i k) (c k (omega arith))
 
-pub elements-pass : (rests : ℕ → ℕ) (rs : List Run) (ss : List ℕ) (i : ℕ) (a : Reading) → ((k : ℕ) → k < length ss → offence rests rs (i + k) (getD ss k 0) ≡ 0) → checkElements rests rs i ss a ≡ a
+pub elements-pass : (rests : ℕ → ℕ) (rs : List Run) (ss : List ℕ) (i : ℕ) (a : Reading) → ((k : ℕ) → k < length ss → elementFits rests rs (i + k) (getD ss k 0) ≡ true) → checkElements rests rs i ss a ≡ a
 unfolding checkElements
 elements-pass rests rs [] i a c = refl
 elements-pass rests rs (s ∷ ss) i a c =
-    let z : offence rests rs i s ≡ 0 = rw (add-zero i) at (c 0 (omega arith)) in
-    rw (eq-eqb (offence rests rs i s) 0 z) (elements-pass rests rs ss (suc i) a (λ k l. rw (suc-add i k, ← add-suc i k) (c (suc k) (omega arith))))
+    let z : elementFits rests rs i s ≡ true = rw (add-zero i) at (c 0 (omega arith)) in
+    rw (fits-agree 0 rests rs i s z, z) (elements-pass rests rs ss (suc i) a (λ k l. rw (suc-add i k, ← add-suc i k) (c (suc k) (omega arith))))
 
 -- ---- what Read accepts was written
 
@@ -225,12 +222,12 @@ module _ (f : Format) (frame : List ℕ) (k : known f ≡ true) (n : length fram
 pub accepted-was-written : (f : Format) (frame : List ℕ) (t : Time) (w : ℕ) → readOf f frame ≡ Accepted t w → Valid f t w × (written f t w ≡ frame)
 unfolding readOf
 accepted-was-written f frame t w h =
-    let a = passed Reading.Refused 1 (known f) _ (Accepted t w) (accepted t w) h in
-    let b = passed Reading.Refused 3 (eqb (length frame) (size f)) _ (Accepted t w) (accepted t w) (a .1) in
-    let c = passed Reading.Refused 4 (areSymbols frame) _ (Accepted t w) (accepted t w) (b .1) in
+    let a = passed Reading.Refused UnknownFormat (known f) _ (Accepted t w) (accepted t w) h in
+    let b = passed Reading.Refused WrongLength (eqb (length frame) (size f)) _ (Accepted t w) (accepted t w) (a .1) in
+    let c = passed Reading.Refused UnknownSymbol (areSymbols frame) _ (Accepted t w) (accepted t w) (b .1) in
     let d = elements-passed (rest f) (runs f) frame 0 _ t w (c .1) in
-    let e = passed Reading.Refused 7 (isTime f frame) _ (Accepted t w) (accepted t w) (d .1) in
-    let g = passed Reading.Refused 8 (secondsAgree f frame) _ (Accepted t w) (accepted t w) (e .1) in
+    let e = passed Reading.Refused InvalidDigit (isTime f frame) _ (Accepted t w) (accepted t w) (d .1) in
+    let g = passed Reading.Refused SecondsDiffer (secondsAgree f frame) _ (Accepted t w) (accepted t w) (e .1) in
     let last = g .1 in
     let same-time : timeIn f frame ≡ t = cc in
     let same-control : numberIn frame (control f) ≡ w = cc in
@@ -241,31 +238,21 @@ accepted-was-written f frame t w h =
 
 -- ---- the numbers that Read refuses with
 
-offence-up-to : (rests : ℕ → ℕ) (rs : List Run) (i s : ℕ) → number (refusal (offence rests rs i s) i) ≤ 8
-unfolding offence
-offence-up-to rests rs i s =
-    by-test (held rs i)
-    (λ y. by-test (ltb s 2) (λ a. rw (y, a) (omega arith)) (λ a. by-test (eqb s 2) (λ b. rw (y, a, b) (omega arith)) (λ b. rw (y, a, b) (omega arith))))
-    (λ n. by-test (eqb s (rests i)) (λ a. rw (n, a) (omega arith)) (λ a. by-test (eqb s 2 || eqb (rests i) 2) (λ b. rw (n, a, b) (omega arith)) (λ b. rw (n, a, b) (omega arith))))
-
 elements-up-to : (rests : ℕ → ℕ) (rs : List Run) (ss : List ℕ) (i : ℕ) (a : Reading) (r : Refusal) → (a ≡ Reading.Refused r → number r ≤ 8) → checkElements rests rs i ss a ≡ Reading.Refused r → number r ≤ 8
 unfolding checkElements
-elements-up-to rests rs [] i a r later h = later h
-elements-up-to rests rs (s ∷ ss) i a r later h =
-    by-test (eqb (offence rests rs i s) 0)
-    (λ y. elements-up-to rests rs ss (suc i) a r later (rw y at h))
-    (λ m.
-    let z : Reading.Refused (refusal (offence rests rs i s) i) ≡ Reading.Refused r = rw m at h in
-    let p : refusal (offence rests rs i s) i ≡ r = cc in
-    subst (λ (x : Refusal). number x ≤ 8) p (offence-up-to rests rs i s))
+elements-up-to rests rs [] i a r later = later
+elements-up-to rests rs (s ∷ ss) i a r later =
+    refused-up-to 8 (MisplacedMark i) (marksAgree rests rs i s) _ r (omega arith)
+    (refused-up-to 8 (InvalidElement i) (elementFits rests rs i s) _ r (omega arith)
+    (elements-up-to rests rs ss (suc i) a r later))
 
 pub refused-up-to-8 : (f : Format) (frame : List ℕ) (r : Refusal) → readOf f frame ≡ Reading.Refused r → number r ≤ 8
 unfolding readOf
 refused-up-to-8 f frame r =
-    refused-up-to 8 1 (known f) _ r (omega arith)
-    (refused-up-to 8 3 (eqb (length frame) (size f)) _ r (omega arith)
-    (refused-up-to 8 4 (areSymbols frame) _ r (omega arith)
+    refused-up-to 8 UnknownFormat (known f) _ r (omega arith)
+    (refused-up-to 8 WrongLength (eqb (length frame) (size f)) _ r (omega arith)
+    (refused-up-to 8 UnknownSymbol (areSymbols frame) _ r (omega arith)
     (elements-up-to (rest f) (runs f) frame 0 _ r
-    (refused-up-to 8 7 (isTime f frame) _ r (omega arith)
-    (refused-up-to 8 8 (secondsAgree f frame) _ r (omega arith)
+    (refused-up-to 8 InvalidDigit (isTime f frame) _ r (omega arith)
+    (refused-up-to 8 SecondsDiffer (secondsAgree f frame) _ r (omega arith)
     (λ h. absurd (accepted (timeIn f frame) (numberIn frame (control f)) r (sym h))))))))

@@ -6,11 +6,11 @@ use Prim.Native.Nat.{ℕ, zero, suc, _+_, _^_, _<_, _≤_}
 use native.Mathlib.Nat.{add-zero, add-suc, suc-add, zero-add, not-suc-le-zero, mod-eq-of-lt}
 use native.Mathlib.Numerals.{add-one}
 use native.Mathlib.Omega.{arith}
-use borrow.Author.Tests.{ltb-true, leb-true, eqb-true, not-true, lt-ltb, le-leb, eq-eqb}
+use borrow.Author.Tests.{ltb-true, leb-true, eqb-true, not-true, lt-ltb, le-leb, eq-eqb, ne-eqb}
 use lib.Dec.{leb, ltb, eqb}
 use lib.ListN.{getD, length, take, set}
 use lib.Seq.{ext-getD, take-suc-set, take-length}
-use Rattle.timecode.specs.Frames.{held, offence}
+use Rattle.timecode.specs.Frames.{held, marksAgree, elementFits}
 use Rattle.timecode.specs.Laws.Bits.{value-of-bits, value-small, bits-of-value}
 use Rattle.timecode.specs.Laws.Digits.{decode}
 use Rattle.timecode.specs.Laws.Tests.{by-test, clash, and-left, and-right, or-other, or-first, or-second, neither-first, neither-second}
@@ -187,23 +187,27 @@ module _ (n : ℕ) (rests : ℕ → ℕ) where
   symbol-held (r ∷ rs) [] l i h = let n : ⊥ = omega arith in absurd n
   symbol-held (r ∷ rs) (x ∷ xs) l i h = by-test (inRun r i) (λ y. rw y (omega arith)) (λ m. rw m (symbol-held rs xs (omega arith) i (or-other (inRun r i) (held rs i) m h)))
 
-  -- nothing in the frame offends
+  -- every element of the frame fits its place, so that none offends
   abbrev pub Clean : List Run → List ℕ → Type 0
-  Clean rs frame = (i : ℕ) → i < n → offence rests rs i (getD frame i 0) ≡ 0
+  Clean rs frame = (i : ℕ) → i < n → elementFits rests rs i (getD frame i 0) ≡ true
 
-  clean-held : (rs : List Run) (i s : ℕ) → offence rests rs i s ≡ 0 → held rs i ≡ true → s < 2
-  unfolding offence
-  clean-held rs i s h y =
-      by-test (ltb s 2)
-      (λ u. ltb-true s 2 u)
-      (λ u. by-test (eqb s 2) (λ z. let k : _≡_ {A = ℕ} 5 0 = rw (y, u, z) at h in omega arith) (λ z. let k : _≡_ {A = ℕ} 6 0 = rw (y, u, z) at h in omega arith))
+  clean-held : (rs : List Run) (i s : ℕ) → elementFits rests rs i s ≡ true → held rs i ≡ true → s < 2
+  unfolding elementFits
+  clean-held rs i s h y = ltb-true s 2 (rw y at h)
 
-  clean-free : (rs : List Run) (i s : ℕ) → offence rests rs i s ≡ 0 → held rs i ≡ false → s ≡ rests i
-  unfolding offence
-  clean-free rs i s h y =
-      by-test (eqb s (rests i))
-      (λ u. eqb-true s (rests i) u)
-      (λ u. by-test (eqb s 2 || eqb (rests i) 2) (λ z. let k : _≡_ {A = ℕ} 5 0 = rw (y, u, z) at h in omega arith) (λ z. let k : _≡_ {A = ℕ} 6 0 = rw (y, u, z) at h in omega arith))
+  clean-free : (rs : List Run) (i s : ℕ) → elementFits rests rs i s ≡ true → held rs i ≡ false → s ≡ rests i
+  unfolding elementFits
+  clean-free rs i s h y = eqb-true s (rests i) (rw y at h)
+
+  -- an element that fits its place is a mark exactly where one belongs
+  pub fits-agree : (rs : List Run) (i s : ℕ) → elementFits rests rs i s ≡ true → marksAgree rests rs i s ≡ true
+  unfolding marksAgree
+  fits-agree rs i s h =
+      by-test (held rs i)
+      (λ y. let b : s < 2 = clean-held rs i s h y in rw (y, ne-eqb s 2 (λ e. omega arith)))
+      (λ m.
+      rw (m, ← clean-free rs i s h m)
+      (by-test (eqb s 2) (λ u. rw u) (λ u. rw u)))
 
   pub clean-bits : (rs : List Run) (frame : List ℕ) → proper n rests rs ≡ true → Clean rs frame → (i : ℕ) → held rs i ≡ true → getD frame i 0 < 2
   clean-bits rs frame t c i h = clean-held rs i (getD frame i 0) (c i (held-inside rs t i h .0)) h
@@ -231,7 +235,7 @@ module _ (n : ℕ) (rests : ℕ → ℕ) where
       (λ m. symbol-free rs (decode rs frame) i m ∙ sym (clean-free rs i (getD frame i 0) (c i k) m)))
 
   pub encode-clean : (rs : List Run) (xs : List ℕ) → length xs ≡ length rs → Clean rs (encode n rests rs xs)
-  unfolding offence
+  unfolding elementFits
   encode-clean rs xs l i h =
       rw (getD-encode n rests rs xs i h)
       (by-test (held rs i)

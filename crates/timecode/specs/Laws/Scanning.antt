@@ -17,6 +17,7 @@ use Rattle.timecode.specs.Laws.Marks.{size-positive, accepted-length}
 use Rattle.timecode.specs.Laws.Tests.{by-test}
 use Rattle.timecode.specs.declared.Format.{Format}
 use Rattle.timecode.specs.declared.Reading.the-variants.{Accepted}
+use Rattle.timecode.specs.declared.Refusal.the-variants.{UnknownFormat, StartPastEnd}
 use Rattle.timecode.specs.declared.Refusal.{Refusal}
 use Rattle.timecode.specs.declared.Scanned.{Scanned}
 use Rattle.timecode.specs.declared.Scanned.the-variants.{Found, None}
@@ -141,13 +142,13 @@ module _ (f : Format) (recording : List ℕ) (start : ℕ) where
   looked : (x : Scanned) → ((r : Refusal) → Scanned.Refused r ≡ x → ⊥) → scanOf f recording start ≡ x → Looks × (lowestOf f recording places (firstPlace start) ≡ x)
   unfolding scanOf
   looked x taken h =
-      let a = passed Scanned.Refused 1 (known f) _ x taken h in
-      let b = passed Scanned.Refused 12 (leb start (length recording)) _ x taken (a .1) in
+      let a = passed Scanned.Refused UnknownFormat (known f) _ x taken h in
+      let b = passed Scanned.Refused StartPastEnd (leb start (length recording)) _ x taken (a .1) in
       (record { format = a .0; inside = leb-true start (length recording) (b .0) }, b .1)
 
   looks : Looks → scanOf f recording start ≡ lowestOf f recording places (firstPlace start)
   unfolding scanOf
-  looks l = passes Scanned.Refused 1 (known f) _ (l .format) ∙ passes Scanned.Refused 12 (leb start (length recording)) _ (le-leb start (length recording) (l .inside))
+  looks l = passes Scanned.Refused UnknownFormat (known f) _ (l .format) ∙ passes Scanned.Refused StartPastEnd (leb start (length recording)) _ (le-leb start (length recording) (l .inside))
 
   -- the lowest such a, and it is the answer
   pub record LowestAt (a : ℕ) (t : Time) (w : ℕ) : Type 0 where

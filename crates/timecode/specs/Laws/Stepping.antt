@@ -15,6 +15,7 @@ use Rattle.timecode.specs.Laws.Table.{everyFormat, of-every}
 use Rattle.timecode.specs.Laws.Tests.{by-test, clash, and-left, and-right, or-other, or-first, or-second}
 use Rattle.timecode.specs.Laws.Times.{OnFormat, on-format, is-on-format, is-carried}
 use Rattle.timecode.specs.declared.Format.{Format}
+use Rattle.timecode.specs.declared.Refusal.the-variants.{UnknownFormat, InvalidTime, InvalidYearLength, SecondNotCarried, InvalidKind}
 use Rattle.timecode.specs.declared.Refusal.{Refusal}
 use Rattle.timecode.specs.declared.Stepped.{Stepped}
 use Rattle.timecode.specs.declared.Stepped.the-variants.{Next}
@@ -49,11 +50,11 @@ pub record Went (f : Format) (t : Time) (year kind : ℕ) (v u : Time) : Type 0 
 pub went-to : (f : Format) (t : Time) (year kind : ℕ) (v u : Time) → checkStep f t year kind (Next v) ≡ Next u → Went f t year kind v u
 unfolding inYear onDay
 went-to f t year kind v u h =
-    let a = passed Stepped.Refused 1 (known f) _ (Next u) (next u) h in
-    let b = passed Stepped.Refused 2 (onFormat f t) _ (Next u) (next u) (a .1) in
-    let s = passed Stepped.Refused 14 (secondCarried f t) _ (Next u) (next u) (b .1) in
-    let c = passed Stepped.Refused 11 (member year yearLengths && leb (t .day) year) _ (Next u) (next u) (s .1) in
-    let d = passed Stepped.Refused 15 (member kind kinds && ltb (t .hundredths) (dayEnd f kind)) _ (Next u) (next u) (c .1) in
+    let a = passed Stepped.Refused UnknownFormat (known f) _ (Next u) (next u) h in
+    let b = passed Stepped.Refused InvalidTime (onFormat f t) _ (Next u) (next u) (a .1) in
+    let s = passed Stepped.Refused SecondNotCarried (secondCarried f t) _ (Next u) (next u) (b .1) in
+    let c = passed Stepped.Refused InvalidYearLength (member year yearLengths && leb (t .day) year) _ (Next u) (next u) (s .1) in
+    let d = passed Stepped.Refused InvalidKind (member kind kinds && ltb (t .hundredths) (dayEnd f kind)) _ (Next u) (next u) (c .1) in
     let last = d .1 in
     record {
       format = a .0;
@@ -79,11 +80,11 @@ answers-alike f t year kind v u h answer =
 -- and refuse alike where one is not
 pub refuses-alike : (f : Format) (t : Time) (year kind : ℕ) (v : Time) (r : Refusal) → checkStep f t year kind (Next v) ≡ Stepped.Refused r → (answer : Stepped) → checkStep f t year kind answer ≡ Stepped.Refused r
 refuses-alike f t year kind v r h answer =
-    same-check Stepped.Refused 1 (known f) _ _ (Stepped.Refused r)
-    (same-check Stepped.Refused 2 (onFormat f t) _ _ (Stepped.Refused r)
-    (same-check Stepped.Refused 14 (secondCarried f t) _ _ (Stepped.Refused r)
-    (same-check Stepped.Refused 11 (inYear t year) _ _ (Stepped.Refused r)
-    (same-check Stepped.Refused 15 (onDay f t kind) (Next v) answer (Stepped.Refused r) (λ e. absurd (next v r (sym e)))))))
+    same-check Stepped.Refused UnknownFormat (known f) _ _ (Stepped.Refused r)
+    (same-check Stepped.Refused InvalidTime (onFormat f t) _ _ (Stepped.Refused r)
+    (same-check Stepped.Refused SecondNotCarried (secondCarried f t) _ _ (Stepped.Refused r)
+    (same-check Stepped.Refused InvalidYearLength (inYear t year) _ _ (Stepped.Refused r)
+    (same-check Stepped.Refused InvalidKind (onDay f t kind) (Next v) answer (Stepped.Refused r) (λ e. absurd (next v r (sym e)))))))
     h
 
 pub went : (f : Format) (t : Time) (year kind : ℕ) (u : Time) → stepOf f t year kind ≡ Next u → Went f t year kind (following f t year kind) u

@@ -23,6 +23,7 @@ use Rattle.timecode.specs.Layout.{Run, seconds, minutes, hours, days, te
 use Rattle.timecode.specs.declared.Format.{Format}
 use Rattle.timecode.specs.declared.Reading.{Reading}
 use Rattle.timecode.specs.declared.Reading.the-variants.{Accepted}
+use Rattle.timecode.specs.declared.Refusal.the-variants.{UnknownFormat, InvalidTime, WrongLength, UnknownSymbol, InvalidDigit, SecondsDiffer, ControlTooLong, SecondNotCarried}
 use Rattle.timecode.specs.declared.Time.{Time}
 use Rattle.timecode.specs.declared.Written.{Written}
 use Rattle.timecode.specs.declared.Written.the-variants.{Done}
@@ -163,12 +164,12 @@ module _ (f : Format) (t : Time) (w : ℕ) (v : Valid f t w) where
   pub written-is-accepted : readOf f frame ≡ Accepted t w
   unfolding readOf written
   written-is-accepted =
-      passes Reading.Refused 1 (known f) _ (v .format)
-      ∙ passes Reading.Refused 3 (eqb (length frame) (size f)) _ (eq-eqb (length frame) (size f) (length-written f t w))
-      ∙ passes Reading.Refused 4 (areSymbols frame) _ (written-symbols f t w)
+      passes Reading.Refused UnknownFormat (known f) _ (v .format)
+      ∙ passes Reading.Refused WrongLength (eqb (length frame) (size f)) _ (eq-eqb (length frame) (size f) (length-written f t w))
+      ∙ passes Reading.Refused UnknownSymbol (areSymbols frame) _ (written-symbols f t w)
       ∙ elements-pass (rest f) (runs f) frame 0 _ (λ i h. rw (zero-add i) (encode-clean (size f) (rest f) (runs f) (spread (fields f) (numbers t w)) (small-length (runs f) (spread (fields f) (numbers t w)) written-small) i (rw (length-written f t w) at h)))
-      ∙ passes Reading.Refused 7 (isTime f frame) _ time-said
-      ∙ passes Reading.Refused 8 (secondsAgree f frame) _ seconds-said
+      ∙ passes Reading.Refused InvalidDigit (isTime f frame) _ time-said
+      ∙ passes Reading.Refused SecondsDiffer (secondsAgree f frame) _ seconds-said
       ∙ ap₂ Accepted time-back control-back
 
 -- ---- Write's answer
@@ -176,11 +177,11 @@ module _ (f : Format) (t : Time) (w : ℕ) (v : Valid f t w) where
 pub taken : (f : Format) (t : Time) (w : ℕ) (lent : List ℕ) → writeOf f t w lent ≡ Done → Valid f t w × (length lent ≡ size f)
 unfolding writeOf controlFits
 taken f t w lent h =
-    let a = passed Written.Refused 1 (known f) _ Done done h in
-    let b = passed Written.Refused 2 (onFormat f t) _ Done done (a .1) in
-    let s = passed Written.Refused 14 (secondCarried f t) _ Done done (b .1) in
-    let c = passed Written.Refused 9 (ltb w (2 ^ totalWidth (control f))) _ Done done (s .1) in
-    let d = passed Written.Refused 3 (eqb (length lent) (size f)) _ Done done (c .1) in (
+    let a = passed Written.Refused UnknownFormat (known f) _ Done done h in
+    let b = passed Written.Refused InvalidTime (onFormat f t) _ Done done (a .1) in
+    let s = passed Written.Refused SecondNotCarried (secondCarried f t) _ Done done (b .1) in
+    let c = passed Written.Refused ControlTooLong (ltb w (2 ^ totalWidth (control f))) _ Done done (s .1) in
+    let d = passed Written.Refused WrongLength (eqb (length lent) (size f)) _ Done done (c .1) in (
       record { format = a .0; time = on-format f t (b .0) (s .0); room = ltb-true w (2 ^ totalWidth (control f)) (c .0) },
       eqb-true (length lent) (size f) (d .0),
     )
