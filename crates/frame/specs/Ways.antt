@@ -10,7 +10,7 @@ use lib.Dec.{ltb}
 use lib.ListN.{getD, length, length-map}
 use lib.Seq.{ext-getD}
 use Rattle.timecode.specs.Formats.{known, size}
-use Rattle.timecode.specs.Frames.{writeOf, writeLeaves, areSymbols, elementFits, readOf}
+use Rattle.timecode.specs.Frames.{areSymbols, elementFits, readOf}
 use Rattle.timecode.specs.Laws.Digits.{decode}
 use Rattle.timecode.specs.Laws.Runs.{getD-encode, length-encode, Small, Clean, clean-bits, encode-clean, held-inside, small-decoded, small-length}
 use Rattle.timecode.specs.Laws.Table.{size-range, two-sizes, layout-proper}
@@ -18,10 +18,7 @@ use Rattle.timecode.specs.Laws.Tests.{by-test, clash}
 use Rattle.timecode.specs.Laws.Writing.{symbol-small, symbols-tabulate}
 use Rattle.timecode.specs.Layout.{runs, isMark, rest, encode}
 use Rattle.timecode.specs.declared.Format.{Format}
-use Rattle.timecode.specs.declared.Refusal.{Refusal}
 use Rattle.timecode.specs.declared.Refusal.the-variants.{UnknownSymbol}
-use Rattle.timecode.specs.declared.Time.{Time}
-use Rattle.timecode.specs.declared.Written.{Written}
 use Rattle.layout.specs.Tables.{widthsOf}
 use Rattle.elements.specs.Tens.{IsFrame}
 use Rattle.elements.specs.Turns.{runs-narrow, length-runs, length-widths, width-small, small-digit}
@@ -94,9 +91,3 @@ module _ (f : Format) (frame : List ℕ) (k : known f ≡ true) (n : length fram
 pub agree-turn : (xs ys : List ℕ) (i : ℕ) → ((k : ℕ) → k < i → getD xs k 0 ≡ getD ys k 0) → getD xs i 0 ≡ getD ys i 0 → (k : ℕ) → k < i + 1 → getD xs k 0 ≡ getD ys k 0
 agree-turn xs ys i below here k l =
     by-test (ltb k i) (λ y. below k (ltb-true k i y)) (λ m. let last : k ≡ i = omega (arith, ltb-false k i m) in rw last here)
-
--- ---- Write
-
-pub leaves-old : (f : Format) (t : Time) (w : ℕ) (lent : List ℕ) (r : Refusal) → writeOf f t w lent ≡ Written.Refused r → lent ≡ writeLeaves f t w lent
-unfolding writeLeaves
-leaves-old f t w lent r h = rw h

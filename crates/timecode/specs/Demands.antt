@@ -7,7 +7,7 @@ use Prim.Native.Nat.{ℕ, suc, _-_, _/_, _%_, _<_, _≤_}
 use native.Mathlib.Omega.{arith}
 use lib.ListN.{getD, length, replicate, length-replicate}
 use Rattle.timecode.specs.Answers.{number}
-use Rattle.timecode.specs.Calls.{scanOf}
+use Rattle.timecode.specs.Calls.{classifyListOf, classifyListLeaves, scanOf}
 use Rattle.timecode.specs.Formats.{member, known, size, interval, lastHundredth, dayLength, onFormat, carriesLeap, secondCarried}
 use Rattle.timecode.specs.Frames.{yearLengths, usual, kinds, dayEnd, sameDay, nextDay, stepOf, Follows, nextAfter, stepBackOf, Precedes, writeOf, writeLeaves, readOf, Sent, Generator, sentAt}
 use Rattle.timecode.specs.Laws.Back.{step-back, back-step, to-last-frame, back-on-format, follows-precedes, precedes-follows, backs-usual, same-refusal}
@@ -29,7 +29,18 @@ use Rattle.timecode.specs.declared.Scanned.the-variants.{Found, None}
 use Rattle.timecode.specs.declared.Stepped.{Stepped}
 use Rattle.timecode.specs.declared.Stepped.the-variants.{Next}
 use Rattle.timecode.specs.declared.Time.{Time}
+use Rattle.timecode.specs.declared.Written.{Written}
 use Rattle.timecode.specs.declared.Written.the-variants.{Done}
+
+-- ---- Demand 1: a refusal leaves lent memory with the contents it had. Write and the classifier over lists set lent memory; Read, Step, Difference, the classifier for one pulse and Scan set none.
+
+pub refused-write-leaves : (f : Format) (t : Time) (w : ℕ) (lent : List ℕ) (r : Refusal) → writeOf f t w lent ≡ Written.Refused r → writeLeaves f t w lent ≡ lent
+unfolding writeLeaves
+refused-write-leaves f t w lent r h = rw h
+
+pub refused-list-leaves : (T : ℕ) (widths periods lent : List ℕ) (r : Refusal) → classifyListOf T widths periods lent ≡ Written.Refused r → classifyListLeaves T widths periods lent ≡ lent
+unfolding classifyListLeaves
+refused-list-leaves T widths periods lent r h = rw h
 
 -- ---- Demand 2: a frame is accepted exactly when some time and control word are written so, and those are then the reading.
 

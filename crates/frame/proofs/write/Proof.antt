@@ -1,7 +1,7 @@
 -- `write` meets its contract: done as checked, or refused with the frame as it was.
 use borrow.Author.Needs.{needs}
 use mathlib.Core.Path.{refl, sym, _∙_}
-use Rattle.frame.specs.Ways.{leaves-old}
+use Rattle.timecode.specs.Demands.{refused-write-leaves}
 use Rattle.timecode.specs.Laws.Writing.{taken, leaves}
 use Rattle.frame.proofs.write.Statement.{statement}
 use Rattle.frame.proofs.write.Tie as tie
@@ -32,7 +32,7 @@ returns c =
 returns-2 : tie.Need-returns-2
 returns-2 c =
     let start = c .before .before .before .before .before in
-    (sym (sym (c .before .before .before .check-write .ensures (start .args .frame .now) refl) ∙ c .before .answer .given .1), leaves-old (start .args .format) (start .args .time) (start .args .control) (start .args .frame .now) _ (sym (c .before .before .before .check-write .ensures (start .args .frame .now) refl) ∙ c .before .answer .given .1))
+    (sym (sym (c .before .before .before .check-write .ensures (start .args .frame .now) refl) ∙ c .before .answer .given .1), sym (refused-write-leaves (start .args .format) (start .args .time) (start .args .control) (start .args .frame .now) _ (sym (c .before .before .before .check-write .ensures (start .args .frame .now) refl) ∙ c .before .answer .given .1)))
 
 pub write-spec : {M : Type 1} → statement M
 write-spec =
