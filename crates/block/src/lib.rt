@@ -12,7 +12,11 @@ pub enum Stop {
 
 // How many symbols were taken, how many reports were put in, and why it stopped.
 pub enum BlockAnswer {
-    Taken(usize, usize, Stop),
+    Taken {
+        symbols: usize,
+        reports: usize,
+        stop: Stop,
+    },
     Refused(Refusal),
 }
 

@@ -75,7 +75,11 @@ fn taken_block(round: Round) -> FedBlock
     let reader = round.reader;
     FedBlock {
         reader: reader,
-        answer: BlockAnswer::Taken(round.taken, round.reports, stop),
+        answer: BlockAnswer::Taken {
+            symbols: round.taken,
+            reports: round.reports,
+            stop: stop,
+        },
     }
 }
 

@@ -97,7 +97,7 @@ fn feed_singly(
                 i += 1;
                 continue;
             }
-            Answer::Report(time, control) => {
+            Answer::Report { time, control } => {
                 if reports == indexes.len() {
                     return round_at(current, i, reports, Stop::NoRoom);
                 }

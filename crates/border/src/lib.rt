@@ -172,7 +172,10 @@ pub fn put_fed(
             *reported = 0;
             0
         }
-        Answer::Report(time, word) => {
+        Answer::Report {
+            time,
+            control: word,
+        } => {
             *reader = words_for(next);
             *reported = 1;
             put_values(time, word, day, hundredths, control);
@@ -207,7 +210,11 @@ pub fn put_block(
     ensures { λ _. ⌜ pos (now (taken .exit)) ∷ pos (now (reports .exit)) ∷ pos (now (stop .exit)) ∷ [] ≡ valuesLeft (blockSaid answer) (pos (now (taken .entry)) ∷ pos (now (reports .entry)) ∷ pos (now (stop .entry)) ∷ []) ⌝ }
 {
     match answer {
-        BlockAnswer::Taken(symbols, records, why) => {
+        BlockAnswer::Taken {
+            symbols,
+            reports: records,
+            stop: why,
+        } => {
             *reader = words_for(next);
             *taken = symbols;
             *reports = records;

@@ -359,7 +359,7 @@ fn put_read(line: &[u8], text: &mut [u8; 4096]) -> usize {
     let size = elements_in(line, 3, &mut frame);
     let reading = read_first(format_in(line), &frame, size);
     match reading {
-        Reading::Accepted(time, control) => {
+        Reading::Accepted { time, control } => {
             let at = put_time(text, 0, time);
             let at = put(text, at, b' ');
             put_hexadecimal(text, at, control, 1)
@@ -404,7 +404,11 @@ fn put_scan(line: &[u8], text: &mut [u8; 4096]) -> usize {
     let start = decimal(line, 4) as usize;
     let scanned = scan_first(format_in(line), &recording, size, start);
     match scanned {
-        Scanned::Found(place, time, control) => {
+        Scanned::Found {
+            start: place,
+            time,
+            control,
+        } => {
             let at = put_decimal(text, 0, place as u64);
             let at = put(text, at, b' ');
             let at = put_time(text, at, time);

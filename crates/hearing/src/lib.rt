@@ -34,7 +34,7 @@ fn taken_of(answer: BlockAnswer) -> usize
     ensures { λ r. ⌜ r ≡ takenOf answer ⌝ }
 {
     match answer {
-        BlockAnswer::Taken(taken, _, _) => taken,
+        BlockAnswer::Taken { symbols, .. } => symbols,
         BlockAnswer::Refused(_) => 0,
     }
 }
@@ -44,7 +44,7 @@ fn reports_of(answer: BlockAnswer) -> usize
     ensures { λ r. ⌜ r ≡ reportsOf answer ⌝ }
 {
     match answer {
-        BlockAnswer::Taken(_, reports, _) => reports,
+        BlockAnswer::Taken { reports, .. } => reports,
         BlockAnswer::Refused(_) => 0,
     }
 }

@@ -88,7 +88,7 @@ fn hear(tally: Tally, symbol: u8) -> Tally {
             refused: tally.refused,
             sum: tally.sum,
         },
-        Answer::Report(time, control) => Tally {
+        Answer::Report { time, control } => Tally {
             reader: reader,
             elements: elements,
             reports: one_more(tally.reports),

@@ -75,7 +75,7 @@ fn advance(progress: Progress, reader: Reader, answer: Answer) -> Progress
             reports: reports,
             ended: false,
         },
-        Answer::Report(_, _) => Progress {
+        Answer::Report { .. } => Progress {
             reader: reader,
             elements: one_more(elements),
             reports: one_more(reports),
@@ -114,7 +114,7 @@ fn put_line(out: &mut [u8], at: usize, element: u64, answer: Answer) -> usize
 {
     match answer {
         Answer::Quiet => at,
-        Answer::Report(time, control) => put_report(out, at, element, time, control),
+        Answer::Report { time, control } => put_report(out, at, element, time, control),
         Answer::Refused(refusal) => put_refused(out, at, refusal),
     }
 }

@@ -79,7 +79,10 @@ pub extern "C" fn duskveyra_read(
 {
     let reading = read(format_of(letter, expression), frame);
     match reading {
-        Reading::Accepted(time, word) => {
+        Reading::Accepted {
+            time,
+            control: word,
+        } => {
             put_values(time, word, day, hundredths, control);
             0
         }
@@ -288,7 +291,11 @@ pub extern "C" fn duskveyra_scan(
 {
     let scanned = scan(format_of(letter, expression), recording, start);
     match scanned {
-        Scanned::Found(place, time, word) => {
+        Scanned::Found {
+            start: place,
+            time,
+            control: word,
+        } => {
             *found = 1;
             *at = place;
             put_values(time, word, day, hundredths, control);

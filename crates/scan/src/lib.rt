@@ -50,11 +50,15 @@ fn lowest(format: Format, recording: &[u8], first: usize) -> Scanned
         if marks_meet(recording, place) {
             let end = place + n;
             let part = &recording[place..end];
-            let Reading::Accepted(time, control) = read(format, part) else {
+            let Reading::Accepted { time, control } = read(format, part) else {
                 place += 1;
                 continue;
             };
-            return Scanned::Found(place, time, control);
+            return Scanned::Found {
+                start: place,
+                time: time,
+                control: control,
+            };
         }
         place += 1;
     }

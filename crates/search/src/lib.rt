@@ -116,7 +116,10 @@ fn earlier(format: Format, held: &[u8], from: usize, to: usize, known: usize, ti
     ensures { λ r. ⌜ ((second : Reading) → confirm format r second ≡ confirm format (readOf format (part (now (held .entry)) from (size format))) second) ⌝ }
 {
     if known == to {
-        return Reading::Accepted(time, 0);
+        return Reading::Accepted {
+            time: time,
+            control: 0,
+        };
     }
     read(format, &held[from..to])
 }
@@ -132,15 +135,22 @@ fn answer_at(format: Format, held: &[u8], n: usize, at: usize, known: usize, tim
         let middle = at + 1 - n;
         let end = at + 1;
         let first = earlier(format, held, from, middle, known, time);
-        let Reading::Accepted(before, _) = first else {
+        let Reading::Accepted { time: before, .. } = first else {
             return Answer::Quiet;
         };
         let second = read(format, &held[middle..end]);
-        let Reading::Accepted(after, control) = second else {
+        let Reading::Accepted {
+            time: after,
+            control,
+        } = second
+        else {
             return Answer::Quiet;
         };
         if next_after(format, before, after) {
-            return Answer::Report(after, control);
+            return Answer::Report {
+                time: after,
+                control,
+            };
         }
         return Answer::Quiet;
     }
@@ -172,7 +182,10 @@ pub fn next_report(
                 at = place + 1;
                 continue;
             }
-            Answer::Report(reported, control) => {
+            Answer::Report {
+                time: reported,
+                control,
+            } => {
                 return Found::At(place, reported, control);
             }
             Answer::Refused(_) => {

@@ -131,15 +131,15 @@ fn confirm_frames(format: Format, words: &[u64], n: usize) -> Answer
     ensures { λ r. ⌜ r ≡ confirm format (readOf format (heardFrame (now (words .entry)) n n)) (readOf format (heardFrame (now (words .entry)) 0 n)) ⌝ }
 {
     let earlier = read_at(format, words, n, n);
-    let Reading::Accepted(first, _) = earlier else {
+    let Reading::Accepted { time: first, .. } = earlier else {
         return Answer::Quiet;
     };
     let later = read_at(format, words, 0, n);
-    let Reading::Accepted(second, control) = later else {
+    let Reading::Accepted { time, control } = later else {
         return Answer::Quiet;
     };
-    if next_after(format, first, second) {
-        return Answer::Report(second, control);
+    if next_after(format, first, time) {
+        return Answer::Report { time, control };
     }
     Answer::Quiet
 }

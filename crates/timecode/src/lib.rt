@@ -57,7 +57,7 @@ pub enum Written {
 
 // Read: the time and the control word.
 pub enum Reading {
-    Accepted(Time, u64),
+    Accepted { time: Time, control: u64 },
     Refused(Refusal),
 }
 
@@ -81,7 +81,11 @@ pub enum Classified {
 
 // Scan: where the frame begins, its time and its control word.
 pub enum Scanned {
-    Found(usize, Time, u64),
+    Found {
+        start: usize,
+        time: Time,
+        control: u64,
+    },
     None,
     Refused(Refusal),
 }
@@ -89,6 +93,6 @@ pub enum Scanned {
 // Feed: what one symbol brought.
 pub enum Answer {
     Quiet,
-    Report(Time, u64),
+    Report { time: Time, control: u64 },
     Refused(Refusal),
 }
