@@ -3,6 +3,8 @@ ghost use mathlib.Core.Path.{_≡_};
 ghost use Prim.Native.Nat.{_≤_};
 ghost use lib.ListN.{length, take};
 ghost use Rattle.characters.specs.Symbols.{isSkipped, symbolOf, feedsOf, symbolsIn};
+use timecode::MARK;
+use timecode::SPOILED;
 
 fn is_skipped(byte: u8) -> bool
     ensures { λ r. ⌜ r ≡ isSkipped byte ⌝ }
@@ -24,10 +26,10 @@ fn symbol_of(byte: u8) -> u8
         return byte % 2;
     }
     if byte == b'P' {
-        return 2;
+        return MARK;
     }
     if byte == b'-' {
-        return 3;
+        return SPOILED;
     }
     4
 }

@@ -67,10 +67,10 @@ fn day_end(format: Format, kind: u8) -> u32
 {
     if carries_leap(format) {
         if kind == Time::SECOND_ADDED {
-            return 8_640_100;
+            return Time::ADDED_DAY_LENGTH;
         }
         if kind == Time::SECOND_TAKEN {
-            return 8_639_900;
+            return Time::TAKEN_DAY_LENGTH;
         }
     }
     Time::DAY_LENGTH
@@ -233,7 +233,7 @@ fn total(time: Time) -> u64
 {
     let day = time.day as u64;
     let hundredths = time.hundredths as u64;
-    day * 8_640_000 + hundredths
+    day * (Time::DAY_LENGTH as u64) + hundredths
 }
 
 fn minus(first: u64, second: u64) -> i64

@@ -11,6 +11,22 @@ ghost use Rattle.timecode.specs.Layout.{fields, numbers, spread};
 ghost use Rattle.layout.specs.Tables.{widthsOf};
 ghost use Rattle.digits.specs.Saying.{two, dayOf, digitsFrom, isTimeOf, timeOf, agreeOf, controlOf, meaningOf, Bounds};
 ghost use Rattle.digits.specs.Splitting.{Widths, Digits};
+use layout::CONTROL_1;
+use layout::CONTROL_2;
+use layout::CONTROL_3;
+use layout::CONTROL_4;
+use layout::CONTROL_5;
+use layout::DAY_HUNDREDS;
+use layout::DAY_TENS;
+use layout::DAY_UNITS;
+use layout::DECIMAL_RUNS;
+use layout::HOUR;
+use layout::HUNDREDTH;
+use layout::MINUTE;
+use layout::SECOND;
+use layout::STRAIGHT_HIGH;
+use layout::STRAIGHT_LOW;
+use layout::TENTH;
 use layout::carries_leap;
 use timecode::Format;
 use timecode::Reading;
@@ -30,11 +46,11 @@ pub fn control_fits(format: Format, widths: &[u8], control: u64) -> bool
     requires { ⌜ Widths (now widths) × (now widths ≡ widthsOf format) ⌝ }
     ensures { λ r. ⌜ r ≡ controlFits format control ⌝ }
 {
-    let bits = width(widths, 13)
-        + width(widths, 14)
-        + width(widths, 15)
-        + width(widths, 16)
-        + width(widths, 17);
+    let bits = width(widths, CONTROL_1)
+        + width(widths, CONTROL_2)
+        + width(widths, CONTROL_3)
+        + width(widths, CONTROL_4)
+        + width(widths, CONTROL_5);
     control >> bits == 0
 }
 
@@ -59,13 +75,13 @@ pub fn digits_of(format: Format, widths: &[u8], time: Time, control: u64) -> [u6
     let day = time.day as u64;
     let c = time.hundredths as u64;
     let seconds = c / 100;
-    let added = c / 8_640_000;
+    let added = (time.hundredths / Time::DAY_LENGTH) as u64;
     let usual = seconds - added;
     let second = usual % 60 + added;
     let minute = usual / 60 % 60;
     let hour = usual / 60 / 60;
-    let straight = carried(widths, 11, seconds);
-    let word = control << (9 - width(widths, 13));
+    let straight = carried(widths, STRAIGHT_LOW, seconds);
+    let word = control << (9 - width(widths, CONTROL_1));
     [
         second % 10,
         second / 10,
@@ -100,7 +116,7 @@ fn day_in(digits: &[u64]) -> u64
     requires { ⌜ Digits (now digits) ⌝ }
     ensures { λ r. ⌜ r ≡ dayOf (now (digits .entry)) ⌝ }
 {
-    digits[6] + 10 * (digits[7] + 10 * digits[8])
+    digits[DAY_UNITS] + 10 * (digits[DAY_TENS] + 10 * digits[DAY_HUNDREDS])
 }
 
 // No digit of the time is over 9.
@@ -109,7 +125,7 @@ fn are_digits(digits: &[u64]) -> bool
     ensures { λ r. ⌜ r ≡ digitsFrom 11 0 (now (digits .entry)) ⌝ }
 {
     let mut j = 0;
-    while j < 11 {
+    while j < DECIMAL_RUNS {
         if 9 < digits[j] {
             return false;
         }
@@ -138,22 +154,22 @@ fn is_time(format: Format, digits: &[u64]) -> bool
     ensures { λ r. ⌜ r ≡ isTimeOf format (now (digits .entry)) ⌝ }
 {
     if are_digits(digits) {
-        let hour = pair(digits, 4);
+        let hour = pair(digits, HOUR);
         if 23 < hour {
             return false;
         }
-        let minute = pair(digits, 2);
+        let minute = pair(digits, MINUTE);
         if 59 < minute {
             return false;
         }
-        if last_second(format, hour, minute) < pair(digits, 0) {
+        if last_second(format, hour, minute) < pair(digits, SECOND) {
             return false;
         }
         let day = day_in(digits);
-        if day < 1 {
+        if day < (Time::FIRST_DAY as u64) {
             return false;
         }
-        return day <= 366;
+        return day <= (Time::LAST_DAY as u64);
     }
     false
 }
@@ -162,9 +178,10 @@ fn time_in(digits: &[u64]) -> Time
     requires { ⌜ Digits (now digits) × Bounds (now digits) ⌝ }
     ensures { λ r. ⌜ r ≡ timeOf (now (digits .entry)) ⌝ }
 {
-    let hundredths = ((pair(digits, 4) * 60 + pair(digits, 2)) * 60 + pair(digits, 0)) * 100
-        + digits[9] * 10
-        + digits[10];
+    let hundredths = ((pair(digits, HOUR) * 60 + pair(digits, MINUTE)) * 60 + pair(digits, SECOND))
+        * 100
+        + digits[TENTH] * 10
+        + digits[HUNDREDTH];
     let day = day_in(digits);
     Time {
         day: day as u16,
@@ -177,11 +194,11 @@ fn seconds_agree(format: Format, widths: &[u8], digits: &[u64], time: Time) -> b
     requires { ⌜ Widths (now widths) × (now widths ≡ widthsOf format) × Digits (now digits) × (time ≡ timeOf (now digits)) ⌝ }
     ensures { λ r. ⌜ r ≡ agreeOf format (now (digits .entry)) ⌝ }
 {
-    if width(widths, 11) == 0 {
+    if width(widths, STRAIGHT_LOW) == 0 {
         return true;
     }
     let seconds = time.hundredths / 100;
-    digits[11] + 512 * digits[12] == seconds as u64
+    digits[STRAIGHT_LOW] + 512 * digits[STRAIGHT_HIGH] == seconds as u64
 }
 
 // A number's low bits and those above them.
@@ -197,10 +214,14 @@ fn control_in(format: Format, widths: &[u8], digits: &[u64]) -> u64
     requires { ⌜ Widths (now widths) × (now widths ≡ widthsOf format) × Digits (now digits) ⌝ }
     ensures { λ r. ⌜ r ≡ controlOf format (now (digits .entry)) ⌝ }
 {
-    let word4 = join(digits[16], width(widths, 16), digits[17]);
-    let word3 = join(digits[15], width(widths, 15), word4);
-    let word2 = join(digits[14], width(widths, 14), word3);
-    join(digits[13], width(widths, 13), word2)
+    let word4 = join(
+        digits[CONTROL_4],
+        width(widths, CONTROL_4),
+        digits[CONTROL_5],
+    );
+    let word3 = join(digits[CONTROL_3], width(widths, CONTROL_3), word4);
+    let word2 = join(digits[CONTROL_2], width(widths, CONTROL_2), word3);
+    join(digits[CONTROL_1], width(widths, CONTROL_1), word2)
 }
 
 // What digits say that come from a frame in which nothing offends.

@@ -15,6 +15,7 @@ ghost use Rattle.elements.specs.Tens.{fourElements, ten, tens, IsFrame};
 use layout::mark_places;
 use layout::run_starts;
 use timecode::Format;
+use timecode::MARK;
 
 // The four elements of each number below 16, a byte each, lowest weight first.
 const FOURS: [u32; 16] = [
@@ -93,9 +94,9 @@ fn put_ten(fours: &[u32], places: &[u8], frame: &mut [u8], k: usize, x: u64)
         j += 1;
     }
     frame[at + 8] = (x / 256 % 2) as u8;
-    frame[wide(places[k + 1])] = 2;
+    frame[wide(places[k + 1])] = MARK;
     if k == 0 {
-        frame[wide(places[k])] = 2;
+        frame[wide(places[k])] = MARK;
     }
 }
 

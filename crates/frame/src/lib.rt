@@ -25,8 +25,11 @@ use layout::frame_size;
 use layout::is_known;
 use layout::run_widths;
 use timecode::Format;
+use timecode::MARK;
+use timecode::ONE;
 use timecode::Reading;
 use timecode::Refusal;
+use timecode::SPOILED;
 use timecode::Time;
 use timecode::Written;
 
@@ -98,7 +101,7 @@ fn are_symbols(frame: &[u8]) -> bool
     let mut all = true;
     let mut i = 0;
     while i < frame.len() {
-        all = both(all, frame[i] <= 3);
+        all = both(all, frame[i] <= SPOILED);
         i += 1;
     }
     all
@@ -108,18 +111,18 @@ fn are_symbols(frame: &[u8]) -> bool
 fn marks_agree(form: u8, symbol: u8) -> bool
     ensures { λ r. ⌜ r ≡ agreesWith form symbol ⌝ }
 {
-    if form == 2 {
-        return symbol == 2;
+    if form == MARK {
+        return symbol == MARK;
     }
-    symbol != 2
+    symbol != MARK
 }
 
 // The symbol fits where the format's shape has this one.
 fn element_fits(form: u8, symbol: u8) -> bool
     ensures { λ r. ⌜ r ≡ fitsIn form symbol ⌝ }
 {
-    if form == 1 {
-        return symbol < 2;
+    if form == ONE {
+        return symbol < MARK;
     }
     symbol == form
 }

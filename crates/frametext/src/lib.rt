@@ -11,9 +11,12 @@ use frame::write;
 use layout::frame_size;
 use lines::put;
 use timecode::Format;
+use timecode::MARK;
+use timecode::ONE;
 use timecode::Refusal;
 use timecode::Time;
 use timecode::Written;
+use timecode::ZERO;
 
 // How many bytes the line has, or why there is none.
 pub enum Lined {
@@ -25,13 +28,13 @@ pub enum Lined {
 fn character_of(symbol: u8) -> u8
     ensures { λ r. ⌜ r ≡ characterOf symbol ⌝ }
 {
-    if symbol == 0 {
+    if symbol == ZERO {
         return b'0';
     }
-    if symbol == 1 {
+    if symbol == ONE {
         return b'1';
     }
-    if symbol == 2 {
+    if symbol == MARK {
         return b'P';
     }
     b'-'

@@ -2,7 +2,7 @@
 // The day on which it starts has any kind that Step takes; every later day is usual.
 ghost use mathlib.Core.Path.{_≡_};
 ghost use mathlib.Core.List.{_++_};
-ghost use Prim.Native.Nat.{_≤_};
+ghost use Prim.Native.Nat.{_+_, _≤_};
 ghost use lib.ListN.{take};
 ghost use Rattle.timecode.specs.declared.Written.the-variants.{Done};
 ghost use Rattle.generator.specs.Sending.{begun, begunOf, kindAfter, nextStart, lineFor, Generates};
@@ -14,6 +14,9 @@ use timecode::Format;
 use timecode::Stepped;
 use timecode::Time;
 use timecode::Written;
+
+// Up to here there is room in 65,536 bytes for a line of 256.
+const LAST_START: usize = 65_280;
 
 // Where frames start: the time of the first, and the kind of its day.
 pub struct Start {
@@ -75,7 +78,7 @@ fn next_start(format: Format, start: Start, year: u16) -> Start
 }
 
 fn put_next(out: &mut [u8; 65536], at: usize, format: Format, time: Time, control: u64) -> usize
-    requires { ⌜ at ≤ 65280 ⌝ }
+    requires { ⌜ at + 256 ≤ 65536 ⌝ }
     ensures { λ r. ⌜ (r ≤ 65536) × (take r (now (out .exit)) ≡ take at (now (out .entry)) ++ lineFor format time control) ⌝ }
 {
     let mut line = [0u8; 256];
@@ -100,7 +103,7 @@ pub fn generate(
     let mut next = start;
     let mut left = frames;
     let mut filled = 0;
-    while 0 < left && filled <= 65_280 {
+    while 0 < left && filled <= LAST_START {
         filled = put_next(out, filled, format, next.time, control);
         next = next_start(format, next, year);
         left -= 1;

@@ -13,9 +13,13 @@ use stream::answer_to;
 use stream::next_reader;
 use timecode::Answer;
 use timecode::Format;
+use timecode::MARK;
+use timecode::ONE;
+use timecode::SPOILED;
 use timecode::Stepped;
 use timecode::Time;
 use timecode::Written;
+use timecode::ZERO;
 
 const FORMATS: usize = 16;
 
@@ -148,12 +152,12 @@ fn shaped(i: u64, n: u64) -> u8
 {
     let index = i % n;
     if index == 0 {
-        return 2;
+        return MARK;
     }
     if index % 10 == 9 {
-        return 2;
+        return MARK;
     }
-    1
+    ONE
 }
 
 // Symbol i of a stream that no generator made. Pairs has marks where two frames of 60 have them at every third symbol, and
@@ -162,25 +166,25 @@ fn symbol_of(case: Case, i: u64, n: u64) -> u8
     requires { ⌜ 60 ≤ n ⌝ }
 {
     match case {
-        Case::Marks => 2,
-        Case::Spoiled => 3,
+        Case::Marks => MARK,
+        Case::Spoiled => SPOILED,
         Case::Alternating => {
             if i % 2 == 0 {
-                return 2;
+                return MARK;
             }
-            0
+            ZERO
         }
         Case::Pairs => {
             if i % 3 == 2 {
-                return 0;
+                return ZERO;
             }
-            2
+            MARK
         }
         Case::Fours => {
             if i % 4 < 2 {
-                return 2;
+                return MARK;
             }
-            0
+            ZERO
         }
         Case::Refused => (4 + i % 252) as u8,
         _ => shaped(i, n),
@@ -231,7 +235,7 @@ fn arrive(case: Case, tally: Tally, k: u64, element: u8) -> Tally {
     match case {
         Case::Damaged => {
             if k % 997 == 996 {
-                return hear(tally, 3);
+                return hear(tally, SPOILED);
             }
             hear(tally, element)
         }

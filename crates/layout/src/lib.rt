@@ -18,8 +18,43 @@ pub struct Row {
     pub widths: [u8; 18],
 }
 
-// The first index of each run: units and tens of seconds, of minutes and of hours; units, tens and hundreds of days;
-// tenths; hundredths; two runs of straight binary seconds; five ranges of control bits.
+// The runs by their numbers: units and tens of seconds, of minutes and of hours (the number is that of the units);
+// units, tens and hundreds of days; tenths; hundredths. These are the runs of a decimal digit each.
+pub const SECOND: usize = 0;
+
+pub const MINUTE: usize = 2;
+
+pub const HOUR: usize = 4;
+
+pub const DAY_UNITS: usize = 6;
+
+pub const DAY_TENS: usize = 7;
+
+pub const DAY_HUNDREDS: usize = 8;
+
+pub const TENTH: usize = 9;
+
+pub const HUNDREDTH: usize = 10;
+
+pub const DECIMAL_RUNS: usize = 11;
+
+// Two runs of straight binary seconds.
+pub const STRAIGHT_LOW: usize = 11;
+
+pub const STRAIGHT_HIGH: usize = 12;
+
+// Five ranges of control bits.
+pub const CONTROL_1: usize = 13;
+
+pub const CONTROL_2: usize = 14;
+
+pub const CONTROL_3: usize = 15;
+
+pub const CONTROL_4: usize = 16;
+
+pub const CONTROL_5: usize = 17;
+
+// The first index of each run, in that order.
 const STARTS: [u8; 18] = [
     1,
     6,
@@ -177,19 +212,19 @@ pub fn run_starts() -> [u8; 18]
 fn without_seconds(mut widths: [u8; 18]) -> [u8; 18]
     ensures { λ r. ⌜ r ≡ set (set widths 11 0) 12 0 ⌝ }
 {
-    widths[11] = 0;
-    widths[12] = 0;
+    widths[STRAIGHT_LOW] = 0;
+    widths[STRAIGHT_HIGH] = 0;
     widths
 }
 
 fn without_control(mut widths: [u8; 18]) -> [u8; 18]
     ensures { λ r. ⌜ r ≡ set (set (set (set (set widths 13 0) 14 0) 15 0) 16 0) 17 0 ⌝ }
 {
-    widths[13] = 0;
-    widths[14] = 0;
-    widths[15] = 0;
-    widths[16] = 0;
-    widths[17] = 0;
+    widths[CONTROL_1] = 0;
+    widths[CONTROL_2] = 0;
+    widths[CONTROL_3] = 0;
+    widths[CONTROL_4] = 0;
+    widths[CONTROL_5] = 0;
     widths
 }
 

@@ -77,7 +77,7 @@ fn put_clock(line: &mut [u8], at: usize, hundredths: u32) -> usize
     ensures { λ r. ⌜ (r ≡ at + 12) × (length (now (line .exit)) ≡ 64) × (take r (now (line .exit)) ≡ take at (now (line .entry)) ++ clockOf hundredths) ⌝ }
 {
     let c = hundredths as u64;
-    let added = c / 8_640_000;
+    let added = (hundredths / Time::DAY_LENGTH) as u64;
     let usual = c / 100 - added;
     let hour = put_pair(line, at, usual / 60 / 60, b':');
     let minute = put_pair(line, hour, usual / 60 % 60, b':');

@@ -16,6 +16,9 @@ use stream::Reader;
 use timecode::Format;
 use timecode::Refusal;
 
+// Up to here there is room in 65,536 bytes for a line of 64 for each of a part's 512 symbols, and for the last line.
+const LAST_START: usize = 32_704;
+
 // How many bytes were taken, how many were put, and the progress.
 pub struct Listed {
     pub progress: Progress,
@@ -55,7 +58,7 @@ fn fill(progress: Progress, bytes: &[u8], out: &mut [u8]) -> Listed
     let mut current = progress;
     let mut taken = 0;
     let mut filled = 0;
-    while taken < bytes.len() && filled <= 32_704 {
+    while taken < bytes.len() && filled <= LAST_START {
         let end = part_end(taken, bytes.len());
         let told = hear(current, &bytes[taken..end], out, filled);
         current = told.progress;

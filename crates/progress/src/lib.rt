@@ -91,7 +91,7 @@ fn advance(progress: Progress, reader: Reader, answer: Answer) -> Progress
 }
 
 pub fn put_report(out: &mut [u8], at: usize, element: u64, time: Time, control: u64) -> usize
-    requires { ⌜ (at ≤ 65472) × (length (now out) ≡ 65536) ⌝ }
+    requires { ⌜ (at + 64 ≤ 65536) × (length (now out) ≡ 65536) ⌝ }
     ensures { λ r. ⌜ (r ≤ at + 64) × (length (now (out .exit)) ≡ 65536) × (take r (now (out .exit)) ≡ take at (now (out .entry)) ++ reportLine element time control) ⌝ }
 {
     let mut line = [0u8; 64];
@@ -100,7 +100,7 @@ pub fn put_report(out: &mut [u8], at: usize, element: u64, time: Time, control: 
 }
 
 fn put_refused(out: &mut [u8], at: usize, refusal: Refusal) -> usize
-    requires { ⌜ (at ≤ 65472) × (length (now out) ≡ 65536) ⌝ }
+    requires { ⌜ (at + 64 ≤ 65536) × (length (now out) ≡ 65536) ⌝ }
     ensures { λ r. ⌜ (r ≤ at + 64) × (length (now (out .exit)) ≡ 65536) × (take r (now (out .exit)) ≡ take at (now (out .entry)) ++ refusedLine (number refusal)) ⌝ }
 {
     let mut line = [0u8; 64];
@@ -109,7 +109,7 @@ fn put_refused(out: &mut [u8], at: usize, refusal: Refusal) -> usize
 }
 
 fn put_line(out: &mut [u8], at: usize, element: u64, answer: Answer) -> usize
-    requires { ⌜ (at ≤ 65472) × (length (now out) ≡ 65536) ⌝ }
+    requires { ⌜ (at + 64 ≤ 65536) × (length (now out) ≡ 65536) ⌝ }
     ensures { λ r. ⌜ (r ≤ at + 64) × (length (now (out .exit)) ≡ 65536) × (take r (now (out .exit)) ≡ take at (now (out .entry)) ++ lineFor element answer) ⌝ }
 {
     match answer {
@@ -130,7 +130,7 @@ pub fn told_at(progress: Progress, filled: usize) -> Told
 
 // One Feed by itself, with its line.
 pub fn feed_one(progress: Progress, symbol: u8, out: &mut [u8], at: usize) -> Told
-    requires { ⌜ (progress .ended ≡ false) × (at ≤ 65472) × (length (now out) ≡ 65536) ⌝ }
+    requires { ⌜ (progress .ended ≡ false) × (at + 64 ≤ 65536) × (length (now out) ≡ 65536) ⌝ }
     ensures { λ r. ⌜ (r .filled ≤ at + 64) × (length (now (out .exit)) ≡ 65536) × (r .progress ≡ stepOf progress symbol) × (take (r .filled) (now (out .exit)) ≡ take at (now (out .entry)) ++ lineOf progress symbol) ⌝ }
 {
     let reader = progress.reader;

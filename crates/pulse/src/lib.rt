@@ -4,8 +4,12 @@ ghost use Prim.Native.Nat.{_*_};
 ghost use lib.ListN.{length};
 ghost use Rattle.timecode.specs.Calls.{within, symbolOf, isInterval, classifyOf, symbolsOf, classifyListOf, classifyListLeaves};
 use timecode::Classified;
+use timecode::MARK;
+use timecode::ONE;
 use timecode::Refusal;
+use timecode::SPOILED;
 use timecode::Written;
+use timecode::ZERO;
 
 // The nominal element interval, in counter ticks.
 const SHORTEST_INTERVAL: u32 = 100;
@@ -39,16 +43,16 @@ fn symbol_of(interval: u32, width: u32, period: u32) -> u8
 {
     if is_within(interval, 95, 105, period) {
         if is_within(interval, 15, 25, width) {
-            return 0;
+            return ZERO;
         }
         if is_within(interval, 45, 55, width) {
-            return 1;
+            return ONE;
         }
         if is_within(interval, 75, 85, width) {
-            return 2;
+            return MARK;
         }
     }
-    3
+    SPOILED
 }
 
 // The symbol of one pulse.

@@ -35,6 +35,7 @@ use stream::is_valid;
 use stream::next_reader;
 use stream::pass;
 use timecode::Classified;
+use timecode::MARK;
 use timecode::Reading;
 use timecode::Refusal;
 use timecode::Scanned;
@@ -209,7 +210,7 @@ pub extern "C" fn duskveyra_feed(
     ensures { λ _. ⌜ now (reported .exit) ≡ flagLeft (fedSaid (feedWords (now (reader .entry)) symbol)) (now (reported .entry)) ⌝ }
     ensures { λ _. ⌜ pos (now (day .exit)) ∷ pos (now (hundredths .exit)) ∷ pos (now (control .exit)) ∷ [] ≡ valuesLeft (fedSaid (feedWords (now (reader .entry)) symbol)) (pos (now (day .entry)) ∷ pos (now (hundredths .entry)) ∷ pos (now (control .entry)) ∷ []) ⌝ }
 {
-    if symbol == 2 {
+    if symbol == MARK {
         let held = reader_in(*reader);
         let answer = answer_to(held, symbol);
         let next = next_reader(held, symbol);

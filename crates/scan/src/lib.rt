@@ -8,11 +8,10 @@ use frame::read;
 use layout::frame_size;
 use layout::is_known;
 use timecode::Format;
+use timecode::MARK;
 use timecode::Reading;
 use timecode::Refusal;
 use timecode::Scanned;
-
-const MARK: u8 = 2;
 
 // At least 1, so that there is an element before it, and at least the start.
 fn first_place(start: usize) -> usize

@@ -21,8 +21,10 @@ use register::symbol_at;
 use register::words;
 use timecode::Answer;
 use timecode::Format;
+use timecode::MARK;
 use timecode::Reading;
 use timecode::Refusal;
+use timecode::SPOILED;
 
 // The place is document 01's: the number of symbols accepted so far, modulo n.
 pub struct Reader {
@@ -100,22 +102,22 @@ fn has_marks(words: &[u64], n: usize) -> bool
     requires { ⌜ (length (now words) ≡ 7) × (60 ≤ n) × (n ≤ 100) ⌝ }
     ensures { λ r. ⌜ r ≡ marksStand (now (words .entry)) n ⌝ }
 {
-    if symbol_at(words, 1) == 2 {
+    if symbol_at(words, 1) == MARK {
         return false;
     }
-    if symbol_at(words, 0) != 2 {
+    if symbol_at(words, 0) != MARK {
         return false;
     }
-    if symbol_at(words, n - 1) != 2 {
+    if symbol_at(words, n - 1) != MARK {
         return false;
     }
-    if symbol_at(words, n) != 2 {
+    if symbol_at(words, n) != MARK {
         return false;
     }
-    if symbol_at(words, n + n - 1) != 2 {
+    if symbol_at(words, n + n - 1) != MARK {
         return false;
     }
-    symbol_at(words, n + n) == 2
+    symbol_at(words, n + n) == MARK
 }
 
 fn read_at(format: Format, words: &[u64], back: usize, n: usize) -> Reading
@@ -176,7 +178,7 @@ pub fn next_reader(reader: Reader, symbol: u8) -> Reader
     ensures { λ r. ⌜ r ≡ nextOf reader symbol ⌝ }
 {
     if is_valid(reader) {
-        if symbol <= 3 {
+        if symbol <= SPOILED {
             return with_symbol(reader, symbol);
         }
     }
@@ -187,10 +189,10 @@ pub fn next_reader(reader: Reader, symbol: u8) -> Reader
 pub fn pass(reader: Reader, symbol: u8) -> Passed
     ensures { λ r. ⌜ r ≡ passOf reader symbol ⌝ }
 {
-    if symbol == 2 {
+    if symbol == MARK {
         return Passed::Other;
     }
-    if symbol <= 3 {
+    if symbol <= SPOILED {
         if is_valid(reader) {
             return Passed::Next(with_symbol(reader, symbol));
         }
@@ -203,10 +205,10 @@ pub fn answer_to(reader: Reader, symbol: u8) -> Answer
     ensures { λ r. ⌜ r ≡ answerOf reader symbol ⌝ }
 {
     if is_valid(reader) {
-        if 3 < symbol {
+        if SPOILED < symbol {
             return Answer::Refused(Refusal::UnknownSymbol);
         }
-        if symbol == 2 {
+        if symbol == MARK {
             let window = words(push(reader.heard, symbol));
             return window_answer(reader.format, &window);
         }

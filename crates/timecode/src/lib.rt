@@ -7,6 +7,15 @@ pub struct Format {
     pub expression: u8,
 }
 
+// Document 01's symbols: a zero or an index marker, a one, a mark, and a spoiled element, the highest.
+pub const ZERO: u8 = 0;
+
+pub const ONE: u8 = 1;
+
+pub const MARK: u8 = 2;
+
+pub const SPOILED: u8 = 3;
+
 // The day of the year, and document 01's c: hundredths of a second since midnight.
 pub struct Time {
     pub day: u16,
@@ -22,6 +31,10 @@ impl Time {
     pub const LAST_HUNDREDTH: u32 = 8_640_099;
     // the hundredths of a usual day
     pub const DAY_LENGTH: u32 = 8_640_000;
+    // those of a day with a second added, and of one with a second taken
+    pub const ADDED_DAY_LENGTH: u32 = 8_640_100;
+
+    pub const TAKEN_DAY_LENGTH: u32 = 8_639_900;
     // the kinds of a day: 86,400 seconds, 86,401 or 86,399
     pub const USUAL_DAY: u8 = 0;
 

@@ -16,6 +16,9 @@ cast-day c = search needs
 cast-c : tie.Need-cast-c
 cast-c c = search needs
 
+cast-added : tie.Need-cast-added
+cast-added c = search needs
+
 sub-usual : tie.Need-sub-usual
 sub-usual c = search needs
 
@@ -37,8 +40,8 @@ shl-word c = search needs
 returns : tie.Need-returns
 unfolding splitDigits
 returns c =
-    let a = c .before .before .before .before .before .args in
-    let given = c .before .before .before .before .before .pre in
+    let a = c .before .before .before .before .before .before .args in
+    let given = c .before .before .before .before .before .before .pre in
     let f = a .format in
     let w = a .control in
     let width : c .width .result ≡ getD (widthsOf f) 13 0 = c .width .ensures .0 ∙ ap (λ ws. getD ws 13 0) (given .1) in
@@ -52,6 +55,7 @@ digits-of-spec =
     (tie.spec
     cast-day
     cast-c
+    cast-added
     sub-usual
     add-second
     carried-requires

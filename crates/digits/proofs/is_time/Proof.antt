@@ -35,9 +35,15 @@ returns-3 c = rw (← c .before .before .before .before .before .before .before 
 day-in-requires : tie.Need-day-in-requires
 day-in-requires c κs = search needs
 
+cast-if5 : tie.Need-cast-if5
+cast-if5 c = search needs
+
 returns-4 : tie.Need-returns-4
 unfolding isTimeOf
 returns-4 c = rw (← c .before .before .before .before .before .before .before .before .before .before .are-digits .ensures, c .before .before .before .before .before .before .before .before .before .if1 .taken, ← c .before .before .before .before .before .before .before .before .pair .ensures .0, le-leb _ _ (c .before .before .before .before .before .before .before .if2 .left), ← c .before .before .before .before .before .before .pair2 .ensures .0, le-leb _ _ (c .before .before .before .before .before .if3 .left), ← c .before .before .before .before .last-second .ensures, ← c .before .before .before .pair3 .ensures .0, le-leb _ _ (c .before .before .if4 .left), ← c .before .day-in .ensures, lt-leb _ _ (c .if5 .taken))
+
+cast-result : tie.Need-cast-result
+cast-result c = search needs
 
 returns-5 : tie.Need-returns-5
 unfolding isTimeOf
@@ -60,6 +66,8 @@ is-time-spec =
     pair-requires-3
     returns-3
     day-in-requires
+    cast-if5
     returns-4
+    cast-result
     returns-5
     returns-6)

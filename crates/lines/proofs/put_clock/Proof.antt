@@ -10,6 +10,9 @@ use Rattle.lines.specs.Text.{pairOf, clockOf}
 use Rattle.lines.proofs.put_clock.Statement.{statement}
 use Rattle.lines.proofs.put_clock.Tie as tie
 
+cast-added : tie.Need-cast-added
+cast-added c = search needs
+
 sub-usual : tie.Need-sub-usual
 sub-usual c = search needs
 
@@ -46,6 +49,7 @@ pub put-clock-spec : {M : Type 1} → statement M
 put-clock-spec =
     tie.close
     (tie.spec
+    cast-added
     sub-usual
     put-pair-requires
     put-pair-requires-2
