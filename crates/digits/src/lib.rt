@@ -232,10 +232,8 @@ pub fn meaning(format: Format, widths: &[u8], digits: &[u64]) -> Reading
     if is_time(format, digits) {
         let time = time_in(digits);
         if seconds_agree(format, widths, digits, time) {
-            return Reading::Accepted {
-                time: time,
-                control: control_in(format, widths, digits),
-            };
+            let control = control_in(format, widths, digits);
+            return Reading::Accepted { time, control };
         }
         return Reading::Refused(Refusal::SecondsDiffer);
     }
