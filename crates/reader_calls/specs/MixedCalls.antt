@@ -15,9 +15,9 @@ use Rattle.stream.specs.Feeding.{freshReader, isValid}
 use Rattle.stream.specs.Refinement.{answers, readerAfter, Hears, fresh-hears, hears-valid, feed-hears, answers-plain, hears-after, answers-are-plain}
 use Rattle.stream.specs.declared.Reader.{Reader}
 use Rattle.block.specs.Blocks.{Lists, roomIn, areRecords, fieldLeft, listsLeft, blockFor, blockAnswer, feedBlockOf}
-use Rattle.block.specs.Folds.{block-answers}
+use Rattle.block.specs.Folds.{Takes, block-takes, block-answers}
 use Rattle.pulse_feed.specs.Pulses.{feedPulseOf}
-use Rattle.reader_calls.specs.ReaderCalls.{Call, symbol, symbolInPlace, pulse, block, Result, symbolResult, inPlaceResult, pulseResult, blockResult, symbolsFed, answersGiven, allFed, allAnswers, resultOf, readerOf, results, readerAfterCalls, plainResult, plainResults}
+use Rattle.reader_calls.specs.ReaderCalls.{Call, symbol, symbolInPlace, pulse, block, Result, symbolResult, inPlaceResult, pulseResult, blockResult, symbolsFed, answersGiven, allFed, allAnswers, resultOf, readerOf, results, readerAfterCalls, plainBlock, plainResult, plainResults}
 
 -- ---- one call, of any reader
 
@@ -71,6 +71,10 @@ reader-is-fed r (c ∷ cs) =
     ∙ sym (reader-append r (symbolsFed (resultOf r c)) (allFed (results (readerOf r c) cs)))
 
 -- ---- from a fresh reader
+
+-- The plain machine's block takes symbols that it accepts, puts in their reports with their indexes, and stops where all are taken, where the machine refuses or where no room is left.
+pub plain-block-takes : (f : Format) (held ss : List ℕ) (l : Lists) → Takes 0 (roomIn l) (plainAnswers f held ss) (plainBlock f held ss l)
+plain-block-takes f held ss l = block-takes 0 (roomIn l) (plainAnswers f held ss)
 
 module _ (f : Format) (k : known f ≡ true) where
   call-plain : (r : Reader) (held : List ℕ) (c : Call) → Hears f r held → resultOf r c ≡ plainResult f held c
