@@ -12,9 +12,8 @@ use lib.ListN.{getD}
 use Rattle.timecode.specs.Answers.{check}
 use Rattle.timecode.specs.Formats.{carriesLeap}
 use Rattle.timecode.specs.Frames.{areDigits, lastSecond, isTime, timeIn, secondsAgree}
-use Rattle.timecode.specs.Laws.Digits.{decode}
 use Rattle.timecode.specs.Laws.Tests.{by-test, and-left, and-right}
-use Rattle.timecode.specs.Layout.{seconds, minutes, hours, days, tenths, hundredths, hasSeconds, straightSeconds, controlRange, control, timeFields, fields, flatten, runs, digitIn, numberIn}
+use Rattle.timecode.specs.Layout.{seconds, minutes, hours, days, tenths, hundredths, hasSeconds, straightSeconds, controlRange, control, timeFields, fields, flatten, runs, digitIn, numberIn, decode}
 use Rattle.timecode.specs.declared.Format.{Format}
 use Rattle.timecode.specs.declared.Reading.{Reading}
 use Rattle.timecode.specs.declared.Reading.the-variants.{Accepted}

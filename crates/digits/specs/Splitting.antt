@@ -9,13 +9,12 @@ use borrow.Author.Tests.{ltb-true, ltb-false, eqb-true, ne-eqb}
 use lib.Dec.{ltb, eqb}
 use lib.ListN.{getD, length, drop}
 use lib.Pow.{pow-pos, pow-mono, shl-exact, shr-lt}
-use Rattle.timecode.specs.Formats.{table, lookUp, rowOf, known, carriesControl}
-use Rattle.timecode.specs.Frames.{totalWidth}
+use Rattle.timecode.specs.Formats.{table, lookUp, rowOf, known, carriesControl, OnFormat}
+use Rattle.timecode.specs.Frames.{totalWidth, Valid}
 use Rattle.timecode.specs.Laws.Fields.{Binary}
-use Rattle.timecode.specs.Laws.Reading.{Valid, control-binary}
+use Rattle.timecode.specs.Laws.Reading.{control-binary}
 use Rattle.timecode.specs.Laws.Table.{everyFormat, of-every}
 use Rattle.timecode.specs.Laws.Tests.{by-test, and-left, and-right}
-use Rattle.timecode.specs.Laws.Times.{OnFormat}
 use Rattle.timecode.specs.Layout.{Run, Field, seconds, minutes, hours, days, tenths, hundredths, hasSeconds, straightSeconds, controlRange, control, timeFields, fields, runs, second, minute, hour, timeNumbers, numbers, digitsOf, spread}
 use Rattle.timecode.specs.declared.Format.{Format}
 use Rattle.timecode.specs.declared.Time.{Time}

@@ -13,10 +13,10 @@ use lib.Seq.{drop-cons}
 use Rattle.timecode.specs.Formats.{table, lookUp, rowOf, known, size, carriesControl, carriesSeconds}
 use Rattle.timecode.specs.Frames.{held}
 use Rattle.timecode.specs.Laws.Bits.{value-of-bits}
-use Rattle.timecode.specs.Laws.Runs.{in-run, Small, proper, held-once, later-proper, held-inside, symbol-free, place-in, length-tabulate, getD-tabulate, tabulate-same}
+use Rattle.timecode.specs.Laws.Runs.{in-run, proper, held-once, later-proper, held-inside, symbol-free, place-in, length-tabulate, getD-tabulate, tabulate-same}
 use Rattle.timecode.specs.Laws.Table.{everyFormat, of-every, layout-proper}
 use Rattle.timecode.specs.Laws.Tests.{by-test, clash, and-left, and-right}
-use Rattle.timecode.specs.Layout.{Run, seconds, minutes, hours, days, tenths, hundredths, hasSeconds, straightSeconds, controlRange, control, timeFields, fields, runs, inRun, bitOf, placeOf, isMark, rest, symbolAt, tabulate, encode, value}
+use Rattle.timecode.specs.Layout.{Run, seconds, minutes, hours, days, tenths, hundredths, hasSeconds, straightSeconds, controlRange, control, timeFields, fields, runs, inRun, bitOf, placeOf, isMark, rest, symbolAt, tabulate, encode, value, Small}
 use Rattle.timecode.specs.declared.Format.{Format}
 use Rattle.layout.specs.Tables.{startsOf}
 use Rattle.elements.specs.Turns.{Narrow, runs-narrow}

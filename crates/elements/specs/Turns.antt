@@ -9,11 +9,10 @@ use lib.Dec.{leb, ltb}
 use lib.ListN.{getD, length, List·getD-map}
 use lib.Pow.{pow-mono}
 use Rattle.timecode.specs.Formats.{table, lookUp, rowOf, known, size, carriesControl, carriesSeconds}
-use Rattle.timecode.specs.Laws.Digits.{decode}
-use Rattle.timecode.specs.Laws.Runs.{Small, place-in, held-inside, held-at}
+use Rattle.timecode.specs.Laws.Runs.{place-in, held-inside, held-at}
 use Rattle.timecode.specs.Laws.Table.{everyFormat, of-every, layout-proper}
 use Rattle.timecode.specs.Laws.Tests.{and-left, and-right}
-use Rattle.timecode.specs.Layout.{Run, seconds, minutes, hours, days, tenths, hundredths, hasSeconds, straightSeconds, controlRange, control, timeFields, fields, runs, rest, tabulate, value}
+use Rattle.timecode.specs.Layout.{Run, seconds, minutes, hours, days, tenths, hundredths, hasSeconds, straightSeconds, controlRange, control, timeFields, fields, runs, rest, tabulate, value, Small, decode}
 use Rattle.timecode.specs.declared.Format.{Format}
 use Rattle.layout.specs.Tables.{startsOf, widthsOf}
 

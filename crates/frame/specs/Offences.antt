@@ -13,9 +13,9 @@ use lib.Pow.{high, ones-lt, ones-split, pow-pos, shl-exact}
 use lib.Seq.{drop-cons}
 use Rattle.timecode.specs.Formats.{size}
 use Rattle.timecode.specs.Frames.{areSymbols, held, marksAgree, elementFits, checkElements}
-use Rattle.timecode.specs.Laws.Runs.{in-run, Small, Clean, fits-agree, getD-encode, length-encode}
+use Rattle.timecode.specs.Laws.Runs.{in-run, Clean, fits-agree, getD-encode, length-encode}
 use Rattle.timecode.specs.Laws.Tests.{by-test}
-use Rattle.timecode.specs.Layout.{Run, seconds, minutes, hours, days, tenths, hundredths, straightSeconds, control, timeFields, fields, inRun, bitOf, isMark, rest, runs, symbolAt, tabulate, encode}
+use Rattle.timecode.specs.Layout.{Run, seconds, minutes, hours, days, tenths, hundredths, straightSeconds, control, timeFields, fields, inRun, bitOf, isMark, rest, runs, symbolAt, tabulate, encode, Small}
 use Rattle.timecode.specs.declared.Format.{Format}
 use Rattle.timecode.specs.declared.Reading.{Reading}
 use Rattle.timecode.specs.declared.Refusal.{Refusal}

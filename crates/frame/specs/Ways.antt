@@ -11,12 +11,11 @@ use lib.ListN.{getD, length, length-map}
 use lib.Seq.{ext-getD}
 use Rattle.timecode.specs.Formats.{known, size}
 use Rattle.timecode.specs.Frames.{areSymbols, elementFits, readOf}
-use Rattle.timecode.specs.Laws.Digits.{decode}
-use Rattle.timecode.specs.Laws.Runs.{getD-encode, length-encode, Small, Clean, clean-bits, encode-clean, held-inside, small-decoded, small-length}
+use Rattle.timecode.specs.Laws.Runs.{getD-encode, length-encode, Clean, clean-bits, encode-clean, held-inside, small-decoded, small-length}
 use Rattle.timecode.specs.Laws.Table.{size-range, two-sizes, layout-proper}
 use Rattle.timecode.specs.Laws.Tests.{by-test, clash}
 use Rattle.timecode.specs.Laws.Writing.{symbol-small, symbols-tabulate}
-use Rattle.timecode.specs.Layout.{runs, isMark, rest, encode}
+use Rattle.timecode.specs.Layout.{runs, isMark, rest, encode, Small, decode}
 use Rattle.timecode.specs.declared.Format.{Format}
 use Rattle.timecode.specs.declared.Refusal.the-variants.{UnknownSymbol}
 use Rattle.layout.specs.Tables.{widthsOf}

@@ -10,9 +10,8 @@ use borrow.Author.Tests.{eqb-true, eqb-false, ltb-true, ltb-false, eq-eqb}
 use lib.Dec.{eqb, ltb}
 use lib.ListN.{getD, length, length-append, List·getD-append}
 use lib.Seq.{getD-at}
-use Rattle.timecode.specs.Frames.{usual, following, stepOf, written, Sent, noFrame, Generator}
+use Rattle.timecode.specs.Frames.{usual, following, stepOf, written, Sent, noFrame, Generator, Valid}
 use Rattle.timecode.specs.Laws.Checks.{done}
-use Rattle.timecode.specs.Laws.Reading.{Valid}
 use Rattle.timecode.specs.Laws.Back.{step-again}
 use Rattle.timecode.specs.Laws.Stepping.{went, answers, day-end-range, Lands, lands}
 use Rattle.timecode.specs.Laws.Tests.{by-test, and-right}

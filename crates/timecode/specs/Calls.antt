@@ -1,7 +1,8 @@
 -- Document 01, "Classifier, difference, scan, program": what the classifier, Difference and Scan answer.
+use mathlib.Core.Path.{_≡_}
 use mathlib.Core.Bool.{Bool, true, false, cond, _&&_}
 use mathlib.Core.List.{List, [], _∷_}
-use Prim.Native.Nat.{ℕ, zero, suc, _+_, _*_, _-_}
+use Prim.Native.Nat.{ℕ, zero, suc, _+_, _*_, _-_, _<_, _≤_}
 use lib.Dec.{leb, eqb}
 use lib.IntN.{pos, _+ℤ_, _-ℤ_, _*ℤ_}
 use lib.ListN.{getD, length, take, drop}
@@ -94,3 +95,30 @@ scanOf f recording start =
     check Scanned.Refused UnknownFormat (known f)  -- 1
     (check Scanned.Refused StartPastEnd (leb start (length recording))  -- 12
     (lowestOf f recording (length recording + 1 - (firstPlace start + size f)) (firstPlace start)))
+
+-- element a - 1 is a mark and the frame beginning at a is accepted
+pub record FrameAt (f : Format) (recording : List ℕ) (a : ℕ) (t : Time) (w : ℕ) : Type 0 where
+  pub mark : getD recording (a - 1) 0 ≡ 2
+  pub frame : readOf f (partAt f recording a) ≡ Accepted t w
+
+-- a is at least 1 and at least the start, and a frame is found there
+pub record FoundAt (f : Format) (recording : List ℕ) (start a : ℕ) (t : Time) (w : ℕ) : Type 0 where
+  pub first : 1 ≤ a
+  pub from : start ≤ a
+  pub fits : FrameAt f recording a t w
+
+-- Scan passes its checks
+pub record Looks (f : Format) (recording : List ℕ) (start : ℕ) : Type 0 where
+  pub format : known f ≡ true
+  pub inside : start ≤ length recording
+
+-- the lowest such a
+pub record LowestAt (f : Format) (recording : List ℕ) (start a : ℕ) (t : Time) (w : ℕ) : Type 0 where
+  pub looks : Looks f recording start
+  pub found : FoundAt f recording start a t w
+  pub none-before : (b : ℕ) (u : Time) (v : ℕ) → b < a → FoundAt f recording start b u v → ⊥
+
+-- there is no such a
+pub record NowhereAt (f : Format) (recording : List ℕ) (start : ℕ) : Type 0 where
+  pub looks : Looks f recording start
+  pub none : (a : ℕ) (t : Time) (w : ℕ) → FoundAt f recording start a t w → ⊥

@@ -2,35 +2,41 @@
 use mathlib.Core.Path.{_≡_, sym, ap, _∙_}
 use mathlib.Core.Bool.{true, false}
 use mathlib.Core.List.{List, [], _∷_, _++_}
-use mathlib.Core.Logic.{_↔_, _⊎_}
 use Prim.Native.Nat.{ℕ, suc, _-_, _/_, _%_, _<_, _≤_}
-use native.Mathlib.Omega.{arith}
+use lib.Dec.{eqb}
 use lib.ListN.{getD, length, replicate, length-replicate}
+use mathlib.Core.Logic.{_↔_, _⊎_, inl, inr}
+use native.Mathlib.Nat.{zero-mod}
+use native.Mathlib.Omega.{arith}
 use Rattle.timecode.specs.Answers.{number}
-use Rattle.timecode.specs.Calls.{classifyListOf, classifyListLeaves, scanOf}
+use Rattle.timecode.specs.Calls.{classifyListOf, classifyListLeaves}
 use Rattle.timecode.specs.Formats.{member, known, size, interval, lastHundredth, dayLength, onFormat, carriesLeap, secondCarried}
-use Rattle.timecode.specs.Frames.{yearLengths, usual, kinds, dayEnd, sameDay, nextDay, stepOf, Follows, nextAfter, stepBackOf, Precedes, writeOf, writeLeaves, readOf, Sent, Generator, sentAt}
-use Rattle.timecode.specs.Laws.Back.{step-back, back-step, to-last-frame, back-on-format, follows-precedes, precedes-follows, backs-usual, same-refusal}
-use Rattle.timecode.specs.Laws.Checks.{accepted, by-reading}
+use Rattle.timecode.specs.Frames.{yearLengths, usual, kinds, dayEnd, sameDay, nextDay, stepOf, Follows, nextAfter, stepBackOf, Precedes, writeOf, writeLeaves, readOf, Sent, Generator, sentAt, dayBefore, following, preceding, onDay, areSymbols, isTime, timeIn, secondsAgree}
+use Rattle.timecode.specs.Laws.Back.{step-back, back-step, back-on-format, follows-precedes, precedes-follows}
+use Rattle.timecode.specs.Laws.Checks.{accepted, by-reading, refused-up-to}
 use Rattle.timecode.specs.Laws.Existence.{frames, length-frames, control-at, first-time, generator, goes-on}
-use Rattle.timecode.specs.Laws.Reading.{accepted-was-written, refused-up-to-8}
-use Rattle.timecode.specs.Laws.Scanning.{LowestAt, NowhereAt, scan-found, scan-none}
-use Rattle.timecode.specs.Laws.Stepping.{step-on-format, steps-usual, next-follows, follows-next, three, Turn, successors}
-use Rattle.timecode.specs.Laws.Successors.{Apart, apart}
+use Rattle.timecode.specs.Laws.Reading.{accepted-was-written, elements-up-to}
+use Rattle.timecode.specs.Laws.Stepping.{step-on-format, next-follows, follows-next, usual-end, answers, year-range, day-end-range, refuses-alike, Went, went, Lands, lands, year-is}
 use Rattle.timecode.specs.Laws.Times.{is-on-format, is-carried, none-added, one-added}
 use Rattle.timecode.specs.Laws.Writing.{written-is-accepted, taken, takes, leaves}
-use Rattle.timecode.specs.Layout.{second, minute, hour}
+use Rattle.timecode.specs.Layout.{second, minute, hour, rest, runs, control, numberIn}
 use Rattle.timecode.specs.declared.Format.{Format}
 use Rattle.timecode.specs.declared.Reading.{Reading}
 use Rattle.timecode.specs.declared.Reading.the-variants.{Accepted}
-use Rattle.timecode.specs.declared.Refusal.the-variants.{UnknownSymbol}
+use Rattle.timecode.specs.declared.Refusal.the-variants.{UnknownFormat, WrongLength, UnknownSymbol, InvalidDigit, SecondsDiffer}
 use Rattle.timecode.specs.declared.Refusal.{Refusal}
-use Rattle.timecode.specs.declared.Scanned.the-variants.{Found, None}
 use Rattle.timecode.specs.declared.Stepped.{Stepped}
 use Rattle.timecode.specs.declared.Stepped.the-variants.{Next}
 use Rattle.timecode.specs.declared.Time.{Time}
 use Rattle.timecode.specs.declared.Written.{Written}
 use Rattle.timecode.specs.declared.Written.the-variants.{Done}
+-- Theorems that stand whole in Laws, passed on.
+-- Two times that follow one are the same, or day 1 and day 366 at midnight, or 23:59:59 or 23:59:60 and midnight in A, B or G.
+pub use Rattle.timecode.specs.Laws.Stepping.{two-that-follow}
+-- Two that are not the same are written at least seven elements apart, whatever the control words.
+pub use Rattle.timecode.specs.Laws.Successors.{two-that-follow-are-apart}
+-- Scan answers the lowest place, at least 1 and at least the start, where a mark stands before and Read accepts; None exactly if there is none.
+pub use Rattle.timecode.specs.Laws.Scanning.{scan-finds-the-lowest, scan-finds-none}
 
 -- ---- Demand 1: a refusal leaves lent memory with the contents it had. Write and the classifier over lists set lent memory; Read, Step, Difference, the classifier for one pulse and Scan set none.
 
@@ -69,8 +75,16 @@ refused-exactly-when-unwritten f bytes = (
 )
 
 -- Read refuses with numbers up to 8 alone, never with 14.
-pub read-refuses-up-to-8 : (f : Format) (bytes : List ℕ) (r : Refusal) → readOf f bytes ≡ Reading.Refused r → number r ≤ 8
-read-refuses-up-to-8 = refused-up-to-8
+pub read-refuses-up-to-8 : (f : Format) (frame : List ℕ) (r : Refusal) → readOf f frame ≡ Reading.Refused r → number r ≤ 8
+unfolding readOf
+read-refuses-up-to-8 f frame r =
+    refused-up-to 8 UnknownFormat (known f) _ r (omega arith)
+    (refused-up-to 8 WrongLength (eqb (length frame) (size f)) _ r (omega arith)
+    (refused-up-to 8 UnknownSymbol (areSymbols frame) _ r (omega arith)
+    (elements-up-to (rest f) (runs f) frame 0 _ r
+    (refused-up-to 8 InvalidDigit (isTime f frame) _ r (omega arith)
+    (refused-up-to 8 SecondsDiffer (secondsAgree f frame) _ r (omega arith)
+    (λ h. absurd (accepted (timeIn f frame) (numberIn frame (control f)) r (sym h))))))))
 
 -- The added second is written and read as 23:59:60 and SBS 86,400.
 pub added-second-is-the-61st : (c : ℕ) → dayLength ≤ c → c ≤ lastHundredth → (hour c ≡ 23) × (minute c ≡ 59) × (second c ≡ 60) × (c / 100 ≡ 86400)
@@ -105,22 +119,25 @@ step-stays-on-format f t u s = let o = step-on-format f t u s in (is-on-format f
 
 -- D, E and H step as usual for every kind.
 pub step-as-usual-without-leap : (f : Format) (t : Time) (year kind : ℕ) → carriesLeap f ≡ false → member kind kinds ≡ true → stepOf f t year kind ≡ stepOf f t year usual
-step-as-usual-without-leap = steps-usual
+unfolding stepOf onDay following
+step-as-usual-without-leap f t year kind m h = rw (h, usual-end f kind m, usual-end f usual m)
 
 pub next-after-exactly-when-some-step : (f : Format) (t u : Time) → (nextAfter f t u ≡ true) ↔ Follows f t u
 next-after-exactly-when-some-step f t u = (next-follows f t u, follows-next f t u)
 
 -- Up to three times follow one: the next frame of its day, and the first of the day after in a year of 365 or 366 days.
 pub three-may-follow : (f : Format) (t u : Time) → Follows f t u → (u ≡ sameDay f t) ⊎ ((u ≡ nextDay t 365) ⊎ (u ≡ nextDay t 366))
-three-may-follow = three
+three-may-follow f t u s = go (lands f t (s .0) (s .1) u w) (year-is (s .0) (w .length-is))
+  where
+    w : Went f t (s .0) (s .1) (following f t (s .0) (s .1)) u
+    w = went f t (s .0) (s .1) u (s .2)
 
--- Two of them are the same, or day 1 and day 366 at midnight, or 23:59:59 or 23:59:60 and midnight in A, B or G.
-pub two-that-follow : (f : Format) (t u v : Time) → Follows f t u → Follows f t v → (u ≡ v) ⊎ (Turn f u v ⊎ Turn f v u)
-two-that-follow = successors
+    go : Lands f t (s .0) (s .1) u → (s .0 ≡ 365) ⊎ (s .0 ≡ 366) → (u ≡ sameDay f t) ⊎ ((u ≡ nextDay t 365) ⊎ (u ≡ nextDay t 366))
+    go (inl p) y = inl (sym (p .0))
+    go (inr p) (inl y) = inr (inl (sym (p .0) ∙ ap (nextDay t) y))
+    go (inr p) (inr y) = inr (inr (sym (p .0) ∙ ap (nextDay t) y))
 
--- Two that are not the same are written at least seven elements apart, whatever the control words.
-pub two-that-follow-are-apart : (f : Format) (t u v : Time) → Follows f t u → Follows f t v → (u ≡ v) ⊎ Apart f u v
-two-that-follow-are-apart = apart
+-- Two of them: two-that-follow and two-that-follow-are-apart, above.
 
 -- ---- Step back, for every format, time, year length and kind of day that the first call takes: a step and then a step back returns the time, and so does the other order.
 
@@ -132,12 +149,19 @@ back-then-step f t u year kind = back-step f u year kind t
 
 -- The checks are the step's: both refuse the same, with the same number.
 pub back-refuses-as-step : (f : Format) (t : Time) (year kind : ℕ) (r : Refusal) → (stepBackOf f t year kind ≡ Stepped.Refused r) ↔ (stepOf f t year kind ≡ Stepped.Refused r)
-back-refuses-as-step = same-refusal
+unfolding stepOf stepBackOf
+back-refuses-as-step f t year kind r = (
+  λ h. refuses-alike f t year kind (preceding f t year kind) r h (Next (following f t year kind)),
+  λ h. refuses-alike f t year kind (following f t year kind) r h (Next (preceding f t year kind)),
+)
 
 -- Day 1, c 0 goes to that year's last frame.
 pub first-frame-back-to-last : (f : Format) (year kind : ℕ) → known f ≡ true → member year yearLengths ≡ true → member kind kinds ≡ true
     → stepBackOf f (record { day = 1; hundredths = 0 }) year kind ≡ Next (record { day = year; hundredths = dayEnd f kind - interval f })
-first-frame-back-to-last = to-last-frame
+unfolding stepBackOf preceding dayBefore
+first-frame-back-to-last f year kind k l m =
+    answers f (record { day = 1; hundredths = 0 }) year kind k (record { first = omega arith; last = omega arith; below = omega arith; grid = zero-mod (interval f); carried = λ n. omega arith }) l
+    (year-range year l .0) m (omega (arith, day-end-range f kind)) (Next (record { day = year; hundredths = dayEnd f kind - interval f }))
 
 -- Next after, read backwards, is some step back.
 pub next-after-backwards : (f : Format) (t u : Time) → (nextAfter f t u ≡ true) ↔ Precedes f t u
@@ -149,16 +173,9 @@ back-stays-on-format f t u s = let o = back-on-format f t u s in (is-on-format f
 
 -- D, E and H step back as usual for every kind.
 pub back-as-usual-without-leap : (f : Format) (t : Time) (year kind : ℕ) → carriesLeap f ≡ false → member kind kinds ≡ true → stepBackOf f t year kind ≡ stepBackOf f t year usual
-back-as-usual-without-leap = backs-usual
+unfolding stepBackOf onDay preceding
+back-as-usual-without-leap f t year kind m h = rw (h, usual-end f kind m, usual-end f usual m)
 
 -- A generator heard in reverse: each frame's time is a step back of the one that was sent after it.
 pub generators-run-backwards : (f : Format) (sent : List Sent) → Generator f sent → (j : ℕ) → suc j < length sent → Precedes f (sentAt sent j .time) (sentAt sent (suc j) .time)
 generators-run-backwards f sent g j h = follows-precedes f (sentAt sent j .time) (sentAt sent (suc j) .time) (g .steps j h)
-
--- ---- Scan answers the lowest place, at least 1 and at least the start, where a mark stands before and Read accepts; None exactly if there is none.
-
-pub scan-finds-the-lowest : (f : Format) (recording : List ℕ) (start a : ℕ) (t : Time) (w : ℕ) → (scanOf f recording start ≡ Found a t w) ↔ LowestAt f recording start a t w
-scan-finds-the-lowest = scan-found
-
-pub scan-finds-none : (f : Format) (recording : List ℕ) (start : ℕ) → (scanOf f recording start ≡ None) ↔ NowhereAt f recording start
-scan-finds-none = scan-none

@@ -1,8 +1,9 @@
 -- Document 01, "Elements and formats": the formats, their table, and the times that lie on them.
 -- Document 02, "Leap second": a second may be added to a day or taken from it; A, B and G carry that.
+use mathlib.Core.Path.{_≡_}
 use mathlib.Core.Bool.{Bool, true, false, cond, _&&_, _||_}
 use mathlib.Core.List.{List, [], _∷_}
-use Prim.Native.Nat.{ℕ, _%_}
+use Prim.Native.Nat.{ℕ, _%_, _<_, _≤_}
 use lib.Dec.{leb, ltb, eqb}
 use Rattle.timecode.specs.declared.Format.{Format}
 use Rattle.timecode.specs.declared.Time.{Time}
@@ -108,3 +109,11 @@ carriesLeap f = member (f .letter) (A ∷ B ∷ G ∷ [])
 -- number 14: the time is not in the added second, or the format carries it
 unfoldable pub secondCarried : Format → Time → Bool
 secondCarried f t = cond (carriesLeap f) true (ltb (t .hundredths) dayLength)
+
+-- a time that passes numbers 2 and 14, part by part
+pub record OnFormat (f : Format) (t : Time) : Type 0 where
+  pub first : 1 ≤ t .day
+  pub last : t .day ≤ lastDay
+  pub below : t .hundredths ≤ lastHundredth
+  pub grid : t .hundredths % interval f ≡ 0
+  pub carried : carriesLeap f ≡ false → t .hundredths < dayLength

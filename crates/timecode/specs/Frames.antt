@@ -3,11 +3,12 @@
 use mathlib.Core.Path.{_≡_}
 use mathlib.Core.Bool.{Bool, true, false, cond, not, _&&_, _||_}
 use mathlib.Core.List.{List, [], _∷_, _++_}
+use mathlib.Core.Logic.{_⊎_}
 use Prim.Native.Nat.{ℕ, suc, _+_, _-_, _*_, _/_, _^_, _<_}
 use lib.Dec.{leb, ltb, eqb}
 use lib.ListN.{getD, length}
 use Rattle.timecode.specs.Answers.{check}
-use Rattle.timecode.specs.Formats.{member, isSymbol, known, size, interval, lastDay, dayLength, onFormat, carriesLeap, secondCarried}
+use Rattle.timecode.specs.Formats.{member, isSymbol, known, size, interval, lastDay, dayLength, onFormat, carriesLeap, secondCarried, OnFormat}
 use Rattle.timecode.specs.Layout.{Run, Field, seconds, minutes, hours, days, tenths, hundredths, hasSeconds, straightSeconds, control, timeFields, fields, flatten, runs, numbers, spread, inRun, rest, encode, digitIn, numberIn}
 use Rattle.timecode.specs.declared.Format.{Format}
 use Rattle.timecode.specs.declared.Reading.{Reading}
@@ -101,6 +102,22 @@ any p (x ∷ xs) = p x || any p xs
 unfoldable pub nextAfter : Format → Time → Time → Bool
 nextAfter f t u = any (λ year. any (λ kind. gives (stepOf f t year kind) u) kinds) yearLengths
 
+-- u is day 1 and v is day 366, both at midnight
+pub record YearTurn (u v : Time) : Type 0 where
+  pub new-year : u .day ≡ 1
+  pub new-midnight : u .hundredths ≡ 0
+  pub leap-day : v .day ≡ 366
+  pub leap-midnight : v .hundredths ≡ 0
+
+-- u is 23:59:59 or 23:59:60, where a day of another kind ends, and v is midnight
+pub record LeapTurn (f : Format) (u v : Time) : Type 0 where
+  pub carried : carriesLeap f ≡ true
+  pub late : (u .hundredths ≡ 8639900) ⊎ (u .hundredths ≡ dayLength)
+  pub midnight : v .hundredths ≡ 0
+
+abbrev pub Turn : Format → Time → Time → Type 0
+Turn f u v = YearTurn u v ⊎ LeapTurn f u v
+
 -- ---- Step back
 
 -- day - 1, and before day 1 the year's last day
@@ -142,6 +159,12 @@ totalWidth (r ∷ rs) = r .width + totalWidth rs
 unfoldable pub controlFits : Format → ℕ → Bool
 controlFits f w = ltb w (2 ^ totalWidth (control f))
 
+-- the time and the control word are ones that Write takes in the format
+pub record Valid (f : Format) (t : Time) (w : ℕ) : Type 0 where
+  pub format : known f ≡ true
+  pub time : OnFormat f t
+  pub room : w < 2 ^ totalWidth (control f)
+
 -- Write checks 1, 2, 14, 9, 3.
 unfoldable pub writeOf : Format → Time → ℕ → List ℕ → Written
 writeOf f t w lent =
@@ -160,6 +183,11 @@ left (Written.Refused r) new old = old
 -- the lent frame after Write: every byte is set, or none
 unfoldable pub writeLeaves : Format → Time → ℕ → List ℕ → List ℕ
 writeLeaves f t w lent = left (writeOf f t w lent) (written f t w) lent
+
+-- the frames of u and v, whatever the control words, differ in at least seven elements: they do not agree off fewer
+abbrev pub Apart : Format → Time → Time → Type 0
+Apart f u v = (a b : ℕ) (qs : List ℕ) → length qs < 7
+    → ((i : ℕ) → i < size f → member i qs ≡ false → getD (written f u a) i 0 ≡ getD (written f v b) i 0) → ⊥
 
 -- ---- Read
 

@@ -1,7 +1,7 @@
 -- Document 01, "Where each element stands": the runs of elements that carry digits and bits, and the symbol at each index of a frame.
 use mathlib.Core.Bool.{Bool, cond, _&&_, _||_}
 use mathlib.Core.List.{List, [], _∷_, _++_, map}
-use Prim.Native.Nat.{ℕ, zero, suc, _+_, _*_, _-_, _/_, _%_, _^_}
+use Prim.Native.Nat.{ℕ, zero, suc, _+_, _*_, _-_, _/_, _%_, _^_, _<_}
 use lib.Dec.{leb, ltb, eqb}
 use lib.ListN.{getD}
 use Rattle.timecode.specs.Formats.{A, B, E, G, H, member, rowOf, carriesControl, carriesSeconds, dayLength}
@@ -117,6 +117,13 @@ spread [] xs = []
 spread (d ∷ ds) [] = []
 spread (d ∷ ds) (x ∷ xs) = digitsOf d x ++ spread ds xs
 
+-- each digit fits the elements of its run
+abbrev pub Small : List Run → List ℕ → Type 0
+Small [] [] = Unit
+Small [] (x ∷ xs) = ⊥
+Small (r ∷ rs) [] = ⊥
+Small (r ∷ rs) (x ∷ xs) = (x < 2 ^ r .width) × Small rs xs
+
 -- ---- the symbol at each index
 
 abbrev pub inRun : Run → ℕ → Bool
@@ -167,3 +174,7 @@ digitIn frame r = value (r .width) (λ b. getD frame (placeOf r b) 0)
 abbrev pub numberIn : List ℕ → Field → ℕ
 numberIn frame [] = 0
 numberIn frame (r ∷ rs) = digitIn frame r + r .radix * numberIn frame rs
+
+-- the digits that stand at the runs
+abbrev pub decode : List Run → List ℕ → List ℕ
+decode rs frame = map (digitIn frame) rs

@@ -3,9 +3,8 @@ use borrow.Author.Needs.{needs}
 use mathlib.Core.Path.{_≡_, sym, ap₂, subst, _∙_}
 use lib.ListN.{length}
 use Rattle.timecode.specs.Frames.{written}
-use Rattle.timecode.specs.Laws.Runs.{Small}
 use Rattle.timecode.specs.Laws.Writing.{written-small}
-use Rattle.timecode.specs.Layout.{runs, rest, encode}
+use Rattle.timecode.specs.Layout.{runs, rest, encode, Small}
 use Rattle.frame.specs.Ways.{are-widths, is-frame}
 use Rattle.frame.proofs.put_frame.Statement.{statement}
 use Rattle.frame.proofs.put_frame.Tie as tie

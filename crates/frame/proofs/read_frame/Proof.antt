@@ -5,8 +5,7 @@ use Rattle.digits.specs.Saying.{meaningOf}
 use Rattle.digits.specs.Splitting.{Digits}
 use Rattle.frame.specs.Offences.{settled}
 use Rattle.frame.specs.Ways.{are-widths, are-digits, read-settled, finds-nothing}
-use Rattle.timecode.specs.Laws.Digits.{decode}
-use Rattle.timecode.specs.Layout.{runs}
+use Rattle.timecode.specs.Layout.{runs, decode}
 use Rattle.frame.proofs.read_frame.Statement.{statement}
 use Rattle.frame.proofs.read_frame.Tie as tie
 

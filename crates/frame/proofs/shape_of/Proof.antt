@@ -3,8 +3,7 @@ use borrow.Author.Needs.{needs}
 use mathlib.Core.Logic.{inr}
 use mathlib.Core.Path.{_≡_, refl, sym, ap, subst, _∙_}
 use lib.ListN.{length}
-use Rattle.timecode.specs.Laws.Runs.{Small}
-use Rattle.timecode.specs.Layout.{runs, rest, encode}
+use Rattle.timecode.specs.Layout.{runs, rest, encode, Small}
 use Rattle.frame.specs.Offences.{shape, greatest-small}
 use Rattle.frame.specs.Ways.{are-widths}
 use Rattle.frame.proofs.shape_of.Statement.{statement}

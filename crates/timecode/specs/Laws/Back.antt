@@ -1,21 +1,17 @@
 -- The step back against the step: each undoes the other for every format, time, year length and kind that it takes.
 use mathlib.Core.Path.{_≡_, refl, sym, ap, _∙_, subst}
-use mathlib.Core.Bool.{true, false}
-use mathlib.Core.Logic.{_↔_, _⊎_, inl, inr}
+use mathlib.Core.Logic.{_⊎_, inl, inr}
 use Prim.Native.Nat.{ℕ, _+_, _-_, _%_, _≤_, _<_}
-use native.Mathlib.Nat.{add-mod-right, zero-mod}
+use native.Mathlib.Nat.{add-mod-right}
 use native.Mathlib.Omega.{arith}
 use borrow.Author.Tests.{eqb-true, eqb-false, eq-eqb, ne-eqb}
 use lib.Dec.{eqb}
-use Rattle.timecode.specs.Formats.{member, known, interval, carriesLeap}
-use Rattle.timecode.specs.Frames.{yearLengths, dayAfter, usual, kinds, dayEnd, onDay, sameDay, nextDay, following, stepOf, Follows, dayBefore, sameDayBefore, lastBefore, preceding, stepBackOf, Precedes}
-use Rattle.timecode.specs.Laws.Stepping.{time-path, Went, went-to, answers, answers-alike, refuses-alike, went, year-range, one-interval, end-whole, usual-end, day-end-range, day-after-inside, Lands, lands, step-on-format}
+use Rattle.timecode.specs.Formats.{interval, OnFormat}
+use Rattle.timecode.specs.Frames.{dayAfter, dayEnd, sameDay, nextDay, following, stepOf, Follows, dayBefore, sameDayBefore, lastBefore, preceding, stepBackOf, Precedes}
+use Rattle.timecode.specs.Laws.Stepping.{time-path, Went, went-to, answers, answers-alike, went, year-range, one-interval, end-whole, usual-end, day-end-range, day-after-inside, Lands, lands, step-on-format}
 use Rattle.timecode.specs.Laws.Table.{interval-range}
 use Rattle.timecode.specs.Laws.Tests.{by-test}
-use Rattle.timecode.specs.Laws.Times.{OnFormat}
 use Rattle.timecode.specs.declared.Format.{Format}
-use Rattle.timecode.specs.declared.Refusal.{Refusal}
-use Rattle.timecode.specs.declared.Stepped.{Stepped}
 use Rattle.timecode.specs.declared.Stepped.the-variants.{Next}
 use Rattle.timecode.specs.declared.Time.{Time}
 
@@ -148,14 +144,6 @@ back-step f u year kind t h =
     let b = redone f u year kind t w (comes f u year kind t w) in
     answers f t year kind (w .format) (b .0) (w .length-is) (b .1) (w .kind-is) (b .2) (Next (following f t year kind)) ∙ ap Next (b .3)
 
--- day 1, c 0 goes to the year's last frame
-pub to-last-frame : (f : Format) (year kind : ℕ) → known f ≡ true → member year yearLengths ≡ true → member kind kinds ≡ true
-    → stepBackOf f (record { day = 1; hundredths = 0 }) year kind ≡ Next (record { day = year; hundredths = dayEnd f kind - interval f })
-unfolding stepBackOf preceding dayBefore
-to-last-frame f year kind k l m =
-    answers f (record { day = 1; hundredths = 0 }) year kind k (record { first = omega arith; last = omega arith; below = omega arith; grid = zero-mod (interval f); carried = λ n. omega arith }) l
-    (year-range year l .0) m (omega (arith, day-end-range f kind)) (Next (record { day = year; hundredths = dayEnd f kind - interval f }))
-
 -- ---- what else both steps share
 
 -- the time before is on the format
@@ -167,16 +155,3 @@ follows-precedes f t u s = (s .0, s .1, step-back f t (s .0) (s .1) u (s .2))
 
 pub precedes-follows : (f : Format) (t u : Time) → Precedes f t u → Follows f t u
 precedes-follows f t u s = (s .0, s .1, back-step f u (s .0) (s .1) t (s .2))
-
--- D, E and H step back as usual for every kind
-pub backs-usual : (f : Format) (t : Time) (year kind : ℕ) → carriesLeap f ≡ false → member kind kinds ≡ true → stepBackOf f t year kind ≡ stepBackOf f t year usual
-unfolding stepBackOf onDay preceding
-backs-usual f t year kind m h = rw (h, usual-end f kind m, usual-end f usual m)
-
--- they refuse the same with the same
-pub same-refusal : (f : Format) (t : Time) (year kind : ℕ) (r : Refusal) → (stepBackOf f t year kind ≡ Stepped.Refused r) ↔ (stepOf f t year kind ≡ Stepped.Refused r)
-unfolding stepOf stepBackOf
-same-refusal f t year kind r = (
-  λ h. refuses-alike f t year kind (preceding f t year kind) r h (Next (following f t year kind)),
-  λ h. refuses-alike f t year kind (following f t year kind) r h (Next (preceding f t year kind)),
-)

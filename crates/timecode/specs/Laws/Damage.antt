@@ -9,12 +9,12 @@ use native.Mathlib.Omega.{arith}
 use lib.ListN.{length, getD, length-map}
 use lib.Seq.{ext-getD}
 use Rattle.timecode.specs.Formats.{member, size}
-use Rattle.timecode.specs.Frames.{Follows, written, readOf, Sent, Generator, elements, sentAt, EndsFrame}
+use Rattle.timecode.specs.Frames.{Follows, written, readOf, Sent, Generator, elements, sentAt, EndsFrame, Apart}
 use Rattle.timecode.specs.Laws.Generators.{frameOf, length-elements, element-at, sent-valid, frame-reads, marks, pair}
 use Rattle.timecode.specs.Laws.Marks.{size-positive, size-large, last-mark}
 use Rattle.timecode.specs.Laws.Places.{member-map, missed}
 use Rattle.timecode.specs.Laws.Reading.{accepted-was-written}
-use Rattle.timecode.specs.Laws.Successors.{Apart, apart}
+use Rattle.timecode.specs.Laws.Successors.{two-that-follow-are-apart}
 use Rattle.timecode.specs.Laws.Windows.{long, Confirmed, length-frame-in, at-frame, first-of, before-of}
 use Rattle.timecode.specs.Laws.Writing.{length-written}
 use Rattle.timecode.specs.Stream.{frameIn}
@@ -74,7 +74,7 @@ module _ (f : Format) (m : ℕ) (sent : List Sent) (gen : Generator f sent) (sta
     module _ (t : Time) (w : ℕ) (c : Confirmed f m window t w) where
       -- from a right time to the next
       right-next : length places < 7 → (j : ℕ) → suc j ≤ m → c .times j ≡ sentAt sent (q + j) .time → c .times (suc j) ≡ sentAt sent (q + suc j) .time
-      right-next few j b r = pick (apart f (c .times j) (c .times (suc j)) (sentAt sent (q + suc j) .time) (c .follows j b) (rw r sent-follows))
+      right-next few j b r = pick (two-that-follow-are-apart f (c .times j) (c .times (suc j)) (sentAt sent (q + suc j) .time) (c .follows j b) (rw r sent-follows))
         where
           sent-follows : Follows f (sentAt sent (q + j) .time) (sentAt sent (q + suc j) .time)
           sent-follows = let u : suc (q + j) ≡ q + suc j = omega arith in rw u at (gen .steps (q + j) (omega (arith, frames-inside)))

@@ -1,12 +1,12 @@
 -- The digits of a number in a field, and the number that digits make: each gives the other back, at any radices.
 use mathlib.Core.Path.{_≡_, refl, sym, ap, ap₂, _∙_}
-use mathlib.Core.List.{List, [], _∷_, map}
+use mathlib.Core.List.{List, [], _∷_}
 use Prim.Native.Nat.{ℕ, suc, _+_, _*_, _/_, _%_, _<_}
 use native.Mathlib.Nat.{add-mul-div-left, add-mul-mod-self-left, mod-eq-of-lt, div-eq-of-lt, mod-lt, mod-one, mul-comm, mul-pos, zero-add, add-comm}
 use native.Mathlib.Omega.{arith}
 use lib.Arith.{mod-mul, digits-lt}
 use lib.ListN.{length}
-use Rattle.timecode.specs.Layout.{Run, Field, digitsOf, digitIn, numberIn}
+use Rattle.timecode.specs.Layout.{Field, digitsOf, digitIn, numberIn, decode}
 
 -- the number whose digits these are
 abbrev pub joined : Field → List ℕ → ℕ
@@ -71,9 +71,6 @@ digits-agree d xs x p b h =
     sym (digits-of-joined d (digitsOf d x) (digits-below d x p)) ∙ ap (digitsOf d) (joined-of-digits d x p ∙ sym h) ∙ digits-of-joined d xs b
 
 -- ---- the digits that stand in a frame
-
-abbrev pub decode : List Run → List ℕ → List ℕ
-decode rs frame = map (digitIn frame) rs
 
 pub number-joined : (frame : List ℕ) (d : Field) → numberIn frame d ≡ joined d (decode d frame)
 number-joined frame [] = refl

@@ -8,11 +8,9 @@ use native.Mathlib.Omega.{arith}
 use native.Mathlib.Decide.{decLt}
 use lib.ListN.{getD, length, length-append, List·getD-append}
 use lib.Seq.{getD-append-add}
-use Rattle.timecode.specs.Formats.{known, size}
-use Rattle.timecode.specs.Frames.{secondAdded, following, Follows, writeOf, Sent, noFrame, Generator}
-use Rattle.timecode.specs.Laws.Reading.{Valid}
+use Rattle.timecode.specs.Formats.{known, size, OnFormat}
+use Rattle.timecode.specs.Frames.{secondAdded, following, Follows, writeOf, Sent, noFrame, Generator, Valid}
 use Rattle.timecode.specs.Laws.Stepping.{goes, step-on-format}
-use Rattle.timecode.specs.Laws.Times.{OnFormat}
 use Rattle.timecode.specs.Laws.Writing.{takes}
 use Rattle.timecode.specs.declared.Format.{Format}
 use Rattle.timecode.specs.declared.Stepped.the-variants.{Next}

@@ -11,10 +11,9 @@ use lib.ListN.{length, take, drop}
 use lib.Pow.{pow-pos, pow-add}
 use lib.Seq.{take-at, drop-at}
 use Rattle.timecode.specs.Frames.{areDigits, totalWidth}
-use Rattle.timecode.specs.Laws.Digits.{capacity, joined, Below, Positive, decode, digits-of-joined, joined-of-digits, number-joined, length-digits}
-use Rattle.timecode.specs.Laws.Runs.{Small}
+use Rattle.timecode.specs.Laws.Digits.{capacity, joined, Below, Positive, digits-of-joined, joined-of-digits, number-joined, length-digits}
 use Rattle.timecode.specs.Laws.Tests.{and-left, and-right}
-use Rattle.timecode.specs.Layout.{Run, Field, flatten, digitsOf, spread, digitIn, numberIn}
+use Rattle.timecode.specs.Layout.{Run, Field, flatten, digitsOf, spread, digitIn, numberIn, Small, decode}
 
 -- P holds of each field and its number
 abbrev pub Each : (Field → ℕ → Type 0) → List Field → List ℕ → Type 0

@@ -8,13 +8,11 @@ use native.Mathlib.Omega.{arith}
 use native.Mathlib.Decide.{decLt}
 use lib.ListN.{length, getD, replicate, length-replicate, length-append, List·getD-append, List·getD-eq-default}
 use lib.Seq.{getD-append-add}
-use Rattle.timecode.specs.Formats.{size}
-use Rattle.timecode.specs.Frames.{written, readOf, Sent, Generator, elements, sentAt}
+use Rattle.timecode.specs.Formats.{size, OnFormat}
+use Rattle.timecode.specs.Frames.{written, readOf, Sent, Generator, elements, sentAt, Valid}
 use Rattle.timecode.specs.Laws.Marks.{size-positive, at-written, mark-only, mark-index}
-use Rattle.timecode.specs.Laws.Reading.{Valid}
 use Rattle.timecode.specs.Laws.Stepping.{step-on-format}
 use Rattle.timecode.specs.Laws.Table.{two-sizes}
-use Rattle.timecode.specs.Laws.Times.{OnFormat}
 use Rattle.timecode.specs.Laws.Writing.{length-written, symbol-small, written-is-accepted, taken}
 use Rattle.timecode.specs.Layout.{fields, runs, numbers, spread}
 use Rattle.timecode.specs.declared.Format.{Format}

@@ -9,8 +9,8 @@ use borrow.Author.Tests.{eqb-true, eq-eqb}
 use lib.Dec.{eqb}
 use lib.ListN.{getD, length}
 use Rattle.timecode.specs.Formats.{size}
-use Rattle.timecode.specs.Frames.{held, written, readOf}
-use Rattle.timecode.specs.Laws.Reading.{Valid, accepted-was-written}
+use Rattle.timecode.specs.Frames.{held, written, readOf, Valid}
+use Rattle.timecode.specs.Laws.Reading.{accepted-was-written}
 use Rattle.timecode.specs.Laws.Runs.{getD-encode, held-inside, small-length, symbol-free, symbol-held}
 use Rattle.timecode.specs.Laws.Table.{two-sizes, layout-proper}
 use Rattle.timecode.specs.Laws.Tests.{by-test, clash, or-other}

@@ -1,37 +1,31 @@
 -- Read accepts exactly the bytes as which a time and a control word are written, and gives those.
 use mathlib.Core.Path.{_≡_, refl, sym, ap, _∙_, subst, subst₂}
-use mathlib.Core.Bool.{true, false, _&&_, _||_}
+use mathlib.Core.Bool.{true, false, _&&_}
 use mathlib.Core.List.{List, [], _∷_, _++_}
 use mathlib.Core.Logic.{_⊎_, inl, inr}
-use Prim.Native.Nat.{ℕ, zero, suc, _+_, _*_, _/_, _%_, _^_, _<_, _≤_}
+use Prim.Native.Nat.{ℕ, zero, suc, _+_, _*_, _/_, _%_, _<_, _≤_}
 use native.Mathlib.Nat.{not-suc-le-zero, add-zero, zero-add, add-suc, suc-add, mod-eq-of-lt, mod-one}
 use native.Mathlib.Omega.{arith}
-use borrow.Author.Tests.{leb-true, leb-false, eqb-true, eq-eqb}
-use lib.Dec.{leb, ltb, eqb}
+use borrow.Author.Tests.{leb-true, leb-false, eqb-true}
+use lib.Dec.{leb, eqb}
 use lib.ListN.{getD, length}
 use Rattle.timecode.specs.Answers.{number}
-use Rattle.timecode.specs.Formats.{known, size, lastDay, lastHundredth, dayLength, carriesLeap}
-use Rattle.timecode.specs.Frames.{totalWidth, written, areSymbols, marksAgree, elementFits, checkElements, areDigits, lastSecond, isTime, timeIn, secondsAgree, readOf}
+use Rattle.timecode.specs.Formats.{known, size, lastDay, lastHundredth, dayLength, carriesLeap, OnFormat}
+use Rattle.timecode.specs.Frames.{written, areSymbols, marksAgree, elementFits, checkElements, areDigits, lastSecond, isTime, timeIn, secondsAgree, readOf, Valid}
 use Rattle.timecode.specs.Laws.Checks.{passed, accepted, refused-up-to}
-use Rattle.timecode.specs.Laws.Digits.{Below, capacity, joined, decode, joined-lt, digits-agree, number-joined}
+use Rattle.timecode.specs.Laws.Digits.{Below, capacity, joined, joined-lt, digits-agree, number-joined}
 use Rattle.timecode.specs.Laws.Fields.{fields-together, digits-back, AreDigits, are-digits, Binary, binary-positive, binary-capacity, binary-below}
-use Rattle.timecode.specs.Laws.Runs.{Small, Clean, fits-agree, clean-bits, encode-decode, small-decoded, small-front, small-back}
+use Rattle.timecode.specs.Laws.Runs.{Clean, fits-agree, clean-bits, encode-decode, small-decoded, small-front, small-back}
 use Rattle.timecode.specs.Laws.Table.{layout-proper}
 use Rattle.timecode.specs.Laws.Tests.{by-test, clash, and-left, and-right}
-use Rattle.timecode.specs.Laws.Times.{OnFormat, none-added, one-added, time-grid}
-use Rattle.timecode.specs.Layout.{Run, seconds, minutes, hours, days, tenths, hundredths, hasSeconds, straightSeconds, controlRange, control, timeFields, fields, flatten, runs, second, minute, hour, timeNumbers, numbers, digitsOf, spread, rest, encode, numberIn}
+use Rattle.timecode.specs.Laws.Times.{none-added, one-added, time-grid}
+use Rattle.timecode.specs.Layout.{Run, seconds, minutes, hours, days, tenths, hundredths, hasSeconds, straightSeconds, controlRange, control, timeFields, fields, flatten, runs, second, minute, hour, timeNumbers, numbers, digitsOf, spread, rest, encode, numberIn, Small, decode}
 use Rattle.timecode.specs.declared.Format.{Format}
 use Rattle.timecode.specs.declared.Reading.{Reading}
 use Rattle.timecode.specs.declared.Reading.the-variants.{Accepted}
 use Rattle.timecode.specs.declared.Refusal.the-variants.{UnknownFormat, WrongLength, UnknownSymbol, MisplacedMark, InvalidElement, InvalidDigit, SecondsDiffer}
 use Rattle.timecode.specs.declared.Refusal.{Refusal}
 use Rattle.timecode.specs.declared.Time.{Time}
-
--- the time and the control word are ones that Write takes in the format
-pub record Valid (f : Format) (t : Time) (w : ℕ) : Type 0 where
-  pub format : known f ≡ true
-  pub time : OnFormat f t
-  pub room : w < 2 ^ totalWidth (control f)
 
 -- ---- elements that offend
 
@@ -238,21 +232,10 @@ accepted-was-written f frame t w h =
 
 -- ---- the numbers that Read refuses with
 
-elements-up-to : (rests : ℕ → ℕ) (rs : List Run) (ss : List ℕ) (i : ℕ) (a : Reading) (r : Refusal) → (a ≡ Reading.Refused r → number r ≤ 8) → checkElements rests rs i ss a ≡ Reading.Refused r → number r ≤ 8
+pub elements-up-to : (rests : ℕ → ℕ) (rs : List Run) (ss : List ℕ) (i : ℕ) (a : Reading) (r : Refusal) → (a ≡ Reading.Refused r → number r ≤ 8) → checkElements rests rs i ss a ≡ Reading.Refused r → number r ≤ 8
 unfolding checkElements
 elements-up-to rests rs [] i a r later = later
 elements-up-to rests rs (s ∷ ss) i a r later =
     refused-up-to 8 (MisplacedMark i) (marksAgree rests rs i s) _ r (omega arith)
     (refused-up-to 8 (InvalidElement i) (elementFits rests rs i s) _ r (omega arith)
     (elements-up-to rests rs ss (suc i) a r later))
-
-pub refused-up-to-8 : (f : Format) (frame : List ℕ) (r : Refusal) → readOf f frame ≡ Reading.Refused r → number r ≤ 8
-unfolding readOf
-refused-up-to-8 f frame r =
-    refused-up-to 8 UnknownFormat (known f) _ r (omega arith)
-    (refused-up-to 8 WrongLength (eqb (length frame) (size f)) _ r (omega arith)
-    (refused-up-to 8 UnknownSymbol (areSymbols frame) _ r (omega arith)
-    (elements-up-to (rest f) (runs f) frame 0 _ r
-    (refused-up-to 8 InvalidDigit (isTime f frame) _ r (omega arith)
-    (refused-up-to 8 SecondsDiffer (secondsAgree f frame) _ r (omega arith)
-    (λ h. absurd (accepted (timeIn f frame) (numberIn frame (control f)) r (sym h))))))))

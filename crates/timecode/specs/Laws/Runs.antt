@@ -1,8 +1,8 @@
 -- Writing digits at runs and reading them from there are inverse, at any layout that passes the test `proper`.
 use mathlib.Core.Path.{_≡_, refl, sym, ap, ap₂, _∙_}
-use mathlib.Core.Bool.{Bool, true, false, not, _&&_, _||_}
+use mathlib.Core.Bool.{Bool, true, false, not, _&&_}
 use mathlib.Core.List.{List, [], _∷_, _++_}
-use Prim.Native.Nat.{ℕ, zero, suc, _+_, _^_, _<_, _≤_}
+use Prim.Native.Nat.{ℕ, zero, suc, _+_, _<_, _≤_}
 use native.Mathlib.Nat.{add-zero, add-suc, suc-add, zero-add, not-suc-le-zero, mod-eq-of-lt}
 use native.Mathlib.Numerals.{add-one}
 use native.Mathlib.Omega.{arith}
@@ -12,9 +12,8 @@ use lib.ListN.{getD, length, take, set}
 use lib.Seq.{ext-getD, take-suc-set, take-length}
 use Rattle.timecode.specs.Frames.{held, marksAgree, elementFits}
 use Rattle.timecode.specs.Laws.Bits.{value-of-bits, value-small, bits-of-value}
-use Rattle.timecode.specs.Laws.Digits.{decode}
 use Rattle.timecode.specs.Laws.Tests.{by-test, clash, and-left, and-right, or-other, or-first, or-second, neither-first, neither-second}
-use Rattle.timecode.specs.Layout.{Run, inRun, bitOf, placeOf, symbolAt, tabulate, encode}
+use Rattle.timecode.specs.Layout.{Run, inRun, bitOf, placeOf, symbolAt, tabulate, encode, Small, decode}
 
 -- ---- a list by its index
 
@@ -90,13 +89,6 @@ clear n rests rs i (suc w) = (ltb i n && (not (eqb (rests i) 2) && not (held rs 
 unfoldable pub proper : ℕ → (ℕ → ℕ) → List Run → Bool
 proper n rests [] = true
 proper n rests (r ∷ rs) = clear n rests rs (r .start) (r .width) && proper n rests rs
-
--- each digit fits the elements of its run
-abbrev pub Small : List Run → List ℕ → Type 0
-Small [] [] = Unit
-Small [] (x ∷ xs) = ⊥
-Small (r ∷ rs) [] = ⊥
-Small (r ∷ rs) (x ∷ xs) = (x < 2 ^ r .width) × Small rs xs
 
 pub small-length : (rs : List Run) (xs : List ℕ) → Small rs xs → length xs ≡ length rs
 small-length [] [] s = refl

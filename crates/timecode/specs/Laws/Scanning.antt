@@ -1,6 +1,5 @@
 -- Scan finds the lowest place where a mark stands before and Read accepts, and answers None exactly where there is none.
 use mathlib.Core.Path.{_≡_, refl, sym, _∙_, subst}
-use mathlib.Core.Bool.{true}
 use mathlib.Core.List.{List}
 use mathlib.Core.Logic.{_↔_}
 use Prim.Native.Nat.{ℕ, zero, suc, _+_, _-_, _<_, _≤_, min}
@@ -9,31 +8,25 @@ use native.Mathlib.Decide.{ℕ-discrete}
 use borrow.Author.Tests.{eqb-true, eqb-false, eq-eqb, leb-true, leb-false, le-leb}
 use lib.Dec.{leb, eqb}
 use lib.ListN.{getD, length, drop, length-take, length-drop}
-use Rattle.timecode.specs.Calls.{partAt, found, lowestOf, firstPlace, scanOf}
+use Rattle.timecode.specs.Calls.{partAt, found, lowestOf, firstPlace, scanOf, FrameAt, Looks, LowestAt, NowhereAt}
 use Rattle.timecode.specs.Formats.{known, size}
 use Rattle.timecode.specs.Frames.{readOf}
 use Rattle.timecode.specs.Laws.Checks.{passed, passes, accepted, by-reading}
 use Rattle.timecode.specs.Laws.Marks.{size-positive, accepted-length}
 use Rattle.timecode.specs.Laws.Tests.{by-test}
 use Rattle.timecode.specs.declared.Format.{Format}
-use Rattle.timecode.specs.declared.Reading.the-variants.{Accepted}
 use Rattle.timecode.specs.declared.Refusal.the-variants.{UnknownFormat, StartPastEnd}
 use Rattle.timecode.specs.declared.Refusal.{Refusal}
 use Rattle.timecode.specs.declared.Scanned.{Scanned}
 use Rattle.timecode.specs.declared.Scanned.the-variants.{Found, None}
 use Rattle.timecode.specs.declared.Time.{Time}
 
--- element a - 1 is a mark and the frame beginning at a is accepted
-pub record Fits (f : Format) (recording : List ℕ) (a : ℕ) (t : Time) (w : ℕ) : Type 0 where
-  pub mark : getD recording (a - 1) 0 ≡ 2
-  pub frame : readOf f (partAt f recording a) ≡ Accepted t w
-
 abbrev pub NoFit : Format → List ℕ → ℕ → Type 0
-NoFit f recording a = (t : Time) (w : ℕ) → Fits f recording a t w → ⊥
+NoFit f recording a = (t : Time) (w : ℕ) → FrameAt f recording a t w → ⊥
 
 module _ (f : Format) (recording : List ℕ) where
   -- a fit at the first place is the answer
-  pub here : (k a : ℕ) (t : Time) (w : ℕ) → Fits f recording a t w → lowestOf f recording (suc k) a ≡ Found a t w
+  pub here : (k a : ℕ) (t : Time) (w : ℕ) → FrameAt f recording a t w → lowestOf f recording (suc k) a ≡ Found a t w
   unfolding lowestOf
   here k a t w fit = rw (eq-eqb (getD recording (a - 1) 0) 2 (fit .mark), fit .frame)
 
@@ -48,7 +41,7 @@ module _ (f : Format) (recording : List ℕ) where
       (λ t w r. absurd (n t w (record { mark = eqb-true (getD recording (a - 1) 0) 2 y; frame = r }))))
       (λ m. rw m)
 
-  fits-or-not : (a : ℕ) → {P : Type 0} → ((t : Time) (w : ℕ) → Fits f recording a t w → P) → (NoFit f recording a → P) → P
+  fits-or-not : (a : ℕ) → {P : Type 0} → ((t : Time) (w : ℕ) → FrameAt f recording a t w → P) → (NoFit f recording a → P) → P
   fits-or-not a {P} yes′ no′ =
       by-test (eqb (getD recording (a - 1) 0) 2)
       (λ y.
@@ -69,7 +62,7 @@ module _ (f : Format) (recording : List ℕ) where
   pub record Lowest (k a b : ℕ) (t : Time) (w : ℕ) : Type 0 where
     pub from : a ≤ b
     pub under : b < a + k
-    pub fits : Fits f recording b t w
+    pub fits : FrameAt f recording b t w
     pub none-before : (j : ℕ) → a ≤ j → j < b → NoFit f recording j
 
   pub found-lowest : (k a b : ℕ) (t : Time) (w : ℕ) → lowestOf f recording k a ≡ Found b t w → Lowest k a b t w
@@ -110,7 +103,7 @@ module _ (f : Format) (recording : List ℕ) where
   fits-none (suc k) a n = past k a (n a (omega arith) (omega arith)) ∙ fits-none k (suc a) (λ j x y. n j (omega arith) (omega arith))
 
   -- a frame that is accepted lies in the recording
-  fit-inside : (a : ℕ) (t : Time) (w : ℕ) → Fits f recording a t w → a + size f ≤ length recording
+  fit-inside : (a : ℕ) (t : Time) (w : ℕ) → FrameAt f recording a t w → a + size f ≤ length recording
   unfolding partAt
   fit-inside a t w fit =
       let l : min (size f) (length (drop a recording)) ≡ size f = sym (length-take (size f) (drop a recording)) ∙ accepted-length f (partAt f recording a) t w (fit .frame) in
@@ -124,44 +117,23 @@ first-place start =
     (λ y. rw y (leb-true 1 start y, omega arith, λ a x z. z))
     (λ m. let z = leb-false 1 start m in rw m (omega arith, omega arith, λ a x z. x))
 
--- a is at least 1 and at least the start, and a frame is found there
-pub record FoundAt (f : Format) (recording : List ℕ) (start a : ℕ) (t : Time) (w : ℕ) : Type 0 where
-  pub first : 1 ≤ a
-  pub from : start ≤ a
-  pub fits : Fits f recording a t w
-
 module _ (f : Format) (recording : List ℕ) (start : ℕ) where
   abbrev places : ℕ
   places = length recording + 1 - (firstPlace start + size f)
 
-  -- Scan looks
-  pub record Looks : Type 0 where
-    pub format : known f ≡ true
-    pub inside : start ≤ length recording
-
-  looked : (x : Scanned) → ((r : Refusal) → Scanned.Refused r ≡ x → ⊥) → scanOf f recording start ≡ x → Looks × (lowestOf f recording places (firstPlace start) ≡ x)
+  looked : (x : Scanned) → ((r : Refusal) → Scanned.Refused r ≡ x → ⊥) → scanOf f recording start ≡ x → Looks f recording start × (lowestOf f recording places (firstPlace start) ≡ x)
   unfolding scanOf
   looked x taken h =
       let a = passed Scanned.Refused UnknownFormat (known f) _ x taken h in
       let b = passed Scanned.Refused StartPastEnd (leb start (length recording)) _ x taken (a .1) in
       (record { format = a .0; inside = leb-true start (length recording) (b .0) }, b .1)
 
-  looks : Looks → scanOf f recording start ≡ lowestOf f recording places (firstPlace start)
+  looks : Looks f recording start → scanOf f recording start ≡ lowestOf f recording places (firstPlace start)
   unfolding scanOf
   looks l = passes Scanned.Refused UnknownFormat (known f) _ (l .format) ∙ passes Scanned.Refused StartPastEnd (leb start (length recording)) _ (le-leb start (length recording) (l .inside))
 
-  -- the lowest such a, and it is the answer
-  pub record LowestAt (a : ℕ) (t : Time) (w : ℕ) : Type 0 where
-    pub looks : Looks
-    pub found : FoundAt f recording start a t w
-    pub none-before : (b : ℕ) (u : Time) (v : ℕ) → b < a → FoundAt f recording start b u v → ⊥
-
-  pub record NowhereAt : Type 0 where
-    pub looks : Looks
-    pub none : (a : ℕ) (t : Time) (w : ℕ) → FoundAt f recording start a t w → ⊥
-
-  pub scan-found : (a : ℕ) (t : Time) (w : ℕ) → (scanOf f recording start ≡ Found a t w) ↔ LowestAt a t w
-  scan-found a t w = (
+  pub scan-finds-the-lowest : (a : ℕ) (t : Time) (w : ℕ) → (scanOf f recording start ≡ Found a t w) ↔ LowestAt f recording start a t w
+  scan-finds-the-lowest a t w = (
     λ h.
         let l = looked (Found a t w) (λ r z. let q : _≡_ {A = ℕ} 0 1 = cc in omega arith) h in
         let p = found-lowest f recording places (firstPlace start) a t w (l .1) in
@@ -187,8 +159,8 @@ module _ (f : Format) (recording : List ℕ) (start : ℕ) where
       first : (1 ≤ firstPlace start) × (start ≤ firstPlace start) × ((a : ℕ) → 1 ≤ a → start ≤ a → firstPlace start ≤ a)
       first = first-place start
 
-  pub scan-none : (scanOf f recording start ≡ None) ↔ NowhereAt
-  scan-none = (
+  pub scan-finds-none : (scanOf f recording start ≡ None) ↔ NowhereAt f recording start
+  scan-finds-none = (
     λ h.
         let l = looked None (λ r z. let q : _≡_ {A = ℕ} 0 1 = cc in omega arith) h in
         record {

@@ -8,12 +8,12 @@ use native.Mathlib.Nat.{add-mod-right, zero-mod, div-add-mod, lt-of-mul-lt-mul-l
 use native.Mathlib.Omega.{arith}
 use borrow.Author.Tests.{leb-true, ltb-true, eqb-true, eqb-false, le-leb, lt-ltb, eq-eqb, ne-eqb}
 use lib.Dec.{leb, ltb, eqb}
-use Rattle.timecode.specs.Formats.{member, table, lookUp, rowOf, known, interval, lastDay, dayLength, onFormat, carriesLeap, secondCarried}
-use Rattle.timecode.specs.Frames.{yearLengths, inYear, dayAfter, usual, secondAdded, secondTaken, kinds, dayLengthOf, dayEnd, onDay, sameDay, nextDay, following, checkStep, stepOf, Follows, sameTime, gives, any, nextAfter}
+use Rattle.timecode.specs.Formats.{member, table, lookUp, rowOf, known, interval, lastDay, dayLength, onFormat, carriesLeap, secondCarried, OnFormat}
+use Rattle.timecode.specs.Frames.{yearLengths, inYear, dayAfter, secondAdded, secondTaken, kinds, dayLengthOf, dayEnd, onDay, sameDay, nextDay, following, checkStep, stepOf, Follows, sameTime, gives, any, nextAfter, LeapTurn, Turn}
 use Rattle.timecode.specs.Laws.Checks.{passed, same-check, next}
 use Rattle.timecode.specs.Laws.Table.{everyFormat, of-every}
 use Rattle.timecode.specs.Laws.Tests.{by-test, clash, and-left, and-right, or-other, or-first, or-second}
-use Rattle.timecode.specs.Laws.Times.{OnFormat, on-format, is-on-format, is-carried}
+use Rattle.timecode.specs.Laws.Times.{on-format, is-on-format, is-carried}
 use Rattle.timecode.specs.declared.Format.{Format}
 use Rattle.timecode.specs.declared.Refusal.the-variants.{UnknownFormat, InvalidTime, InvalidYearLength, SecondNotCarried, InvalidKind}
 use Rattle.timecode.specs.declared.Refusal.{Refusal}
@@ -258,40 +258,7 @@ step-on-format f t u s =
     let w = went f t (s .0) (s .1) u (s .2) in
     landed-on f t (s .0) (s .1) u w (lands f t (s .0) (s .1) u w)
 
--- D, E and H step as usual for every kind
-pub steps-usual : (f : Format) (t : Time) (year kind : ℕ) → carriesLeap f ≡ false → member kind kinds ≡ true → stepOf f t year kind ≡ stepOf f t year usual
-unfolding stepOf onDay following
-steps-usual f t year kind m h = rw (h, usual-end f kind m, usual-end f usual m)
-
 -- ---- the times that follow one
-
--- the next frame of the day, or the first frame of the day after in a year of 365 or 366 days
-pub three : (f : Format) (t u : Time) → Follows f t u → (u ≡ sameDay f t) ⊎ ((u ≡ nextDay t 365) ⊎ (u ≡ nextDay t 366))
-three f t u s = go (lands f t (s .0) (s .1) u w) (year-is (s .0) (w .length-is))
-  where
-    w : Went f t (s .0) (s .1) (following f t (s .0) (s .1)) u
-    w = went f t (s .0) (s .1) u (s .2)
-
-    go : Lands f t (s .0) (s .1) u → (s .0 ≡ 365) ⊎ (s .0 ≡ 366) → (u ≡ sameDay f t) ⊎ ((u ≡ nextDay t 365) ⊎ (u ≡ nextDay t 366))
-    go (inl p) y = inl (sym (p .0))
-    go (inr p) (inl y) = inr (inl (sym (p .0) ∙ ap (nextDay t) y))
-    go (inr p) (inr y) = inr (inr (sym (p .0) ∙ ap (nextDay t) y))
-
--- u is day 1 and v is day 366, both at midnight
-pub record YearTurn (u v : Time) : Type 0 where
-  pub new-year : u .day ≡ 1
-  pub new-midnight : u .hundredths ≡ 0
-  pub leap-day : v .day ≡ 366
-  pub leap-midnight : v .hundredths ≡ 0
-
--- u is 23:59:59 or 23:59:60, where a day of another kind ends, and v is midnight
-pub record LeapTurn (f : Format) (u v : Time) : Type 0 where
-  pub carried : carriesLeap f ≡ true
-  pub late : (u .hundredths ≡ 8639900) ⊎ (u .hundredths ≡ dayLength)
-  pub midnight : v .hundredths ≡ 0
-
-abbrev pub Turn : Format → Time → Time → Type 0
-Turn f u v = YearTurn u v ⊎ LeapTurn f u v
 
 -- one time, or a turn in either order
 abbrev pub Alike : Format → Time → Time → Type 0
@@ -337,8 +304,8 @@ kinds-apart f t y k j a b =
     record { carried = e .0; late = rw (← b) at (e .1); midnight = refl }
 
 -- two times that follow one are the same, day 1 and day 366 at midnight, or the last second or the added one and midnight
-pub successors : (f : Format) (t u v : Time) → Follows f t u → Follows f t v → Alike f u v
-successors f t u v s r = go (lands f t (s .0) (s .1) u a) (lands f t (r .0) (r .1) v b)
+pub two-that-follow : (f : Format) (t u v : Time) → Follows f t u → Follows f t v → (u ≡ v) ⊎ (Turn f u v ⊎ Turn f v u)
+two-that-follow f t u v s r = go (lands f t (s .0) (s .1) u a) (lands f t (r .0) (r .1) v b)
   where
     a : Went f t (s .0) (s .1) (following f t (s .0) (s .1)) u
     a = went f t (s .0) (s .1) u (s .2)

@@ -1,6 +1,6 @@
 -- Two times that follow one are the same, or are written at least seven elements apart, whatever the control words.
 use mathlib.Core.Path.{_≡_, refl, sym, _∙_}
-use mathlib.Core.Bool.{Bool, true, false, cond, not, _&&_}
+use mathlib.Core.Bool.{Bool, true, cond, not, _&&_}
 use mathlib.Core.List.{List, [], _∷_}
 use mathlib.Core.Logic.{_⊎_, inl, inr}
 use Prim.Native.Nat.{ℕ, zero, suc, _<_, _≤_}
@@ -10,10 +10,10 @@ use borrow.Author.Tests.{ltb-true, not-true, eqb-false}
 use lib.Dec.{ltb, eqb}
 use lib.ListN.{length, getD}
 use Rattle.timecode.specs.Formats.{member, table, lookUp, rowOf, known, size, carriesControl, carriesSeconds, dayLength, carriesLeap}
-use Rattle.timecode.specs.Frames.{Follows, written}
+use Rattle.timecode.specs.Frames.{Follows, written, Apart, LeapTurn, Turn, YearTurn}
 use Rattle.timecode.specs.Laws.Marks.{at-written}
 use Rattle.timecode.specs.Laws.Places.{distinct, spared}
-use Rattle.timecode.specs.Laws.Stepping.{time-path, every, one-of, went, YearTurn, LeapTurn, Turn, Alike, successors}
+use Rattle.timecode.specs.Laws.Stepping.{time-path, every, one-of, went, Alike, two-that-follow}
 use Rattle.timecode.specs.Laws.Table.{everyFormat, of-every}
 use Rattle.timecode.specs.Laws.Tests.{and-left, and-right}
 use Rattle.timecode.specs.Layout.{seconds, minutes, hours, days, tenths, hundredths, hasSeconds, straightSeconds, controlRange, control, timeFields, fields, runs, timeNumbers, numbers, spread, isMark, rest, symbolAt}
@@ -41,11 +41,6 @@ differ-at f u a v b (p ∷ ps) d (suc j) h =
     let x = symbolAt (rest f) (runs f) (spread (fields f) (numbers u a)) p in
     let y = symbolAt (rest f) (runs f) (spread (fields f) (numbers v b)) p in
     differ-at f u a v b ps (and-right (ltb p (size f) && not (eqb x y)) (differ f u a v b ps) d) j (omega arith)
-
--- the frames of u and v differ in more than six elements, whatever the control words
-abbrev pub Apart : Format → Time → Time → Type 0
-Apart f u v = (a b : ℕ) (qs : List ℕ) → length qs < 7
-    → ((i : ℕ) → i < size f → member i qs ≡ false → getD (written f u a) i 0 ≡ getD (written f v b) i 0) → ⊥
 
 -- day 1 and day 366 differ in seven elements of the days
 abbrev turnPlaces : List ℕ
@@ -107,8 +102,8 @@ turn-apart : (f : Format) (u v : Time) → known f ≡ true → Turn f u v → A
 turn-apart f u v k (inl t) = year-apart f u v k t
 turn-apart f u v k (inr t) = leap-apart f u v k t
 
-pub apart : (f : Format) (t u v : Time) → Follows f t u → Follows f t v → (u ≡ v) ⊎ Apart f u v
-apart f t u v s r = go (successors f t u v s r)
+pub two-that-follow-are-apart : (f : Format) (t u v : Time) → Follows f t u → Follows f t v → (u ≡ v) ⊎ Apart f u v
+two-that-follow-are-apart f t u v s r = go (two-that-follow f t u v s r)
   where
     known-format : known f ≡ true
     known-format = went f t (s .0) (s .1) u (s .2) .format

@@ -6,23 +6,13 @@ use Prim.Native.Nat.{ℕ, _/_, _%_, _≤_, _<_}
 use native.Mathlib.Omega.{arith}
 use borrow.Author.Tests.{leb-true, ltb-true, eqb-true, le-leb, lt-ltb, eq-eqb}
 use lib.Dec.{leb, eqb}
-use Rattle.timecode.specs.Formats.{table, lookUp, rowOf, known, interval, lastDay, lastHundredth, dayLength, inRange, onFormat, carriesLeap, secondCarried}
+use Rattle.timecode.specs.Formats.{table, lookUp, rowOf, known, interval, lastDay, lastHundredth, dayLength, inRange, onFormat, carriesLeap, secondCarried, OnFormat}
 use Rattle.timecode.specs.Frames.{timeIn}
-use Rattle.timecode.specs.Laws.Digits.{decode}
-use Rattle.timecode.specs.Laws.Runs.{Small}
 use Rattle.timecode.specs.Laws.Table.{by-letter}
 use Rattle.timecode.specs.Laws.Tests.{by-test, and-left, and-right}
-use Rattle.timecode.specs.Layout.{seconds, minutes, hours, days, tenths, hundredths, timeFields, flatten, addedIn, second, minute, hour, timeNumbers, spread}
+use Rattle.timecode.specs.Layout.{seconds, minutes, hours, days, tenths, hundredths, timeFields, flatten, addedIn, second, minute, hour, timeNumbers, spread, Small, decode}
 use Rattle.timecode.specs.declared.Format.{Format}
 use Rattle.timecode.specs.declared.Time.{Time}
-
--- numbers 2 and 14 are passed
-pub record OnFormat (f : Format) (t : Time) : Type 0 where
-  pub first : 1 ≤ t .day
-  pub last : t .day ≤ lastDay
-  pub below : t .hundredths ≤ lastHundredth
-  pub grid : t .hundredths % interval f ≡ 0
-  pub carried : carriesLeap f ≡ false → t .hundredths < dayLength
 
 second-carried : (f : Format) (t : Time) → secondCarried f t ≡ true → carriesLeap f ≡ false → t .hundredths < dayLength
 unfolding secondCarried

@@ -10,16 +10,15 @@ use borrow.Author.Tests.{ltb-true, eqb-true, lt-ltb, le-leb, eq-eqb}
 use lib.Dec.{leb, ltb, eqb}
 use lib.ListN.{length}
 use Rattle.timecode.specs.Formats.{known, size, lastDay, lastHundredth, dayLength, onFormat, carriesLeap, secondCarried}
-use Rattle.timecode.specs.Frames.{totalWidth, controlFits, written, writeOf, writeLeaves, areSymbols, areDigits, lastSecond, isTime, timeIn, secondsAgree, readOf}
+use Rattle.timecode.specs.Frames.{totalWidth, controlFits, written, writeOf, writeLeaves, areSymbols, areDigits, lastSecond, isTime, timeIn, secondsAgree, readOf, Valid}
 use Rattle.timecode.specs.Laws.Checks.{passed, passes, done}
-use Rattle.timecode.specs.Laws.Digits.{decode}
 use Rattle.timecode.specs.Laws.Fields.{Each, fields-apart, fields-together, number-back, AreDigits, digits-are, binary-positive, binary-capacity, binary-small}
-use Rattle.timecode.specs.Laws.Reading.{Valid, elements-pass, straight-binary, control-binary, straight-wide}
-use Rattle.timecode.specs.Laws.Runs.{length-encode, Small, small-length, small-append, decode-encode, encode-clean}
+use Rattle.timecode.specs.Laws.Reading.{elements-pass, straight-binary, control-binary, straight-wide}
+use Rattle.timecode.specs.Laws.Runs.{length-encode, small-length, small-append, decode-encode, encode-clean}
 use Rattle.timecode.specs.Laws.Table.{layout-proper}
 use Rattle.timecode.specs.Laws.Tests.{by-test}
 use Rattle.timecode.specs.Laws.Times.{on-format, is-on-format, is-carried, one-added, time-small}
-use Rattle.timecode.specs.Layout.{Run, seconds, minutes, hours, days, tenths, hundredths, hasSeconds, straightSeconds, control, timeFields, fields, flatten, runs, second, minute, hour, timeNumbers, numbers, digitsOf, spread, inRun, isMark, rest, symbolAt, tabulate, encode, numberIn}
+use Rattle.timecode.specs.Layout.{Run, seconds, minutes, hours, days, tenths, hundredths, hasSeconds, straightSeconds, control, timeFields, fields, flatten, runs, second, minute, hour, timeNumbers, numbers, digitsOf, spread, inRun, isMark, rest, symbolAt, tabulate, encode, numberIn, Small, decode}
 use Rattle.timecode.specs.declared.Format.{Format}
 use Rattle.timecode.specs.declared.Reading.{Reading}
 use Rattle.timecode.specs.declared.Reading.the-variants.{Accepted}
