@@ -1,8 +1,15 @@
 //! Stepping and comparing times.
 
-use crate::formats::{Format, Time, SECOND_ADDED, SECOND_TAKEN, USUAL_DAY};
+use crate::formats::{Format, Time};
 use crate::layout::Layout;
 use crate::refusal::Refusal;
+
+/// Kind of a day with 86,400 seconds.
+pub const USUAL_DAY: u8 = 0;
+/// Kind of a day with a second added at its end, 23:59:60.
+pub const SECOND_ADDED: u8 = 1;
+/// Kind of a day without its last second, 23:59:59.
+pub const SECOND_TAKEN: u8 = 2;
 
 /// A time in range that lies on the format, or refusal 2, and in an added
 /// second only where the format carries it, or refusal 14.

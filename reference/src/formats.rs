@@ -1,28 +1,4 @@
-//! Symbols, formats and times.
-
-/// Symbol of a binary zero or an index marker.
-pub const ZERO: u8 = 0;
-/// Symbol of a binary one.
-pub const ONE: u8 = 1;
-/// Symbol of a position identifier or reference bit.
-pub const MARK: u8 = 2;
-/// Symbol of an element that could not be told.
-pub const SPOILED: u8 = 3;
-
-/// Kind of a day with 86,400 seconds.
-pub const USUAL_DAY: u8 = 0;
-/// Kind of a day with a second added at its end, 23:59:60.
-pub const SECOND_ADDED: u8 = 1;
-/// Kind of a day without its last second, 23:59:59.
-pub const SECOND_TAKEN: u8 = 2;
-
-/// A rate letter (capital ASCII) and a coded expression: 0 = BCD, CF, SBS;
-/// 1 = BCD, CF; 2 = BCD; 3 = BCD, SBS.
-#[derive(Clone, Copy, Debug, PartialEq, Eq, Hash)]
-pub struct Format {
-    pub letter: u8,
-    pub expression: u8,
-}
+//! Times, formats and symbols.
 
 /// A day of year and the hundredths of a second since midnight; the added
 /// second of a day follows its 86,400 usual ones.
@@ -59,3 +35,20 @@ impl Time {
         )
     }
 }
+
+/// A rate letter (capital ASCII) and a coded expression: 0 = BCD, CF, SBS;
+/// 1 = BCD, CF; 2 = BCD; 3 = BCD, SBS.
+#[derive(Clone, Copy, Debug, PartialEq, Eq, Hash)]
+pub struct Format {
+    pub letter: u8,
+    pub expression: u8,
+}
+
+/// Symbol of a binary zero or an index marker.
+pub const ZERO: u8 = 0;
+/// Symbol of a binary one.
+pub const ONE: u8 = 1;
+/// Symbol of a position identifier or reference bit.
+pub const MARK: u8 = 2;
+/// Symbol of an element that could not be told.
+pub const SPOILED: u8 = 3;

@@ -18,8 +18,8 @@ mod stream;
 mod timeread;
 
 pub use block::{Block, Stop};
-pub use clock::{difference, next_after, step, step_back};
-pub use formats::{Format, Time, MARK, ONE, SECOND_ADDED, SECOND_TAKEN, SPOILED, USUAL_DAY, ZERO};
+pub use clock::{difference, next_after, step, step_back, SECOND_ADDED, SECOND_TAKEN, USUAL_DAY};
+pub use formats::{Format, Time, MARK, ONE, SPOILED, ZERO};
 pub use frame::{read, write};
 pub use pulse::{classify, classify_and_feed, classify_list};
 pub use refusal::Refusal;
