@@ -29,19 +29,19 @@ Reaches p bytes q = (q ≡ afterOf p bytes) ⊎ ((k : ℕ) × (k ≤ length byte
 abbrev pub Prints : Progress → List ℕ → Printed → Type 0
 Prints p bytes r = Reaches p bytes (r .progress) × (r .more ≡ not (r .progress .ended))
 
--- what a read's answer leaves: a failure stops the listing, the end of the input leaves the progress, and bytes are printed
-abbrev pub Answered : Progress → ℤ → List ℕ → Printed → Type 0
-Answered p (negsuc k) input r = (r .more ≡ false) × (r .progress ≡ stopped p)
-Answered p (pos zero) input r = (r .more ≡ false) × (r .progress ≡ p)
-Answered p (pos (suc k)) input r = Prints p (take (clamped (pos (suc k)) (length input)) input) r
+-- what a read's result leaves: a failure stops the listing, the end of the input leaves the progress, and bytes are printed
+abbrev pub AfterRead : Progress → ℤ → List ℕ → Printed → Type 0
+AfterRead p (negsuc k) input r = (r .more ≡ false) × (r .progress ≡ stopped p)
+AfterRead p (pos zero) input r = (r .more ≡ false) × (r .progress ≡ p)
+AfterRead p (pos (suc k)) input r = Prints p (take (clamped (pos (suc k)) (length input)) input) r
 
--- what a read leaves, whatever it brings
-abbrev pub Reads : Progress → Printed → Type 0
-Reads p r = ((bytes : List ℕ) × Reaches p bytes (r .progress)) × (r .more ≡ true → r .progress .ended ≡ false)
-
--- and all reads
+-- what all reads leave, whatever they bring
 abbrev pub ReadsAll : Progress → Progress → Type 0
 ReadsAll p q = (bytes : List ℕ) × Reaches p bytes q
+
+-- and what one leaves
+abbrev pub Reads : Progress → Printed → Type 0
+Reads p r = ReadsAll p (r .progress) × (r .more ≡ true → r .progress .ended ≡ false)
 
 -- ---- no bytes, and a failure before any
 
@@ -72,19 +72,19 @@ module _ (p q : Progress) (n : q .ended ≡ false) where
       let whole : take (length zs) zs ≡ zs = take-length zs in
       (zs, inr (length zs, omega arith, e ∙ ap stopped (further xs (take k ys) a ∙ ap (afterOf p) (sym whole))))
 
--- ---- whatever a read answers
+-- ---- whatever a read gives
 
-pub answered-reads : (p : Progress) (got : ℤ) (input : List ℕ) (r : Printed) → Answered p got input r → Reads p r
-answered-reads p (negsuc k) input r (m, e) = (([], reads-failed p (r .progress) e), λ t. absurd (false≢true (sym m ∙ t)))
-answered-reads p (pos zero) input r (m, e) = (([], inl (e ∙ reached-start p [])), λ t. absurd (false≢true (sym m ∙ t)))
-answered-reads p (pos (suc k)) input r (a, m) = ((take (clamped (pos (suc k)) (length input)) input, a), not-true (r .progress .ended) (r .more) m)
+pub after-read : (p : Progress) (got : ℤ) (input : List ℕ) (r : Printed) → AfterRead p got input r → Reads p r
+after-read p (negsuc k) input r (m, e) = (([], reads-failed p (r .progress) e), λ t. absurd (false≢true (sym m ∙ t)))
+after-read p (pos zero) input r (m, e) = (([], inl (e ∙ reached-start p [])), λ t. absurd (false≢true (sym m ∙ t)))
+after-read p (pos (suc k)) input r (a, m) = ((take (clamped (pos (suc k)) (length input)) input, a), not-true (r .progress .ended) (r .more) m)
 
 module _ (p : Progress) (input : List ℕ) (r : Printed) where
-  pub answered-failed : (got : ℤ) → ltZ got (pos 0) ≡ true → (r .more ≡ false) × (r .progress ≡ stopped p) → Answered p got input r
-  answered-failed (pos k) t a = let n : ⊥ = omega (arith, ltb-true k 0 t) in absurd n
-  answered-failed (negsuc k) t a = a
+  pub after-read-failed : (got : ℤ) → ltZ got (pos 0) ≡ true → (r .more ≡ false) × (r .progress ≡ stopped p) → AfterRead p got input r
+  after-read-failed (pos k) t a = let n : ⊥ = omega (arith, ltb-true k 0 t) in absurd n
+  after-read-failed (negsuc k) t a = a
 
-  pub answered-bytes : (got : ℤ) → ltZ got (pos 0) ≡ false → (got ≡ pos 0 → ⊥) → Prints p (take (clamped got (length input)) input) r → Answered p got input r
-  answered-bytes (pos zero) t n a = absurd (n refl)
-  answered-bytes (pos (suc k)) t n a = a
-  answered-bytes (negsuc k) t n a = absurd (false≢true (sym t))
+  pub after-read-bytes : (got : ℤ) → ltZ got (pos 0) ≡ false → (got ≡ pos 0 → ⊥) → Prints p (take (clamped got (length input)) input) r → AfterRead p got input r
+  after-read-bytes (pos zero) t n a = absurd (n refl)
+  after-read-bytes (pos (suc k)) t n a = a
+  after-read-bytes (negsuc k) t n a = absurd (false≢true (sym t))

@@ -5,7 +5,7 @@ ghost use mathlib.Core.Path.{_≡_};
 ghost use mathlib.Core.Bool.{false};
 ghost use lib.ListN.{length};
 ghost use Rattle.progress.specs.Progress.{goingOn};
-ghost use Rattle.printing.specs.Printing.{stopped, Prints, Answered, Reads, ReadsAll};
+ghost use Rattle.printing.specs.Printing.{stopped, Prints, AfterRead, Reads, ReadsAll};
 use listing::begin;
 use listing::finish;
 use listing::list;
@@ -63,9 +63,9 @@ fn print_part(progress: Progress, bytes: &[u8], out: &mut [u8; 65536]) -> Printe
     }
 }
 
-// What one read answered: that it failed, the end of the input, or how many bytes it brought.
-fn print_answered(progress: Progress, got: isize, input: &[u8], out: &mut [u8; 65536]) -> Printed
-    ensures { λ r. ⌜ Answered progress got (now (input .entry)) r ⌝ }
+// Prints by what one read gave: that it failed, the end of the input, or how many bytes it brought.
+fn print_result(progress: Progress, got: isize, input: &[u8], out: &mut [u8; 65536]) -> Printed
+    ensures { λ r. ⌜ AfterRead progress got (now (input .entry)) r ⌝ }
 {
     if got < 0 {
         os::fail(b"input");
@@ -86,7 +86,7 @@ fn print_read(fd: i32, progress: Progress, out: &mut [u8; 65536]) -> Printed
 {
     let mut input = io::large_buffer();
     let got = libc::read(fd, &mut input);
-    print_answered(progress, got, &input, out)
+    print_result(progress, got, &input, out)
 }
 
 // A proved loop has to end, and nothing says that the input does: the reads are counted down from a number that no run uses up.
