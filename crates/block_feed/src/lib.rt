@@ -116,32 +116,3 @@ pub fn feed_block(
     }
     refuse(reader, Refusal::InvalidReader)
 }
-
-fn block_reader(fed: FedBlock) -> Reader
-    ensures { λ r. ⌜ r ≡ fed .reader ⌝ }
-{
-    fed.reader
-}
-
-fn block_answer(fed: FedBlock) -> BlockAnswer
-    ensures { λ r. ⌜ r ≡ fed .answer ⌝ }
-{
-    fed.answer
-}
-
-// Feeds a block to the recorder's own reader, which is changed in place.
-pub fn feed_block_in_place(
-    reader: &mut Reader,
-    symbols: &[u8],
-    indexes: &mut [usize],
-    days: &mut [u16],
-    hundredths: &mut [u32],
-    controls: &mut [u64],
-) -> BlockAnswer
-    ensures { λ r. ⌜ (r ≡ feedBlockOf (now (reader .entry)) (now (symbols .entry)) (lists (now (indexes .entry)) (now (days .entry)) (now (hundredths .entry)) (now (controls .entry))) .answer) × (now (reader .exit) ≡ feedBlockOf (now (reader .entry)) (now (symbols .entry)) (lists (now (indexes .entry)) (now (days .entry)) (now (hundredths .entry)) (now (controls .entry))) .reader) ⌝ }
-    ensures { λ _. ⌜ lists (now (indexes .exit)) (now (days .exit)) (now (hundredths .exit)) (now (controls .exit)) ≡ listsLeft (blockFor (now (reader .entry)) (now (symbols .entry)) (lists (now (indexes .entry)) (now (days .entry)) (now (hundredths .entry)) (now (controls .entry)))) (lists (now (indexes .entry)) (now (days .entry)) (now (hundredths .entry)) (now (controls .entry))) ⌝ }
-{
-    let fed = feed_block(*reader, symbols, indexes, days, hundredths, controls);
-    *reader = block_reader(fed);
-    block_answer(fed)
-}
