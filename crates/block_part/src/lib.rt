@@ -33,7 +33,7 @@ pub struct Round {
 }
 
 // Where the search for reports came to, how many were put in so far, and whether it stopped before one with no room left.
-pub struct Heard {
+struct Heard {
     pub at: usize,
     pub reports: usize,
     pub full: bool,

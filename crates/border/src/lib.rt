@@ -86,7 +86,7 @@ pub fn number_of_written(written: Written) -> u8
 }
 
 // A word that is no byte stands for 255: no letter and no expression.
-pub fn byte_in(word: u64) -> u8
+fn byte_in(word: u64) -> u8
     ensures { λ r. ⌜ r ≡ byteIn word ⌝ }
 {
     if word < 256 {
@@ -186,7 +186,7 @@ pub fn put_fed(
 }
 
 // 0 where all symbols were taken, 1 before a symbol above 3, 2 before a report with no room left.
-pub fn stop_number(stop: Stop) -> u8
+fn stop_number(stop: Stop) -> u8
     ensures { λ r. ⌜ r ≡ stopNumber stop ⌝ }
 {
     match stop {

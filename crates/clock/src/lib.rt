@@ -18,7 +18,7 @@ use timecode::Stepped;
 use timecode::Subtracted;
 use timecode::Time;
 
-pub fn in_range(time: Time) -> bool
+fn in_range(time: Time) -> bool
     ensures { λ r. ⌜ r ≡ inRange time ⌝ }
 {
     if Time::FIRST_DAY <= time.day {

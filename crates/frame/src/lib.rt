@@ -32,7 +32,7 @@ use timecode::Time;
 use timecode::Written;
 
 // What the search for an offending element finds.
-pub enum Offence {
+enum Offence {
     Nothing,
     At(Refusal),
 }
@@ -168,7 +168,7 @@ fn shape_of(format: Format, widths: &[u8]) -> [u8; 100]
     form
 }
 
-// The two agree as far as the frame goes.
+// The two agree as far as the frame goes. It promises nothing of a false answer: see is_written.
 fn agree(form: &[u8], frame: &[u8]) -> bool
     requires { ⌜ length (now frame) ≤ length (now form) ⌝ }
     ensures { λ r. ⌜ (r ≡ true → (k : ℕ) → k < length (now (frame .entry)) → getD (now (frame .entry)) k 0 ≡ getD (now (form .entry)) k 0) ⌝ }
@@ -182,7 +182,8 @@ fn agree(form: &[u8], frame: &[u8]) -> bool
     same
 }
 
-// The frame is the one in which its digits stand.
+// The frame is the one in which its digits stand. It promises nothing of a false answer: the frame is then looked through
+// element by element, with the same reading in the end, only later.
 fn is_written(format: Format, digits: &[u64], frame: &[u8]) -> bool
     requires { ⌜ (known format ≡ true) × (length (now frame) ≡ size format) × (now digits ≡ decode (runs format) (now frame)) ⌝ }
     ensures { λ r. ⌜ (r ≡ true → now (frame .entry) ≡ encode (size format) (rest format) (runs format) (decode (runs format) (now (frame .entry)))) ⌝ }

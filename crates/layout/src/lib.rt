@@ -10,7 +10,7 @@ use timecode::Format;
 
 // A letter's row: n, S, the expressions that it takes (first to last), and how many elements each run has
 // in expression 0, which carries everything (0 where the letter does not carry the run).
-pub struct Row {
+struct Row {
     pub elements: usize,
     pub interval: u32,
     pub first: u8,
