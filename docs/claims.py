@@ -30,9 +30,10 @@ def contents(folder, pattern):
 
 
 def is_defined(crate, module, name):
-    """A definition, theorem or record that other files can name."""
+    """A definition, theorem or record that other files can name, or one that the module passes on."""
     text = contents(CRATES / crate / "specs", module.replace(".", "/") + ".antt")
-    return re.search(rf"^ *(?:abbrev |unfoldable )?pub (?:record |data )?{re.escape(name)}(?=[\s:({{])", text, re.M)
+    passed_on = {each.strip() for names in re.findall(r"^pub use [^{]*\{([^}]*)\}", text, re.M) for each in names.split(",")}
+    return name in passed_on or re.search(rf"^ *(?:abbrev |unfoldable )?pub (?:record |data )?{re.escape(name)}(?=[\s:({{])", text, re.M)
 
 
 def is_function(crate, path):
