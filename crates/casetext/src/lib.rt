@@ -1,11 +1,15 @@
 // A call of the engine as a line of text, `step B 0 365 8639900 365 0`, and its answer as text, `1 0`.
 // A refusal is R and its number, with 5 and 6 also @ and the index of the element.
-ghost use Prim.Native.Nat.{_≤_, _<_};
+ghost use Prim.Native.Nat.{_≤_};
+use arguments::Number;
+use arguments::decimal_in;
+use arguments::hexadecimal_in;
 use clock::difference;
 use clock::step;
 use clock::step_back;
 use frame::read;
 use frame::write;
+use frametext::character_of;
 use pulse::classify;
 use refusals::number_of;
 use scan::scan;
@@ -72,16 +76,11 @@ fn put_signed(text: &mut [u8; 4096], at: usize, number: i64) -> usize {
 }
 
 fn put_symbol(text: &mut [u8; 4096], at: usize, symbol: u8) -> usize {
-    match symbol {
-        0 => put(text, at, b'0'),
-        1 => put(text, at, b'1'),
-        2 => put(text, at, b'P'),
-        3 => put(text, at, b'-'),
-        _ => {
-            let at = put(text, at, b'?');
-            put_hexadecimal(text, at, symbol as u64, 2)
-        }
+    if symbol <= 3 {
+        return put(text, at, character_of(symbol));
     }
+    let at = put(text, at, b'?');
+    put_hexadecimal(text, at, symbol as u64, 2)
 }
 
 fn put_frame(text: &mut [u8; 4096], frame: &[u8; 512], size: usize) -> usize {
@@ -152,38 +151,39 @@ fn is_named(line: &[u8], name: &[u8]) -> bool {
     byte_at(line, i) == b' '
 }
 
-// A hexadecimal digit's value; 0 for any other byte.
-fn digit(byte: u8) -> u64
-    ensures { λ r. ⌜ r < 16 ⌝ }
-{
-    match byte {
-        b'0'..=b'9' => (byte - 48) as u64,
-        b'a'..=b'f' => (byte - 87) as u64,
-        _ => 0,
-    }
-}
-
-// A number with one more digit, in base 16 or 10; its upper bits make room.
-fn longer(number: u64, base: u64, character: u8) -> u64 {
-    let kept = number % 1_152_921_504_606_846_976;
-    if base == 16 {
-        return kept * 16 + digit(character);
-    }
-    kept * 10 + digit(character)
-}
-
-// The number that a word is in that base.
-fn number(line: &[u8], word: usize, base: u64) -> u64 {
-    let mut n = 0;
-    let mut i = start_of(line, word);
+// Where the word that begins there ends.
+fn end_of(line: &[u8], start: usize) -> usize {
+    let mut i = start;
     while i < line.len() {
         if line[i] == b' ' {
-            return n;
+            return i;
         }
-        n = longer(n, base, line[i]);
         i += 1;
     }
-    n
+    i
+}
+
+// 0 for what is no number.
+fn value_of(number: Number) -> u64 {
+    match number {
+        Number::Value(value) => value,
+        Number::Malformed => 0,
+    }
+}
+
+// The number that a word is in base 10 or 16; 0 where there is no such word.
+fn number(line: &[u8], word: usize, base: u64) -> u64 {
+    let start = start_of(line, word);
+    let end = end_of(line, start);
+    if start <= end {
+        if end <= line.len() {
+            if base == 16 {
+                return value_of(hexadecimal_in(&line[start..end]));
+            }
+            return value_of(decimal_in(&line[start..end]));
+        }
+    }
+    0
 }
 
 fn decimal(line: &[u8], word: usize) -> u64 {
@@ -223,10 +223,6 @@ fn symbol(character: u8) -> u8 {
     }
 }
 
-fn byte_of(high: u8, low: u8) -> u8 {
-    (digit(high) * 16 + digit(low)) as u8
-}
-
 fn put_element(frame: &mut [u8; 512], at: usize, element: u8) -> usize {
     if at < 512 {
         frame[at] = element;
@@ -248,7 +244,8 @@ fn elements_in(line: &[u8], word: usize, frame: &mut [u8; 512]) -> usize {
             if line.len() - i < 3 {
                 return n;
             }
-            n = put_element(frame, n, byte_of(line[i + 1], line[i + 2]));
+            let byte = value_of(hexadecimal_in(&line[i + 1..i + 3]));
+            n = put_element(frame, n, (byte % 256) as u8);
             i += 3;
         } else {
             n = put_element(frame, n, symbol(line[i]));

@@ -25,7 +25,7 @@ pub enum Lined {
 }
 
 // No other symbols than 0 to 3 are written.
-fn character_of(symbol: u8) -> u8
+pub fn character_of(symbol: u8) -> u8
     ensures { λ r. ⌜ r ≡ characterOf symbol ⌝ }
 {
     if symbol == ZERO {

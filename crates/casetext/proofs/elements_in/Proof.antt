@@ -35,20 +35,29 @@ sub-if4 c = search needs
 returns-2 : tie.Need-returns-2 Inv-loop μ-loop
 returns-2 c = search needs
 
-add-byte-of : tie.Need-add-byte-of Inv-loop μ-loop
-add-byte-of c = search needs
+add-hexadecimal-in : tie.Need-add-hexadecimal-in Inv-loop μ-loop
+add-hexadecimal-in c = search needs
 
-shared-slice-read-byte-of : tie.Need-shared-slice-read-byte-of Inv-loop μ-loop
-shared-slice-read-byte-of c = search needs
+add-hexadecimal-in-2 : tie.Need-add-hexadecimal-in-2 Inv-loop μ-loop
+add-hexadecimal-in-2 c = search needs
 
-add-byte-of-2 : tie.Need-add-byte-of-2 Inv-loop μ-loop
-add-byte-of-2 c = search needs
+sub-hexadecimal-in : tie.Need-sub-hexadecimal-in Inv-loop μ-loop
+sub-hexadecimal-in c = search needs
 
-shared-slice-read-byte-of-2 : tie.Need-shared-slice-read-byte-of-2 Inv-loop μ-loop
-shared-slice-read-byte-of-2 c = search needs
+part-hexadecimal-in-start : tie.Need-part-hexadecimal-in-start Inv-loop μ-loop
+part-hexadecimal-in-start c = search needs
 
-byte-of-requires : tie.Need-byte-of-requires Inv-loop μ-loop
-byte-of-requires c κs = search needs
+part-hexadecimal-in-end : tie.Need-part-hexadecimal-in-end Inv-loop μ-loop
+part-hexadecimal-in-end c = search needs
+
+hexadecimal-in-requires : tie.Need-hexadecimal-in-requires Inv-loop μ-loop
+hexadecimal-in-requires c κs = search needs
+
+value-of-requires : tie.Need-value-of-requires Inv-loop μ-loop
+value-of-requires c κs = search needs
+
+cast-put-element : tie.Need-cast-put-element Inv-loop μ-loop
+cast-put-element c = search needs
 
 put-element-requires : tie.Need-put-element-requires Inv-loop μ-loop
 put-element-requires c κs = search needs
@@ -97,11 +106,14 @@ elements-in-spec =
     shared-slice-read-if3
     sub-if4
     returns-2
-    add-byte-of
-    shared-slice-read-byte-of
-    add-byte-of-2
-    shared-slice-read-byte-of-2
-    byte-of-requires
+    add-hexadecimal-in
+    add-hexadecimal-in-2
+    sub-hexadecimal-in
+    part-hexadecimal-in-start
+    part-hexadecimal-in-end
+    hexadecimal-in-requires
+    value-of-requires
+    cast-put-element
     put-element-requires
     add-i
     loop-less

@@ -1,18 +1,15 @@
--- `number` is safe and ends.
+-- `end_of` is safe and ends.
 use borrow.Author.Needs.{needs}
 use lib.ListN.{length}
 use Prim.Native.Nat.{_-_}
-use Rattle.casetext.proofs.number.Statement.{statement}
-use Rattle.casetext.proofs.number.Tie as tie
+use Rattle.casetext.proofs.end_of.Statement.{statement}
+use Rattle.casetext.proofs.end_of.Tie as tie
 
 abbrev Inv-loop : tie.InvT-loop
-Inv-loop line word base n₀ i₀ n i = Unit {0}
+Inv-loop line start i₀ i = Unit {0}
 
 abbrev μ-loop : tie.MeasureT-loop
-μ-loop line word base n₀ i₀ n i = length line - i
-
-start-of-requires : tie.Need-start-of-requires Inv-loop μ-loop
-start-of-requires c κs = search needs
+μ-loop line start i₀ i = length line - i
 
 loop-holds : tie.Need-loop-holds Inv-loop μ-loop
 loop-holds c = search needs
@@ -22,12 +19,6 @@ shared-slice-read-if1 c = search needs
 
 returns : tie.Need-returns Inv-loop μ-loop
 returns c = search needs
-
-shared-slice-read-longer : tie.Need-shared-slice-read-longer Inv-loop μ-loop
-shared-slice-read-longer c = search needs
-
-longer-requires : tie.Need-longer-requires Inv-loop μ-loop
-longer-requires c κs = search needs
 
 add-i : tie.Need-add-i Inv-loop μ-loop
 add-i c = search needs
@@ -41,18 +32,15 @@ loop-again c = search needs
 returns-2 : tie.Need-returns-2 Inv-loop μ-loop
 returns-2 c = search needs
 
-pub number-spec : {M : Type 1} → statement M
-number-spec =
+pub end-of-spec : {M : Type 1} → statement M
+end-of-spec =
     tie.close
     (tie.spec
     Inv-loop
     μ-loop
-    start-of-requires
     loop-holds
     shared-slice-read-if1
     returns
-    shared-slice-read-longer
-    longer-requires
     add-i
     loop-less
     loop-again
