@@ -13,13 +13,14 @@ use Rattle.timecode.specs.Answers.{check}
 use Rattle.timecode.specs.Formats.{carriesLeap}
 use Rattle.timecode.specs.Frames.{areDigits, lastSecond, isTime, timeIn, secondsAgree}
 use Rattle.timecode.specs.Laws.Tests.{by-test, and-left, and-right}
-use Rattle.timecode.specs.Layout.{seconds, minutes, hours, days, tenths, hundredths, hasSeconds, straightSeconds, controlRange, control, timeFields, fields, flatten, runs, digitIn, numberIn, decode}
+use Rattle.timecode.specs.Layout.{seconds, minutes, hours, days, tenths, hundredths, hasSeconds, straightSeconds, control, timeFields, flatten, digitIn, numberIn, decode}
 use Rattle.timecode.specs.declared.Format.{Format}
 use Rattle.timecode.specs.declared.Reading.{Reading}
 use Rattle.timecode.specs.declared.Reading.the-variants.{Accepted}
 use Rattle.timecode.specs.declared.Refusal.the-variants.{InvalidDigit, SecondsDiffer}
 use Rattle.timecode.specs.declared.Time.{Time}
 use Rattle.layout.specs.Tables.{widthsOf}
+use Rattle.layout.specs.Runs.{codeRange, codeControl, codeFields, codeRuns, code-number}
 use Rattle.digits.specs.Splitting.{straight-width}
 
 -- the number of the two digits from j on
@@ -54,50 +55,53 @@ meaningOf f ds = check Reading.Refused InvalidDigit (isTimeOf f ds) (check Readi
 
 module _ (f : Format) (frame : List ℕ) where
   abbrev ds : List ℕ
-  ds = decode (runs f) frame
+  ds = decode (codeRuns f) frame
 
   second-is : two ds 0 ≡ numberIn frame (seconds f)
-  unfolding runs fields timeFields seconds minutes hours days tenths hundredths straightSeconds control
+  unfolding codeRuns codeFields timeFields seconds minutes hours days tenths hundredths straightSeconds codeControl
   second-is = omega arith
 
   minute-is : two ds 2 ≡ numberIn frame (minutes f)
-  unfolding runs fields timeFields seconds minutes hours days tenths hundredths straightSeconds control
+  unfolding codeRuns codeFields timeFields seconds minutes hours days tenths hundredths straightSeconds codeControl
   minute-is = omega arith
 
   hour-is : two ds 4 ≡ numberIn frame (hours f)
-  unfolding runs fields timeFields seconds minutes hours days tenths hundredths straightSeconds control
+  unfolding codeRuns codeFields timeFields seconds minutes hours days tenths hundredths straightSeconds codeControl
   hour-is = omega arith
 
   day-is : dayOf ds ≡ numberIn frame (days f)
-  unfolding runs fields timeFields seconds minutes hours days tenths hundredths straightSeconds control
+  unfolding codeRuns codeFields timeFields seconds minutes hours days tenths hundredths straightSeconds codeControl
   day-is = omega arith
 
   tenth-is : getD ds 9 0 ≡ numberIn frame (tenths f)
-  unfolding runs fields timeFields seconds minutes hours days tenths hundredths straightSeconds control
+  unfolding codeRuns codeFields timeFields seconds minutes hours days tenths hundredths straightSeconds codeControl
   tenth-is = omega arith
 
   hundredth-is : getD ds 10 0 ≡ numberIn frame (hundredths f)
-  unfolding runs fields timeFields seconds minutes hours days tenths hundredths straightSeconds control
+  unfolding codeRuns codeFields timeFields seconds minutes hours days tenths hundredths straightSeconds codeControl
   hundredth-is = omega arith
 
   digits-are : digitsFrom 11 0 ds ≡ areDigits frame (flatten (timeFields f))
-  unfolding digitsFrom runs fields timeFields seconds minutes hours days tenths hundredths straightSeconds control
+  unfolding digitsFrom codeRuns codeFields timeFields seconds minutes hours days tenths hundredths straightSeconds codeControl
   digits-are = refl
 
-  control-is : controlOf f ds ≡ numberIn frame (control f)
-  unfolding controlOf widthsOf runs fields timeFields seconds minutes hours days tenths hundredths straightSeconds control controlRange
-  control-is =
+  control-code : controlOf f ds ≡ numberIn frame (codeControl f)
+  unfolding controlOf widthsOf codeRuns codeFields timeFields seconds minutes hours days tenths hundredths straightSeconds codeControl codeRange
+  control-code =
       ap
       (λ (n : ℕ).
-      digitIn frame (controlRange f 50)
-      + controlRange f 50 .radix * (digitIn frame (controlRange f 60) + controlRange f 60 .radix * (digitIn frame (controlRange f 70) + controlRange f 70 .radix * (digitIn frame (controlRange f 80) + controlRange f 80 .radix * n))))
-      (last (digitIn frame (controlRange f 90)) (controlRange f 90 .radix))
+      digitIn frame (codeRange f 50)
+      + codeRange f 50 .radix * (digitIn frame (codeRange f 60) + codeRange f 60 .radix * (digitIn frame (codeRange f 70) + codeRange f 70 .radix * (digitIn frame (codeRange f 80) + codeRange f 80 .radix * n))))
+      (last (digitIn frame (codeRange f 90)) (codeRange f 90 .radix))
     where
       last : (x r : ℕ) → x ≡ x + r * 0
       last x r = omega arith
 
+  control-is : controlOf f ds ≡ numberIn frame (control f)
+  control-is = control-code ∙ code-number f frame
+
   straight-is : hasSeconds f ≡ true → getD ds 11 0 + 512 * getD ds 12 0 ≡ numberIn frame (straightSeconds f)
-  unfolding runs fields timeFields seconds minutes hours days tenths hundredths straightSeconds control
+  unfolding codeRuns codeFields timeFields seconds minutes hours days tenths hundredths straightSeconds codeControl
   straight-is y = rw y (omega arith)
 
   time-is : timeOf ds ≡ timeIn f frame

@@ -12,13 +12,13 @@ use lib.Pow.{pow-pos, pow-mono, shl-exact, shr-lt}
 use Rattle.timecode.specs.Formats.{table, lookUp, rowOf, known, carriesControl, OnFormat}
 use Rattle.timecode.specs.Frames.{totalWidth, Valid}
 use Rattle.timecode.specs.Laws.Fields.{Binary}
-use Rattle.timecode.specs.Laws.Reading.{control-binary}
 use Rattle.timecode.specs.Laws.Table.{everyFormat, of-every}
 use Rattle.timecode.specs.Laws.Tests.{by-test, and-left, and-right}
-use Rattle.timecode.specs.Layout.{Run, Field, seconds, minutes, hours, days, tenths, hundredths, hasSeconds, straightSeconds, controlRange, control, timeFields, fields, runs, second, minute, hour, timeNumbers, numbers, digitsOf, spread}
+use Rattle.timecode.specs.Layout.{Run, Field, seconds, minutes, hours, days, tenths, hundredths, hasSeconds, straightSeconds, control, timeFields, second, minute, hour, timeNumbers, numbers, digitsOf, spread}
 use Rattle.timecode.specs.declared.Format.{Format}
 use Rattle.timecode.specs.declared.Time.{Time}
 use Rattle.layout.specs.Tables.{widthsOf}
+use Rattle.layout.specs.Runs.{codeRange, codeControl, codeFields, codeRuns, code-binary, code-width}
 
 -- a list of the widths of runs, and one of the digits that stand at them
 pub record Widths (ws : List ℕ) : Type 0 where
@@ -50,7 +50,7 @@ time-part f t o =
 -- ---- straight binary seconds, where they are carried
 
 pub straight-width : (f : Format) → getD (widthsOf f) 11 0 ≡ cond (hasSeconds f) 9 0
-unfolding widthsOf runs fields timeFields seconds minutes hours days tenths hundredths straightSeconds control
+unfolding widthsOf codeRuns codeFields timeFields seconds minutes hours days tenths hundredths straightSeconds codeControl
 straight-width f = refl
 
 straight-part : (f : Format) (x straight : ℕ) → x < 131072 → straight ≡ cond (eqb (getD (widthsOf f) 11 0) 0) 0 x → straight % 512 ∷ straight / 512 ∷ [] ≡ digitsOf (straightSeconds f) x
@@ -126,14 +126,14 @@ moved-nines r rs b h w word l e =
     (ap₂ (λ (x : ℕ) (xs : List ℕ). x ∷ xs) (mul-mod-left w 512 ∙ sym (mod-one w))
     (ap (ninesOf (length rs)) (mul-div-cancel w (omega arith) ∙ sym (div-one w)) ∙ sym (nines rs (b .1) (and-right (eqb (r .width) 0) (carriedFirst rs) both) (w / 1) (rw (div-one w, ← all) l)))))
 
-all-in-row : everyFormat (λ f. inRow (control f)) ≡ true
-unfolding everyFormat table control controlRange carriesControl rowOf lookUp
+all-in-row : everyFormat (λ f. inRow (codeControl f)) ≡ true
+unfolding everyFormat table codeControl codeRange carriesControl rowOf lookUp
 all-in-row = refl
 
 control-part : (f : Format) → known f ≡ true → (w word : ℕ) → w < 2 ^ totalWidth (control f) → word ≡ w * 2 ^ (9 - getD (widthsOf f) 13 0)
-    → word % 512 ∷ word / 512 % 512 ∷ word / 512 / 512 % 512 ∷ word / 512 / 512 / 512 % 512 ∷ word / 512 / 512 / 512 / 512 % 512 ∷ [] ≡ digitsOf (control f) w
-unfolding widthsOf runs fields timeFields seconds minutes hours days tenths hundredths straightSeconds control
-control-part f k w word l e = moved-nines (controlRange f 50) (drop 1 (control f)) (control-binary f) (of-every (λ f. inRow (control f)) all-in-row f k) w word l e
+    → word % 512 ∷ word / 512 % 512 ∷ word / 512 / 512 % 512 ∷ word / 512 / 512 / 512 % 512 ∷ word / 512 / 512 / 512 / 512 % 512 ∷ [] ≡ digitsOf (codeControl f) w
+unfolding widthsOf codeRuns codeFields timeFields seconds minutes hours days tenths hundredths straightSeconds codeControl
+control-part f k w word l e = moved-nines (codeRange f 50) (drop 1 (codeControl f)) (code-binary f) (of-every (λ f. inRow (codeControl f)) all-in-row f k) w word (rw (code-width f) l) e
 
 -- ---- all digits
 
@@ -146,14 +146,17 @@ splitDigits t straight word =
     ∷ word % 512 ∷ word / 512 % 512 ∷ word / 512 / 512 % 512 ∷ word / 512 / 512 / 512 % 512 ∷ word / 512 / 512 / 512 / 512 % 512 ∷ []
 
 pub split-digits : (f : Format) (t : Time) (w straight word : ℕ) → Valid f t w → straight ≡ cond (eqb (getD (widthsOf f) 11 0) 0) 0 (t .hundredths / 100) → word ≡ w * 2 ^ (9 - getD (widthsOf f) 13 0)
-    → splitDigits t straight word ≡ spread (fields f) (numbers t w)
-unfolding splitDigits fields timeFields numbers timeNumbers seconds minutes hours days tenths hundredths control
+    → splitDigits t straight word ≡ spread (codeFields f) (numbers t w)
+unfolding splitDigits codeFields timeFields numbers timeNumbers seconds minutes hours days tenths hundredths codeControl
 split-digits f t w straight word v p q =
     λ i. time-part f t (v .time) i ++ (straight-part f (t .hundredths / 100) straight (omega (arith, v .time .below)) p i ++ control-part f (v .format) w word (v .room) q i)
 
+code-total : (f : Format) → totalWidth (codeControl f) ≡ getD (widthsOf f) 13 0 + getD (widthsOf f) 14 0 + getD (widthsOf f) 15 0 + getD (widthsOf f) 16 0 + getD (widthsOf f) 17 0
+unfolding widthsOf codeRuns codeFields timeFields seconds minutes hours days tenths hundredths straightSeconds codeControl
+code-total f = omega arith
+
 pub total-control : (f : Format) → totalWidth (control f) ≡ getD (widthsOf f) 13 0 + getD (widthsOf f) 14 0 + getD (widthsOf f) 15 0 + getD (widthsOf f) 16 0 + getD (widthsOf f) 17 0
-unfolding widthsOf runs fields timeFields seconds minutes hours days tenths hundredths straightSeconds control
-total-control f = omega arith
+total-control f = sym (code-width f) ∙ code-total f
 
 -- the control word moved loses no bit
 pub moved-fits : (f : Format) (w width : ℕ) → Widths (widthsOf f) → w < 2 ^ totalWidth (control f) → width ≤ 9 → w * 2 ^ (9 - width) % 18446744073709551616 ≡ w * 2 ^ (9 - width)

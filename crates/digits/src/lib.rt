@@ -6,8 +6,9 @@ ghost use Prim.Native.Nat.{_+_, _*_, _^_, _≤_, _<_};
 ghost use lib.Dec.{eqb};
 ghost use lib.ListN.{getD, length};
 ghost use Rattle.timecode.specs.Frames.{controlFits, lastSecond, Valid};
-ghost use Rattle.timecode.specs.Layout.{fields, numbers, spread};
+ghost use Rattle.timecode.specs.Layout.{numbers, spread};
 ghost use Rattle.layout.specs.Tables.{widthsOf};
+ghost use Rattle.layout.specs.Runs.{codeFields};
 ghost use Rattle.digits.specs.Saying.{two, dayOf, digitsFrom, isTimeOf, timeOf, agreeOf, controlOf, meaningOf, Bounds};
 ghost use Rattle.digits.specs.Splitting.{Widths, Digits};
 use layout::CONTROL_1;
@@ -69,7 +70,7 @@ fn carried(widths: &[u8], j: usize, x: u64) -> u64
 // ranges behind the last that is carried.
 pub fn digits_of(format: Format, widths: &[u8], time: Time, control: u64) -> [u64; 18]
     requires { ⌜ Widths (now widths) × (now widths ≡ widthsOf format) × Valid format time control ⌝ }
-    ensures { λ r. ⌜ r ≡ spread (fields format) (numbers time control) ⌝ }
+    ensures { λ r. ⌜ r ≡ spread (codeFields format) (numbers time control) ⌝ }
 {
     let day = time.day as u64;
     let c = time.hundredths as u64;

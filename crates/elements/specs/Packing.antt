@@ -14,11 +14,12 @@ use Rattle.timecode.specs.Formats.{table, lookUp, rowOf, known, size, carriesCo
 use Rattle.timecode.specs.Frames.{held}
 use Rattle.timecode.specs.Laws.Bits.{value-of-bits}
 use Rattle.timecode.specs.Laws.Runs.{in-run, proper, held-once, later-proper, held-inside, symbol-free, place-in, length-tabulate, getD-tabulate, tabulate-same}
-use Rattle.timecode.specs.Laws.Table.{everyFormat, of-every, layout-proper}
+use Rattle.timecode.specs.Laws.Table.{everyFormat, of-every}
 use Rattle.timecode.specs.Laws.Tests.{by-test, clash, and-left, and-right}
-use Rattle.timecode.specs.Layout.{Run, seconds, minutes, hours, days, tenths, hundredths, hasSeconds, straightSeconds, controlRange, control, timeFields, fields, runs, inRun, bitOf, placeOf, isMark, rest, symbolAt, tabulate, encode, value, Small}
+use Rattle.timecode.specs.Layout.{Run, seconds, minutes, hours, days, tenths, hundredths, hasSeconds, straightSeconds, timeFields, inRun, bitOf, placeOf, isMark, rest, symbolAt, tabulate, encode, value, Small}
 use Rattle.timecode.specs.declared.Format.{Format}
 use Rattle.layout.specs.Tables.{startsOf}
+use Rattle.layout.specs.Runs.{codeRange, codeControl, codeFields, codeRuns, code-proper}
 use Rattle.elements.specs.Turns.{Narrow, runs-narrow}
 
 -- what rests where a mark counts as 0
@@ -178,19 +179,19 @@ symbol-rests rests others (r ∷ rs) [] i h = h
 symbol-rests rests others (r ∷ rs) (x ∷ xs) i h = ap (cond (inRun r i) (x / 2 ^ bitOf r i % 2)) (symbol-rests rests others rs xs i h)
 
 -- a mark is in no run
-mark-free : (f : Format) → known f ≡ true → (i : ℕ) → isMark i ≡ true → held (runs f) i ≡ false
+mark-free : (f : Format) → known f ≡ true → (i : ℕ) → isMark i ≡ true → held (codeRuns f) i ≡ false
 unfolding rest
-mark-free f k i y = by-test (held (runs f) i) (λ h. clash {b = true} refl (rw y at (held-inside (size f) (rest f) (runs f) (layout-proper f k) i h .1))) (λ m. m)
+mark-free f k i y = by-test (held (codeRuns f) i) (λ h. clash {b = true} refl (rw y at (held-inside (size f) (rest f) (codeRuns f) (code-proper f k) i h .1))) (λ m. m)
 
-symbol-marks : (f : Format) → known f ≡ true → (xs : List ℕ) (i : ℕ) → symbolAt (rest f) (runs f) xs i ≡ cond (isMark i) 2 (symbolAt zeros (runs f) xs i)
+symbol-marks : (f : Format) → known f ≡ true → (xs : List ℕ) (i : ℕ) → symbolAt (rest f) (codeRuns f) xs i ≡ cond (isMark i) 2 (symbolAt zeros (codeRuns f) xs i)
 unfolding rest
 symbol-marks f k xs i =
     by-test (isMark i)
-    (λ y. symbol-free (size f) (rest f) (runs f) xs i (mark-free f k i y) ∙ rw y)
-    (λ m. rw m (symbol-rests (rest f) zeros (runs f) xs i (rw m)))
+    (λ y. symbol-free (size f) (rest f) (codeRuns f) xs i (mark-free f k i y) ∙ rw y)
+    (λ m. rw m (symbol-rests (rest f) zeros (codeRuns f) xs i (rw m)))
 
-parts-apart : everyFormat (λ f. allApart 0 60 (runs f) && allApart 60 100 (runs f)) ≡ true
-unfolding everyFormat table runs fields timeFields seconds minutes hours days tenths hundredths straightSeconds hasSeconds carriesSeconds control controlRange carriesControl rowOf lookUp
+parts-apart : everyFormat (λ f. allApart 0 60 (codeRuns f) && allApart 60 100 (codeRuns f)) ≡ true
+unfolding everyFormat table codeRuns codeFields timeFields seconds minutes hours days tenths hundredths straightSeconds hasSeconds carriesSeconds codeControl codeRange carriesControl rowOf lookUp
 parts-apart = refl
 
 module _ (f : Format) (k : known f ≡ true) (xs : List ℕ) where
@@ -199,23 +200,23 @@ module _ (f : Format) (k : known f ≡ true) (xs : List ℕ) where
   put = elementAt (packed 0 60 (startsOf f) xs) (packed 60 100 (startsOf f) xs)
 
   -- where the digits fit their runs, these are the symbols in which they stand
-  put-right : Small (runs f) xs → (n : ℕ) → n ≤ 100 → tabulate n 0 put ≡ encode n (rest f) (runs f) xs
+  put-right : Small (codeRuns f) xs → (n : ℕ) → n ≤ 100 → tabulate n 0 put ≡ encode n (rest f) (codeRuns f) xs
   unfolding elementAt encode startsOf
   put-right s n l =
-      let both = of-every (λ f. allApart 0 60 (runs f) && allApart 60 100 (runs f)) parts-apart f k in
-      let first = and-left (allApart 0 60 (runs f)) (allApart 60 100 (runs f)) both in
-      let last = and-right (allApart 0 60 (runs f)) (allApart 60 100 (runs f)) both in
-      tabulate-same n put (symbolAt (rest f) (runs f) xs)
+      let both = of-every (λ f. allApart 0 60 (codeRuns f) && allApart 60 100 (codeRuns f)) parts-apart f k in
+      let first = and-left (allApart 0 60 (codeRuns f)) (allApart 60 100 (codeRuns f)) both in
+      let last = and-right (allApart 0 60 (codeRuns f)) (allApart 60 100 (codeRuns f)) both in
+      tabulate-same n put (symbolAt (rest f) (codeRuns f) xs)
       (λ i h.
       ap (cond (isMark i) 2)
       (by-test (ltb i 60)
       (λ y.
       let below = ltb-true i 60 y in
-      rw y (packed-bit (size f) (rest f) 0 60 (runs f) xs (layout-proper f k) (runs-narrow f k) s first i (omega arith) ∙ ap (symbolAt zeros (runs f) xs) (zero-add i)))
+      rw y (packed-bit (size f) (rest f) 0 60 (codeRuns f) xs (code-proper f k) (runs-narrow f k) s first i (omega arith) ∙ ap (symbolAt zeros (codeRuns f) xs) (zero-add i)))
       (λ y.
       let from = ltb-false i 60 y in
       let at : 60 + (i - 60) ≡ i = omega arith in
-      rw y (packed-bit (size f) (rest f) 60 100 (runs f) xs (layout-proper f k) (runs-narrow f k) s last (i - 60) (omega arith) ∙ ap (symbolAt zeros (runs f) xs) at)))
+      rw y (packed-bit (size f) (rest f) 60 100 (codeRuns f) xs (code-proper f k) (runs-narrow f k) s last (i - 60) (omega arith) ∙ ap (symbolAt zeros (codeRuns f) xs) at)))
       ∙ sym (symbol-marks f k xs i))
 
   put-binary : (i : ℕ) → isMark i ≡ false → put i < 2
@@ -223,6 +224,6 @@ module _ (f : Format) (k : known f ≡ true) (xs : List ℕ) where
   put-binary i m = rw m (by-test (ltb i 60) (λ y. rw y (omega arith)) (λ y. rw y (omega arith)))
 
   pub digits-put : (n : ℕ) (frame : List ℕ) → n ≤ 100 → frame ≡ tabulate n 0 put
-      → (Small (runs f) xs → frame ≡ encode n (rest f) (runs f) xs) × ((i : ℕ) → i < n → isMark i ≡ false → getD frame i 0 < 2) × (length frame ≡ n)
+      → (Small (codeRuns f) xs → frame ≡ encode n (rest f) (codeRuns f) xs) × ((i : ℕ) → i < n → isMark i ≡ false → getD frame i 0 < 2) × (length frame ≡ n)
   digits-put n frame l e =
       (λ s. e ∙ put-right s n l, λ i h m. rw (e, getD-tabulate n 0 put 0 i h, zero-add i) (put-binary i m), ap length e ∙ length-tabulate n 0 put)

@@ -10,37 +10,38 @@ use lib.ListN.{getD, length, List·getD-map}
 use lib.Pow.{pow-mono}
 use Rattle.timecode.specs.Formats.{table, lookUp, rowOf, known, size, carriesControl, carriesSeconds}
 use Rattle.timecode.specs.Laws.Runs.{place-in, held-inside, held-at}
-use Rattle.timecode.specs.Laws.Table.{everyFormat, of-every, layout-proper}
+use Rattle.timecode.specs.Laws.Table.{everyFormat, of-every}
 use Rattle.timecode.specs.Laws.Tests.{and-left, and-right}
-use Rattle.timecode.specs.Layout.{Run, seconds, minutes, hours, days, tenths, hundredths, hasSeconds, straightSeconds, controlRange, control, timeFields, fields, runs, rest, tabulate, value, Small, decode}
+use Rattle.timecode.specs.Layout.{Run, seconds, minutes, hours, days, tenths, hundredths, hasSeconds, straightSeconds, timeFields, rest, tabulate, value, Small, decode}
 use Rattle.timecode.specs.declared.Format.{Format}
 use Rattle.layout.specs.Tables.{startsOf, widthsOf}
+use Rattle.layout.specs.Runs.{codeRange, codeControl, codeFields, codeRuns, code-proper}
 
 abbrev noRun : Run
 noRun = record { start = 0; width = 0; radix = 1 }
 
 abbrev runAt : Format → ℕ → Run
-runAt f j = getD (runs f) j noRun
+runAt f j = getD (codeRuns f) j noRun
 
-pub length-runs : (f : Format) → length (runs f) ≡ 18
-unfolding runs fields timeFields seconds minutes hours days tenths hundredths straightSeconds control
+pub length-runs : (f : Format) → length (codeRuns f) ≡ 18
+unfolding codeRuns codeFields timeFields seconds minutes hours days tenths hundredths straightSeconds codeControl
 length-runs f = refl
 
 pub length-widths : (f : Format) → length (widthsOf f) ≡ 18
-unfolding widthsOf runs fields timeFields seconds minutes hours days tenths hundredths straightSeconds control
+unfolding widthsOf codeRuns codeFields timeFields seconds minutes hours days tenths hundredths straightSeconds codeControl
 length-widths f = refl
 
 pub length-starts : (f : Format) → length (startsOf f) ≡ 18
-unfolding startsOf runs fields timeFields seconds minutes hours days tenths hundredths straightSeconds control
+unfolding startsOf codeRuns codeFields timeFields seconds minutes hours days tenths hundredths straightSeconds codeControl
 length-starts f = refl
 
 start-at : (f : Format) (j : ℕ) → getD (startsOf f) j 0 ≡ runAt f j .start
 unfolding startsOf
-start-at f j = List·getD-map (λ (r : Run). r .start) (runs f) j noRun
+start-at f j = List·getD-map (λ (r : Run). r .start) (codeRuns f) j noRun
 
 width-at : (f : Format) (j : ℕ) → getD (widthsOf f) j 0 ≡ runAt f j .width
 unfolding widthsOf
-width-at f j = List·getD-map (λ (r : Run). r .width) (runs f) j noRun
+width-at f j = List·getD-map (λ (r : Run). r .width) (codeRuns f) j noRun
 
 -- ---- each run lies in the frame, and is at most 9 wide
 
@@ -54,7 +55,7 @@ small-at (w ∷ ws) h zero = leb-true w 9 (and-left (leb w 9) (allSmall ws) h)
 small-at (w ∷ ws) h (suc j) = small-at ws (and-right (leb w 9) (allSmall ws) h) j
 
 widths-small : everyFormat (λ f. allSmall (widthsOf f)) ≡ true
-unfolding everyFormat table widthsOf runs fields timeFields seconds minutes hours days tenths hundredths straightSeconds hasSeconds carriesSeconds control controlRange carriesControl rowOf lookUp
+unfolding everyFormat table widthsOf codeRuns codeFields timeFields seconds minutes hours days tenths hundredths straightSeconds hasSeconds carriesSeconds codeControl codeRange carriesControl rowOf lookUp
 widths-small = refl
 
 pub width-small : (f : Format) → known f ≡ true → (j : ℕ) → getD (widthsOf f) j 0 ≤ 9
@@ -71,9 +72,9 @@ narrow (r ∷ rs) h =
     let others = allSmall (map (λ (r : Run). r .width) rs) in
     (leb-true (r .width) 9 (and-left (leb (r .width) 9) others h), narrow rs (and-right (leb (r .width) 9) others h))
 
-pub runs-narrow : (f : Format) → known f ≡ true → Narrow (runs f)
+pub runs-narrow : (f : Format) → known f ≡ true → Narrow (codeRuns f)
 unfolding widthsOf
-runs-narrow f k = narrow (runs f) (of-every (λ f. allSmall (widthsOf f)) widths-small f k)
+runs-narrow f k = narrow (codeRuns f) (of-every (λ f. allSmall (widthsOf f)) widths-small f k)
 
 pub small-digit : (rs : List Run) (xs : List ℕ) → Narrow rs → Small rs xs → (j : ℕ) → getD xs j 0 < 512
 small-digit [] [] n s j = omega arith
@@ -86,7 +87,7 @@ pub run-inside : (f : Format) → known f ≡ true → (j k : ℕ) → j < 18 �
 run-inside f h j k b l =
     let w : k < runAt f j .width = rw (width-at f j) at l in
     rw (start-at f j)
-    (held-inside (size f) (rest f) (runs f) (layout-proper f h) (runAt f j .start + k) (held-at (runs f) noRun j (runAt f j .start + k) (omega (arith, length-runs f)) (place-in (runAt f j) k w)) .0)
+    (held-inside (size f) (rest f) (codeRuns f) (code-proper f h) (runAt f j .start + k) (held-at (codeRuns f) noRun j (runAt f j .start + k) (omega (arith, length-runs f)) (place-in (runAt f j) k w)) .0)
 
 -- ---- runs that begin before 60 begin by 50: nine bits that are moved there lose none
 
@@ -100,7 +101,7 @@ near-at last to (s ∷ ss) h zero l = leb-true s last (rw (lt-ltb s to l) at (an
 near-at last to (s ∷ ss) h (suc j) l = near-at last to ss (and-right (cond (ltb s to) (leb s last) true) (allNear last to ss) h) j l
 
 pub head-starts : (f : Format) (j : ℕ) → getD (startsOf f) j 0 < 60 → getD (startsOf f) j 0 ≤ 50
-unfolding startsOf runs fields timeFields seconds minutes hours days tenths hundredths straightSeconds control controlRange
+unfolding startsOf codeRuns codeFields timeFields seconds minutes hours days tenths hundredths straightSeconds codeControl codeRange
 head-starts f = near-at 50 60 (startsOf f) refl
 
 -- ---- reading, from the first run to the last
@@ -109,8 +110,8 @@ head-starts f = near-at 50 60 (startsOf f) refl
 abbrev pub digitAt : Format → List ℕ → ℕ → ℕ
 digitAt f frame j = value (getD (widthsOf f) j 0) (λ b. getD frame (getD (startsOf f) j 0 + b) 0)
 
-pub decode-tabulate : (f : Format) (frame : List ℕ) → tabulate 18 0 (digitAt f frame) ≡ decode (runs f) frame
-unfolding widthsOf startsOf runs fields timeFields seconds minutes hours days tenths hundredths straightSeconds control
+pub decode-tabulate : (f : Format) (frame : List ℕ) → tabulate 18 0 (digitAt f frame) ≡ decode (codeRuns f) frame
+unfolding widthsOf startsOf codeRuns codeFields timeFields seconds minutes hours days tenths hundredths straightSeconds codeControl
 decode-tabulate f frame = refl
 
 -- ---- the bits of one digit, from the highest to the lowest

@@ -5,9 +5,10 @@ ghost use mathlib.Core.Bool.{true, false};
 ghost use Prim.Native.Nat.{ℕ, _+_, _*_, _-_, _/_, _%_, _^_, _≤_, _<_};
 ghost use lib.ListN.{getD, length};
 ghost use Rattle.timecode.specs.Formats.{known, size};
-ghost use Rattle.timecode.specs.Layout.{runs, isMark, rest, encode, value, Small, decode};
+ghost use Rattle.timecode.specs.Layout.{isMark, rest, encode, value, Small, decode};
 ghost use Rattle.timecode.specs.declared.Format.{Format};
 ghost use Rattle.layout.specs.Tables.{startsOf, widthsOf, markPlaces};
+ghost use Rattle.layout.specs.Runs.{codeRuns};
 ghost use Rattle.elements.specs.Packing.{placedAt, packed};
 ghost use Rattle.elements.specs.Tens.{fourElements, ten, tens, IsFrame};
 use layout::mark_places;
@@ -114,7 +115,7 @@ fn put_tens(fours: &[u32], places: &[u8], frame: &mut [u8], from: usize, to: usi
 // it fits its run, and in any case zeros, ones and marks.
 pub fn put_digits(format: Format, digits: &[u64], frame: &mut [u8])
     requires { ⌜ (known format ≡ true) × (length (now digits) ≡ 18) × IsFrame (length (now frame)) ⌝ }
-    ensures { λ _. ⌜ (Small (runs format) (now (digits .entry)) → now (frame .exit) ≡ encode (length (now (frame .entry))) (rest format) (runs format) (now (digits .entry))) × ((i : ℕ) → i < length (now (frame .entry)) → isMark i ≡ false → getD (now (frame .exit)) i 0 < 2) × (length (now (frame .exit)) ≡ length (now (frame .entry))) ⌝ }
+    ensures { λ _. ⌜ (Small (codeRuns format) (now (digits .entry)) → now (frame .exit) ≡ encode (length (now (frame .entry))) (rest format) (codeRuns format) (now (digits .entry))) × ((i : ℕ) → i < length (now (frame .entry)) → isMark i ≡ false → getD (now (frame .exit)) i 0 < 2) × (length (now (frame .exit)) ≡ length (now (frame .entry))) ⌝ }
 {
     let fours = FOURS;
     let places = mark_places();
@@ -143,7 +144,7 @@ fn digit_at(frame: &[u8], start: usize, width: usize) -> u64
 // The digits that stand at the format's runs.
 pub fn digits_in(format: Format, widths: &[u8], frame: &[u8]) -> [u64; 18]
     requires { ⌜ (known format ≡ true) × (now widths ≡ widthsOf format) × (length (now frame) ≡ size format) ⌝ }
-    ensures { λ r. ⌜ r ≡ decode (runs format) (now (frame .entry)) ⌝ }
+    ensures { λ r. ⌜ r ≡ decode (codeRuns format) (now (frame .entry)) ⌝ }
 {
     let starts = run_starts();
     let mut digits = [0u64; 18];

@@ -15,12 +15,13 @@ use Rattle.timecode.specs.Formats.{size}
 use Rattle.timecode.specs.Frames.{areSymbols, held, marksAgree, elementFits, checkElements}
 use Rattle.timecode.specs.Laws.Runs.{in-run, Clean, fits-agree, getD-encode, length-encode}
 use Rattle.timecode.specs.Laws.Tests.{by-test}
-use Rattle.timecode.specs.Layout.{Run, seconds, minutes, hours, days, tenths, hundredths, straightSeconds, control, timeFields, fields, inRun, bitOf, isMark, rest, runs, symbolAt, tabulate, encode, Small}
+use Rattle.timecode.specs.Layout.{Run, seconds, minutes, hours, days, tenths, hundredths, straightSeconds, timeFields, inRun, bitOf, isMark, rest, runs, symbolAt, tabulate, encode, Small}
 use Rattle.timecode.specs.declared.Format.{Format}
 use Rattle.timecode.specs.declared.Reading.{Reading}
 use Rattle.timecode.specs.declared.Refusal.{Refusal}
 use Rattle.timecode.specs.declared.Refusal.the-variants.{UnknownSymbol, MisplacedMark, InvalidElement}
 use Rattle.layout.specs.Tables.{widthsOf}
+use Rattle.layout.specs.Runs.{codeControl, codeFields, codeRuns, code-elements}
 use Rattle.frame.specs.declared.Offence.{Offence}
 use Rattle.frame.specs.declared.Offence.the-variants.{Nothing, At}
 
@@ -30,7 +31,7 @@ greatestDigits rs = map (λ (r : Run). 2 ^ r .width - 1) rs
 
 -- 1 where a digit or bit stands, 2 at a mark, 0 at an index marker
 unfoldable pub shape : Format → List ℕ
-shape f = encode 100 (rest f) (runs f) (greatestDigits (runs f))
+shape f = encode 100 (rest f) (codeRuns f) (greatestDigits (codeRuns f))
 
 -- the symbol s is a mark exactly where the shape has one
 unfoldable pub agreesWith : ℕ → ℕ → Bool
@@ -101,29 +102,29 @@ pub greatest-small : (rs : List Run) → Small rs (greatestDigits rs)
 greatest-small [] = tt
 greatest-small (r ∷ rs) = (ones-lt (r .width), greatest-small rs)
 
-pub greatest-tabulate : (f : Format) → tabulate 18 0 (λ j. 2 ^ getD (widthsOf f) j 0 - 1) ≡ greatestDigits (runs f)
-unfolding widthsOf runs fields timeFields seconds minutes hours days tenths hundredths straightSeconds control
+pub greatest-tabulate : (f : Format) → tabulate 18 0 (λ j. 2 ^ getD (widthsOf f) j 0 - 1) ≡ greatestDigits (codeRuns f)
+unfolding widthsOf codeRuns codeFields timeFields seconds minutes hours days tenths hundredths straightSeconds codeControl
 greatest-tabulate f = refl
 
 pub length-shape : (f : Format) → length (shape f) ≡ 100
 unfolding shape
-length-shape f = length-encode 100 (rest f) (runs f) (greatestDigits (runs f))
+length-shape f = length-encode 100 (rest f) (codeRuns f) (greatestDigits (codeRuns f))
 
-shape-at : (f : Format) (i : ℕ) → i < 100 → getD (shape f) i 0 ≡ cond (held (runs f) i) 1 (rest f i)
+shape-at : (f : Format) (i : ℕ) → i < 100 → getD (shape f) i 0 ≡ cond (held (codeRuns f) i) 1 (rest f i)
 unfolding shape
-shape-at f i h = getD-encode 100 (rest f) (runs f) (greatestDigits (runs f)) i h ∙ ones (rest f) (runs f) i
+shape-at f i h = getD-encode 100 (rest f) (codeRuns f) (greatestDigits (codeRuns f)) i h ∙ ones (rest f) (codeRuns f) i
 
 rest-not-1 : (f : Format) (i : ℕ) → rest f i ≡ 1 → ⊥
 unfolding rest
 rest-not-1 f i h = by-test (isMark i) (λ y. let z : _≡_ {A = ℕ} 2 1 = rw y at h in omega arith) (λ m. let z : _≡_ {A = ℕ} 0 1 = rw m at h in omega arith)
 
-shape-agrees : (f : Format) (i s : ℕ) → i < 100 → agreesWith (getD (shape f) i 0) s ≡ marksAgree (rest f) (runs f) i s
+shape-agrees : (f : Format) (i s : ℕ) → i < 100 → agreesWith (getD (shape f) i 0) s ≡ marksAgree (rest f) (codeRuns f) i s
 unfolding agreesWith marksAgree
-shape-agrees f i s h = rw (shape-at f i h) (by-test (held (runs f) i) (λ y. rw y) (λ m. rw m))
+shape-agrees f i s h = rw (shape-at f i h) (by-test (held (codeRuns f) i) (λ y. rw y) (λ m. rw m))
 
-shape-fits : (f : Format) (i s : ℕ) → i < 100 → fitsIn (getD (shape f) i 0) s ≡ elementFits (rest f) (runs f) i s
+shape-fits : (f : Format) (i s : ℕ) → i < 100 → fitsIn (getD (shape f) i 0) s ≡ elementFits (rest f) (codeRuns f) i s
 unfolding fitsIn elementFits
-shape-fits f i s h = rw (shape-at f i h) (by-test (held (runs f) i) (λ y. rw y) (λ m. rw (m, ne-eqb (rest f i) 1 (rest-not-1 f i))))
+shape-fits f i s h = rw (shape-at f i h) (by-test (held (codeRuns f) i) (λ y. rw y) (λ m. rw (m, ne-eqb (rest f i) 1 (rest-not-1 f i))))
 
 -- ---- what the search finds is what the definition refuses
 
@@ -144,7 +145,8 @@ found-elements rests rs i (m ∷ ms) (s ∷ ss) a l same =
 
 pub offended-refuses : (f : Format) (frame : List ℕ) → length frame ≤ 100 → (a : Reading) → checkElements (rest f) (runs f) 0 frame a ≡ settled (offendedOf (shape f) frame) a
 offended-refuses f frame h a =
-    found-elements (rest f) (runs f) 0 (shape f) frame a (omega (arith, length-shape f)) (λ i s l. rw (zero-add i) (shape-agrees f i s (omega arith), shape-fits f i s (omega arith)))
+    sym (code-elements f 0 frame a)
+    ∙ found-elements (rest f) (codeRuns f) 0 (shape f) frame a (omega (arith, length-shape f)) (λ i s l. rw (zero-add i) (shape-agrees f i s (omega arith), shape-fits f i s (omega arith)))
 
 -- ---- where the search finds nothing, the frame is clean
 
@@ -167,7 +169,7 @@ clean-from i (m ∷ ms) (s ∷ ss) l h k b =
     by-index zero b here later = here
     by-index (suc k) b here later = later k (omega arith)
 
-pub offended-clean : (f : Format) (frame : List ℕ) → length frame ≡ size f → size f ≤ 100 → offendedOf (shape f) frame ≡ Nothing → Clean (size f) (rest f) (runs f) frame
+pub offended-clean : (f : Format) (frame : List ℕ) → length frame ≡ size f → size f ≤ 100 → offendedOf (shape f) frame ≡ Nothing → Clean (size f) (rest f) (codeRuns f) frame
 offended-clean f frame n small h i l =
     sym (shape-fits f i (getD frame i 0) (omega arith)) ∙ clean-from 0 (shape f) frame (omega (arith, length-shape f)) h i (omega arith)
 
@@ -178,10 +180,10 @@ nothing-from i form [] l h = refl
 nothing-from i [] (s ∷ ss) l h = absurd (not-suc-le-zero l)
 nothing-from i (m ∷ ms) (s ∷ ss) l h = rw (h 0 (omega arith) .0, h 0 (omega arith) .1) (nothing-from (suc i) ms ss (omega arith) (λ k b. h (suc k) (omega arith)))
 
-pub clean-offended : (f : Format) (frame : List ℕ) → length frame ≡ size f → size f ≤ 100 → Clean (size f) (rest f) (runs f) frame → offendedOf (shape f) frame ≡ Nothing
+pub clean-offended : (f : Format) (frame : List ℕ) → length frame ≡ size f → size f ≤ 100 → Clean (size f) (rest f) (codeRuns f) frame → offendedOf (shape f) frame ≡ Nothing
 clean-offended f frame n small c =
     nothing-from 0 (shape f) frame (omega (arith, length-shape f))
     (λ i l.
     let s = getD frame i 0 in
     let fits = c i (omega arith) in
-    (shape-agrees f i s (omega arith) ∙ fits-agree (size f) (rest f) (runs f) i s fits, shape-fits f i s (omega arith) ∙ fits))
+    (shape-agrees f i s (omega arith) ∙ fits-agree (size f) (rest f) (codeRuns f) i s fits, shape-fits f i s (omega arith) ∙ fits))

@@ -8,8 +8,9 @@ ghost use Prim.Native.Nat.{ℕ, _≤_, _<_};
 ghost use lib.ListN.{getD, length};
 ghost use Rattle.timecode.specs.Formats.{known, size};
 ghost use Rattle.timecode.specs.Frames.{written, writeOf, writeLeaves, areSymbols, readOf, Valid};
-ghost use Rattle.timecode.specs.Layout.{runs, rest, encode, decode};
+ghost use Rattle.timecode.specs.Layout.{rest, encode, decode};
 ghost use Rattle.layout.specs.Tables.{widthsOf};
+ghost use Rattle.layout.specs.Runs.{codeRuns};
 ghost use Rattle.digits.specs.Splitting.{Widths};
 ghost use Rattle.frame.specs.Offences.{greatestDigits, shape, agreesWith, fitsIn, offendedOf, offenceIn};
 use clock::on_format;
@@ -146,7 +147,7 @@ fn lowest_offence(form: &[u8], frame: &[u8]) -> Offence
 // The greatest digit of each run.
 fn greatest_digits(widths: &[u8]) -> [u64; 18]
     requires { ⌜ Widths (now widths) ⌝ }
-    ensures { λ r. ⌜ ((f : Format) → now (widths .entry) ≡ widthsOf f → r ≡ greatestDigits (runs f)) ⌝ }
+    ensures { λ r. ⌜ ((f : Format) → now (widths .entry) ≡ widthsOf f → r ≡ greatestDigits (codeRuns f)) ⌝ }
 {
     let mut digits = [0u64; 18];
     let mut j = 0;
@@ -185,8 +186,8 @@ fn agree(form: &[u8], frame: &[u8]) -> bool
 // The frame is the one in which its digits stand. It promises nothing of a false answer: the frame is then looked through
 // element by element, with the same reading in the end, only later.
 fn is_written(format: Format, digits: &[u64], frame: &[u8]) -> bool
-    requires { ⌜ (known format ≡ true) × (length (now frame) ≡ size format) × (now digits ≡ decode (runs format) (now frame)) ⌝ }
-    ensures { λ r. ⌜ (r ≡ true → now (frame .entry) ≡ encode (size format) (rest format) (runs format) (decode (runs format) (now (frame .entry)))) ⌝ }
+    requires { ⌜ (known format ≡ true) × (length (now frame) ≡ size format) × (now digits ≡ decode (codeRuns format) (now frame)) ⌝ }
+    ensures { λ r. ⌜ (r ≡ true → now (frame .entry) ≡ encode (size format) (rest format) (codeRuns format) (decode (codeRuns format) (now (frame .entry)))) ⌝ }
 {
     let mut form = [0u8; 100];
     put_digits(format, digits, &mut form);
@@ -195,7 +196,7 @@ fn is_written(format: Format, digits: &[u64], frame: &[u8]) -> bool
 
 // What offends in the frame: a symbol above 3, or the element of the lowest index that offends.
 fn offence_in(format: Format, widths: &[u8], digits: &[u64], frame: &[u8]) -> Offence
-    requires { ⌜ (known format ≡ true) × (length (now frame) ≡ size format) × (now widths ≡ widthsOf format) × (now digits ≡ decode (runs format) (now frame)) ⌝ }
+    requires { ⌜ (known format ≡ true) × (length (now frame) ≡ size format) × (now widths ≡ widthsOf format) × (now digits ≡ decode (codeRuns format) (now frame)) ⌝ }
     ensures { λ r. ⌜ r ≡ offenceIn format (now (frame .entry)) ⌝ }
 {
     if is_written(format, digits, frame) {

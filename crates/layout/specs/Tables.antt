@@ -5,8 +5,9 @@ use mathlib.Core.List.{List, [], _∷_, map}
 use Prim.Native.Nat.{ℕ}
 use lib.Dec.{leb}
 use Rattle.timecode.specs.Formats.{known, size, interval}
-use Rattle.timecode.specs.Layout.{Run, runs}
+use Rattle.timecode.specs.Layout.{Run}
 use Rattle.timecode.specs.declared.Format.{Format}
+use Rattle.layout.specs.Runs.{codeRuns}
 use Rattle.layout.specs.declared.Row.{Row}
 
 -- the index of each mark in a frame of 100
@@ -15,10 +16,10 @@ markPlaces = 0 ∷ 9 ∷ 19 ∷ 29 ∷ 39 ∷ 49 ∷ 59 ∷ 69 ∷ 79 ∷ 89 ∷
 
 -- where the runs of a format start, and how wide they are
 unfoldable pub startsOf : Format → List ℕ
-startsOf f = map (λ (r : Run). r .start) (runs f)
+startsOf f = map (λ (r : Run). r .start) (codeRuns f)
 
 unfoldable pub widthsOf : Format → List ℕ
-widthsOf f = map (λ (r : Run). r .width) (runs f)
+widthsOf f = map (λ (r : Run). r .width) (codeRuns f)
 
 abbrev pub with-letter : ℕ → ℕ → Format
 with-letter l e = record { letter = l; expression = e }

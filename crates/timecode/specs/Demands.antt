@@ -1,6 +1,6 @@
 -- The demands, stated over the definitions and proved for every format, time, control word, list and length.
 use mathlib.Core.Path.{_≡_, sym, ap, _∙_}
-use mathlib.Core.Bool.{true, false, cond}
+use mathlib.Core.Bool.{true, false}
 use mathlib.Core.List.{List, [], _∷_, _++_}
 use Prim.Native.Nat.{ℕ, suc, _-_, _/_, _%_, _<_, _≤_}
 use lib.Dec.{eqb}
@@ -10,18 +10,16 @@ use native.Mathlib.Nat.{zero-mod}
 use native.Mathlib.Omega.{arith}
 use Rattle.timecode.specs.Answers.{number}
 use Rattle.timecode.specs.Calls.{classifyListOf, classifyListLeaves}
-use Rattle.timecode.specs.Formats.{member, known, size, interval, lastHundredth, dayLength, onFormat, carriesLeap, secondCarried, table, lookUp, rowOf, carriesControl}
+use Rattle.timecode.specs.Formats.{member, known, size, interval, lastHundredth, dayLength, onFormat, carriesLeap, secondCarried}
 use Rattle.timecode.specs.Frames.{yearLengths, usual, kinds, dayEnd, sameDay, nextDay, stepOf, Follows, nextAfter, stepBackOf, Precedes, writeOf, writeLeaves, readOf, Sent, Generator, sentAt, dayBefore, following, preceding, onDay, areSymbols, isTime, timeIn, secondsAgree}
 use Rattle.timecode.specs.Laws.Back.{step-back, back-step, back-on-format, follows-precedes, precedes-follows}
 use Rattle.timecode.specs.Laws.Checks.{accepted, by-reading, refused-up-to}
 use Rattle.timecode.specs.Laws.Existence.{frames, length-frames, control-at, first-time, generator, goes-on}
 use Rattle.timecode.specs.Laws.Reading.{accepted-was-written, elements-up-to}
 use Rattle.timecode.specs.Laws.Stepping.{step-on-format, next-follows, follows-next, usual-end, answers, year-range, day-end-range, refuses-alike, Went, went, Lands, lands, year-is}
-use Rattle.timecode.specs.Laws.Table.{by-letter}
-use Rattle.timecode.specs.Laws.Tests.{by-test}
 use Rattle.timecode.specs.Laws.Times.{is-on-format, is-carried, none-added, one-added}
 use Rattle.timecode.specs.Laws.Writing.{written-is-accepted, taken, takes, leaves}
-use Rattle.timecode.specs.Layout.{second, minute, hour, rest, runs, controlRange, control, indicesOf, ninesFrom, numberIn}
+use Rattle.timecode.specs.Layout.{second, minute, hour, rest, runs, control, numberIn}
 use Rattle.timecode.specs.declared.Format.{Format}
 use Rattle.timecode.specs.declared.Reading.{Reading}
 use Rattle.timecode.specs.declared.Reading.the-variants.{Accepted}
@@ -87,15 +85,6 @@ read-refuses-up-to-8 f frame r =
     (refused-up-to 8 InvalidDigit (isTime f frame) _ r (omega arith)
     (refused-up-to 8 SecondsDiffer (secondsAgree f frame) _ r (omega arith)
     (λ h. absurd (accepted (timeIn f frame) (numberIn frame (control f)) r (sym h))))))))
-
--- Control bit 1 takes the first place that the table lists, and the rest follow in its order; where the expression carries none they have no place.
-pub control-bits-as-listed : (f : Format) → known f ≡ true → indicesOf (control f) ≡ cond (carriesControl f) (ninesFrom (rowOf f .control)) []
-unfolding control controlRange rowOf lookUp table
-control-bits-as-listed f k =
-    by-test (carriesControl f) (λ y. by-letter Listed (λ e h. rw h) (λ e h. rw h) (λ e h. rw h) (λ e h. rw h) (λ e h. rw h) (λ e h. rw h) f k (f .expression) y ∙ sym (rw y)) (λ n. rw n)
-  where
-    Listed : ℕ → Type 0
-    Listed l = (e : ℕ) → carriesControl (record { letter = l; expression = e }) ≡ true → indicesOf (control (record { letter = l; expression = e })) ≡ ninesFrom (rowOf (record { letter = l; expression = e }) .control)
 
 -- The added second is written and read as 23:59:60 and SBS 86,400.
 pub added-second-is-the-61st : (c : ℕ) → dayLength ≤ c → c ≤ lastHundredth → (hour c ≡ 23) × (minute c ≡ 59) × (second c ≡ 60) × (c / 100 ≡ 86400)

@@ -64,12 +64,8 @@ unfoldable pub straightSeconds : Format → Field
 straightSeconds f = binaryIf (hasSeconds f) 80 9 ∷ binaryIf (hasSeconds f) 90 8 ∷ []
 
 -- Control bit 1, the lowest, takes the first place of the ranges of nine that the table lists; the rest follow in rising index.
--- Each of the five ranges is a run, without elements where the table does not list it (Demands.control-bits-as-listed).
-unfoldable pub controlRange : Format → ℕ → Run
-controlRange f start = binaryIf (carriesControl f && member start (rowOf f .control)) start 9
-
 unfoldable pub control : Format → Field
-control f = map (controlRange f) (50 ∷ 60 ∷ 70 ∷ 80 ∷ 90 ∷ [])
+control f = map (λ (start : ℕ). binaryIf (carriesControl f) start 9) (rowOf f .control)
 
 unfoldable pub timeFields : Format → List Field
 timeFields f = seconds f ∷ minutes f ∷ hours f ∷ days f ∷ tenths f ∷ hundredths f ∷ []
@@ -159,16 +155,6 @@ tabulate (suc n) i g = g i ∷ tabulate n (suc i) g
 -- the n symbols in which the digits xs stand at the runs rs
 unfoldable pub encode : ℕ → (ℕ → ℕ) → List Run → List ℕ → List ℕ
 encode n rests rs xs = tabulate n 0 (symbolAt rests rs xs)
-
--- the indices of a field's runs, in their order
-abbrev pub indicesOf : Field → List ℕ
-indicesOf [] = []
-indicesOf (r ∷ rs) = tabulate (r .width) (r .start) (λ i. i) ++ indicesOf rs
-
--- ranges of nine indices
-abbrev pub ninesFrom : List ℕ → List ℕ
-ninesFrom [] = []
-ninesFrom (start ∷ starts) = tabulate 9 start (λ i. i) ++ ninesFrom starts
 
 -- ---- what the symbols of a frame say
 

@@ -5,7 +5,7 @@ use mathlib.Core.Logic.{inr}
 use mathlib.Core.Path.{refl, ap, _∙_}
 use lib.ListN.{length, length-map}
 use Rattle.timecode.specs.Laws.Table.{size-range}
-use Rattle.timecode.specs.Layout.{runs}
+use Rattle.layout.specs.Runs.{codeRuns}
 use Rattle.elements.specs.Turns.{length-runs}
 use Rattle.frame.specs.Ways.{as-written}
 use Rattle.frame.proofs.is_written.Statement.{statement}
@@ -17,7 +17,7 @@ slice-aggregate-put-digits c = search needs
 put-digits-requires : tie.Need-put-digits-requires
 put-digits-requires c κs =
     let start = c .before .before .before in
-    (start .pre .0, ap length (start .pre .2) ∙ length-map (runs (start .args .format)) _ ∙ length-runs (start .args .format), inr refl)
+    (start .pre .0, ap length (start .pre .2) ∙ length-map (codeRuns (start .args .format)) _ ∙ length-runs (start .args .format), inr refl)
 
 slice-aggregate-agree : tie.Need-slice-aggregate-agree
 slice-aggregate-agree c = search needs

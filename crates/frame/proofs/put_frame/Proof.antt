@@ -2,9 +2,8 @@
 use borrow.Author.Needs.{needs}
 use mathlib.Core.Path.{_≡_, sym, ap₂, subst, _∙_}
 use lib.ListN.{length}
-use Rattle.timecode.specs.Frames.{written}
-use Rattle.timecode.specs.Laws.Writing.{written-small}
-use Rattle.timecode.specs.Layout.{runs, rest, encode, Small}
+use Rattle.timecode.specs.Layout.{rest, encode, Small}
+use Rattle.layout.specs.Runs.{codeRuns, code-small, code-written}
 use Rattle.frame.specs.Ways.{are-widths, is-frame}
 use Rattle.frame.proofs.put_frame.Statement.{statement}
 use Rattle.frame.proofs.put_frame.Tie as tie
@@ -34,13 +33,13 @@ same-length : tie.Need-same-length
 same-length c = search needs
 
 returns : tie.Need-returns
-unfolding written
 returns c =
     let start = c .before .before .before .before .before .before .before .before .before in
     let f = start .args .format in
     let digits = c .before .before .before .before .before .digits-of in
-    c .before .before .put-digits .ensures .0 (subst (Small (runs f)) (sym (digits .ensures)) (written-small f (start .args .time) (start .args .control) (start .pre .0)))
-    ∙ ap₂ (λ n xs. encode n (rest f) (runs f) xs) (start .pre .1) (digits .ensures)
+    c .before .before .put-digits .ensures .0 (subst (Small (codeRuns f)) (sym (digits .ensures)) (code-small f (start .args .time) (start .args .control) (start .pre .0)))
+    ∙ ap₂ (λ n xs. encode n (rest f) (codeRuns f) xs) (start .pre .1) (digits .ensures)
+    ∙ code-written f (start .args .time) (start .args .control)
 
 pub put-frame-spec : {M : Type 1} → statement M
 put-frame-spec =

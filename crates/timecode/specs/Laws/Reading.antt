@@ -1,7 +1,7 @@
 -- Read accepts exactly the bytes as which a time and a control word are written, and gives those.
 use mathlib.Core.Path.{_≡_, refl, sym, ap, _∙_, subst, subst₂}
-use mathlib.Core.Bool.{true, false, _&&_}
-use mathlib.Core.List.{List, [], _∷_, _++_}
+use mathlib.Core.Bool.{Bool, true, false, _&&_}
+use mathlib.Core.List.{List, [], _∷_, _++_, map}
 use mathlib.Core.Logic.{_⊎_, inl, inr}
 use Prim.Native.Nat.{ℕ, zero, suc, _+_, _*_, _/_, _%_, _<_, _≤_}
 use native.Mathlib.Nat.{not-suc-le-zero, add-zero, zero-add, add-suc, suc-add, mod-eq-of-lt, mod-one}
@@ -10,7 +10,7 @@ use borrow.Author.Tests.{leb-true, leb-false, eqb-true}
 use lib.Dec.{leb, eqb}
 use lib.ListN.{getD, length}
 use Rattle.timecode.specs.Answers.{number}
-use Rattle.timecode.specs.Formats.{known, size, lastDay, lastHundredth, dayLength, carriesLeap, OnFormat}
+use Rattle.timecode.specs.Formats.{known, size, lastDay, lastHundredth, dayLength, rowOf, carriesControl, carriesLeap, OnFormat}
 use Rattle.timecode.specs.Frames.{written, areSymbols, marksAgree, elementFits, checkElements, areDigits, lastSecond, isTime, timeIn, secondsAgree, readOf, Valid}
 use Rattle.timecode.specs.Laws.Checks.{passed, accepted, refused-up-to}
 use Rattle.timecode.specs.Laws.Digits.{Below, capacity, joined, joined-lt, digits-agree, number-joined}
@@ -19,7 +19,7 @@ use Rattle.timecode.specs.Laws.Runs.{Clean, fits-agree, clean-bits, enco
 use Rattle.timecode.specs.Laws.Table.{layout-proper}
 use Rattle.timecode.specs.Laws.Tests.{by-test, clash, and-left, and-right}
 use Rattle.timecode.specs.Laws.Times.{none-added, one-added, time-grid}
-use Rattle.timecode.specs.Layout.{Run, seconds, minutes, hours, days, tenths, hundredths, hasSeconds, straightSeconds, controlRange, control, timeFields, fields, flatten, runs, second, minute, hour, timeNumbers, numbers, digitsOf, spread, rest, encode, numberIn, Small, decode}
+use Rattle.timecode.specs.Layout.{Run, binaryIf, seconds, minutes, hours, days, tenths, hundredths, hasSeconds, straightSeconds, control, timeFields, fields, flatten, runs, second, minute, hour, timeNumbers, numbers, digitsOf, spread, rest, encode, numberIn, Small, decode}
 use Rattle.timecode.specs.declared.Format.{Format}
 use Rattle.timecode.specs.declared.Reading.{Reading}
 use Rattle.timecode.specs.declared.Reading.the-variants.{Accepted}
@@ -111,9 +111,13 @@ pub straight-binary : (f : Format) → Binary (straightSeconds f)
 unfolding straightSeconds
 straight-binary f = (refl, (refl, tt))
 
+nines-binary : (b : Bool) (starts : List ℕ) → Binary (map (λ (start : ℕ). binaryIf b start 9) starts)
+nines-binary b [] = tt
+nines-binary b (start ∷ starts) = (refl, nines-binary b starts)
+
 pub control-binary : (f : Format) → Binary (control f)
-unfolding control controlRange
-control-binary f = (refl, (refl, (refl, (refl, (refl, tt)))))
+unfolding control
+control-binary f = nines-binary (carriesControl f) (rowOf f .control)
 
 pub straight-wide : (f : Format) → hasSeconds f ≡ true → capacity (straightSeconds f) ≡ 131072
 unfolding straightSeconds

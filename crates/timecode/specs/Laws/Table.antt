@@ -9,7 +9,7 @@ use lib.Dec.{eqb}
 use Rattle.timecode.specs.Formats.{member, A, B, D, E, G, H, Row, table, noRow, lookUp, rowOf, known, size, interval, carriesControl, carriesSeconds}
 use Rattle.timecode.specs.Laws.Runs.{clear, proper}
 use Rattle.timecode.specs.Laws.Tests.{by-test, clash, and-left, and-right, or-other}
-use Rattle.timecode.specs.Layout.{seconds, minutes, hours, days, tenths, hundredths, hasSeconds, straightSeconds, controlRange, control, timeFields, fields, runs, isMark, rest}
+use Rattle.timecode.specs.Layout.{seconds, minutes, hours, days, tenths, hundredths, hasSeconds, straightSeconds, control, timeFields, fields, runs, isMark, rest}
 use Rattle.timecode.specs.declared.Format.{Format}
 
 -- ---- line by line
@@ -18,7 +18,7 @@ abbrev Lines : (Row → Type 0) → List Row → Type 0
 Lines P [] = Unit
 Lines P (r ∷ rs) = P r × Lines P rs
 
-in-lines : (P : Row → Type 0) → P noRow → (rs : List Row) → Lines P rs → (l : ℕ) → P (lookUp l rs)
+pub in-lines : (P : Row → Type 0) → P noRow → (rs : List Row) → Lines P rs → (l : ℕ) → P (lookUp l rs)
 unfolding lookUp
 in-lines P n [] ps l = n
 in-lines P n (r ∷ rs) ps l = by-test (eqb (r .letter) l) (λ y. rw y (ps .0)) (λ m. rw m (in-lines P n rs (ps .1) l))
@@ -90,7 +90,7 @@ unfolding everyFormat known rowOf
 of-every p h f k = of-line p f table h k
 
 all-proper : everyFormat (λ f. proper (size f) (rest f) (runs f)) ≡ true
-unfolding everyFormat table proper clear size rowOf lookUp rest isMark runs fields timeFields seconds minutes hours days tenths hundredths straightSeconds hasSeconds carriesSeconds control controlRange carriesControl
+unfolding everyFormat table proper clear size rowOf lookUp rest isMark runs fields timeFields seconds minutes hours days tenths hundredths straightSeconds hasSeconds carriesSeconds control carriesControl
 all-proper = refl
 
 -- every format's runs lie in the frame, hold no mark and do not overlap

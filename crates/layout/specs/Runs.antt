@@ -1,0 +1,224 @@
+-- The code's runs: eighteen in every format. They are the layout's, and a range of control bits that the table does not list has no elements.
+-- So the digits at them are written and read as at the layout's runs.
+use mathlib.Core.Path.{_≡_, refl, sym, ap, _∙_}
+use mathlib.Core.Bool.{Bool, true, false, cond, _&&_, _||_}
+use mathlib.Core.List.{List, [], _∷_, _++_, map, append-nil}
+use Prim.Native.Nat.{ℕ, zero, suc, _+_, _*_, _/_, _%_, _^_}
+use native.Mathlib.Nat.{div-one, one-mul, zero-add}
+use native.Mathlib.Omega.{arith}
+use borrow.Author.Tests.{eqb-true}
+use lib.Dec.{eqb}
+use lib.ListN.{getD, length}
+use Rattle.timecode.specs.Formats.{member, table, lookUp, rowOf, known, size, carriesControl, carriesSeconds}
+use Rattle.timecode.specs.Frames.{Valid, totalWidth, written, held, marksAgree, elementFits, checkElements}
+use Rattle.timecode.specs.Laws.Fields.{Binary, binary-small}
+use Rattle.timecode.specs.Laws.Reading.{straight-binary, control-binary}
+use Rattle.timecode.specs.Laws.Runs.{in-run, proper, clear, small-append}
+use Rattle.timecode.specs.Laws.Table.{in-lines, everyFormat, of-every}
+use Rattle.timecode.specs.Laws.Tests.{by-test}
+use Rattle.timecode.specs.Laws.Times.{time-small}
+use Rattle.timecode.specs.Layout.{
+  Run,
+  Field,
+  binaryIf,
+  seconds,
+  minutes,
+  hours,
+  days,
+  tenths,
+  hundredths,
+  hasSeconds,
+  straightSeconds,
+  control,
+  timeFields,
+  fields,
+  flatten,
+  runs,
+  timeNumbers,
+  numbers,
+  digitsOf,
+  spread,
+  Small,
+  inRun,
+  bitOf,
+  placeOf,
+  isMark,
+  rest,
+  symbolAt,
+  tabulate,
+  encode,
+  value,
+  digitIn,
+  numberIn,
+}
+use Rattle.timecode.specs.declared.Format.{Format}
+use Rattle.timecode.specs.declared.Reading.{Reading}
+use Rattle.timecode.specs.declared.Time.{Time}
+
+-- nine control bits, where the table lists them
+unfoldable pub codeRange : Format → ℕ → Run
+codeRange f start = binaryIf (carriesControl f && member start (rowOf f .control)) start 9
+
+unfoldable pub codeControl : Format → Field
+codeControl f = map (codeRange f) (50 ∷ 60 ∷ 70 ∷ 80 ∷ 90 ∷ [])
+
+unfoldable pub codeFields : Format → List Field
+codeFields f = timeFields f ++ (straightSeconds f ∷ codeControl f ∷ [])
+
+unfoldable pub codeRuns : Format → List Run
+codeRuns f = flatten (codeFields f)
+
+-- ---- runs without elements change nothing
+
+-- the runs that have elements
+abbrev carriedRuns : Field → Field
+carriedRuns [] = []
+carriedRuns (r ∷ rs) = cond (eqb (r .width) 0) (carriedRuns rs) (r ∷ carriedRuns rs)
+
+none-in : (r : Run) (i : ℕ) → r .width ≡ 0 → inRun r i ≡ false
+none-in r i h = by-test (inRun r i) (λ y. let z : ⊥ = omega (arith, in-run r i y) in absurd z) (λ m. m)
+
+held-carried : (rs : Field) (i : ℕ) → held (carriedRuns rs) i ≡ held rs i
+held-carried [] i = refl
+held-carried (r ∷ rs) i =
+    by-test (eqb (r .width) 0)
+    (λ y. rw (y, none-in r i (eqb-true (r .width) 0 y)) (held-carried rs i))
+    (λ n. rw n (ap (λ (b : Bool). inRun r i || b) (held-carried rs i)))
+
+width-carried : (rs : Field) → totalWidth (carriedRuns rs) ≡ totalWidth rs
+width-carried [] = refl
+width-carried (r ∷ rs) =
+    by-test (eqb (r .width) 0)
+    (λ y. let z = eqb-true (r .width) 0 y in rw y (omega (arith, width-carried rs)))
+    (λ n. rw n (ap (λ (k : ℕ). r .width + k) (width-carried rs)))
+
+radix-one : (r : Run) → r .radix ≡ 2 ^ r .width → r .width ≡ 0 → r .radix ≡ 1
+radix-one r b h = b ∙ ap (λ (n : ℕ). 2 ^ n) h
+
+digit-none : (frame : List ℕ) (r : Run) → r .width ≡ 0 → digitIn frame r ≡ 0
+unfolding value
+digit-none frame r h = ap (λ (n : ℕ). value n (λ b. getD frame (placeOf r b) 0)) h
+
+number-carried : (frame : List ℕ) (rs : Field) → Binary rs → numberIn frame (carriedRuns rs) ≡ numberIn frame rs
+number-carried frame [] b = refl
+number-carried frame (r ∷ rs) b =
+    by-test (eqb (r .width) 0)
+    (λ y.
+    let z = eqb-true (r .width) 0 y in
+    rw (y, digit-none frame r z, radix-one r (b .0) z) (number-carried frame rs (b .1) ∙ sym (zero-add (1 * numberIn frame rs) ∙ one-mul (numberIn frame rs))))
+    (λ n. rw n (ap (λ (k : ℕ). digitIn frame r + r .radix * k) (number-carried frame rs (b .1))))
+
+symbol-carried : (rests : ℕ → ℕ) (rs : Field) (x i : ℕ) → Binary rs → symbolAt rests (carriedRuns rs) (digitsOf (carriedRuns rs) x) i ≡ symbolAt rests rs (digitsOf rs x) i
+unfolding symbolAt
+symbol-carried rests [] x i b = refl
+symbol-carried rests (r ∷ rs) x i b =
+    by-test (eqb (r .width) 0)
+    (λ y.
+    let z = eqb-true (r .width) 0 y in
+    rw (y, none-in r i z, radix-one r (b .0) z, div-one x) (symbol-carried rests rs x i (b .1)))
+    (λ n. rw n (ap (λ (k : ℕ). cond (inRun r i) (x % r .radix / 2 ^ bitOf r i % 2) k) (symbol-carried rests rs (x / r .radix) i (b .1))))
+
+-- ---- the control ranges that have elements are the table's
+
+same-carried : (f : Format) → carriedRuns (codeControl f) ≡ carriedRuns (control f)
+unfolding codeControl codeRange control rowOf table
+same-carried f =
+    in-lines
+    (λ r. (b : Bool) → carriedRuns (map (λ (start : ℕ). binaryIf (b && member start (r .control)) start 9) (50 ∷ 60 ∷ 70 ∷ 80 ∷ 90 ∷ [])) ≡ carriedRuns (map (λ (start : ℕ). binaryIf b start 9) (r .control)))
+    (λ b. by-test b (λ y. rw y) (λ n. rw n)) table (
+      λ b. by-test b (λ y. rw y) (λ n. rw n),
+      (
+        λ b. by-test b (λ y. rw y) (λ n. rw n),
+        (
+          λ b. by-test b (λ y. rw y) (λ n. rw n),
+          (
+            λ b. by-test b (λ y. rw y) (λ n. rw n),
+            (
+              λ b. by-test b (λ y. rw y) (λ n. rw n),
+              (
+                λ b. by-test b (λ y. rw y) (λ n. rw n),
+                tt,
+              ),
+            ),
+          ),
+        ),
+      ),
+    )
+    (f .letter) (carriesControl f)
+
+pub code-binary : (f : Format) → Binary (codeControl f)
+unfolding codeControl codeRange
+code-binary f = (refl, (refl, (refl, (refl, (refl, tt)))))
+
+pub code-width : (f : Format) → totalWidth (codeControl f) ≡ totalWidth (control f)
+code-width f = sym (width-carried (codeControl f)) ∙ ap totalWidth (same-carried f) ∙ width-carried (control f)
+
+pub code-number : (f : Format) (frame : List ℕ) → numberIn frame (codeControl f) ≡ numberIn frame (control f)
+code-number f frame = sym (number-carried frame (codeControl f) (code-binary f)) ∙ ap (numberIn frame) (same-carried f) ∙ number-carried frame (control f) (control-binary f)
+
+control-symbol : (f : Format) (w i : ℕ) → symbolAt (rest f) (codeControl f) (digitsOf (codeControl f) w) i ≡ symbolAt (rest f) (control f) (digitsOf (control f) w) i
+control-symbol f w i =
+    sym (symbol-carried (rest f) (codeControl f) w i (code-binary f))
+    ∙ ap (λ (rs : Field). symbolAt (rest f) rs (digitsOf rs w) i) (same-carried f)
+    ∙ symbol-carried (rest f) (control f) w i (control-binary f)
+
+-- ---- behind the same runs
+
+held-front : (ps rs qs : List Run) (i : ℕ) → held rs i ≡ held qs i → held (ps ++ rs) i ≡ held (ps ++ qs) i
+held-front [] rs qs i h = h
+held-front (p ∷ ps) rs qs i h = ap (λ (b : Bool). inRun p i || b) (held-front ps rs qs i h)
+
+symbol-front : (rests : ℕ → ℕ) (ps rs qs : List Run) (xs ys zs : List ℕ) (i : ℕ) → length xs ≡ length ps → symbolAt rests rs ys i ≡ symbolAt rests qs zs i
+    → symbolAt rests (ps ++ rs) (xs ++ ys) i ≡ symbolAt rests (ps ++ qs) (xs ++ zs) i
+unfolding symbolAt
+symbol-front rests [] rs qs [] ys zs i l h = h
+symbol-front rests [] rs qs (x ∷ xs) ys zs i l h = let z : ⊥ = omega arith in absurd z
+symbol-front rests (p ∷ ps) rs qs [] ys zs i l h = let z : ⊥ = omega arith in absurd z
+symbol-front rests (p ∷ ps) rs qs (x ∷ xs) ys zs i l h = ap (λ (k : ℕ). cond (inRun p i) (x / 2 ^ bitOf p i % 2) k) (symbol-front rests ps rs qs xs ys zs i (omega arith) h)
+
+pub code-held : (f : Format) (i : ℕ) → held (codeRuns f) i ≡ held (runs f) i
+unfolding codeRuns codeFields runs fields timeFields seconds minutes hours days tenths hundredths straightSeconds
+code-held f i =
+    let last : held (codeControl f ++ []) i ≡ held (control f ++ []) i =
+    rw (append-nil (codeControl f), append-nil (control f)) (sym (held-carried (codeControl f) i) ∙ ap (λ (rs : Field). held rs i) (same-carried f) ∙ held-carried (control f) i) in
+    held-front (flatten (timeFields f)) (straightSeconds f ++ (codeControl f ++ [])) (straightSeconds f ++ (control f ++ [])) i
+    (held-front (straightSeconds f) (codeControl f ++ []) (control f ++ []) i last)
+
+code-symbol : (f : Format) (t : Time) (w i : ℕ) → symbolAt (rest f) (codeRuns f) (spread (codeFields f) (numbers t w)) i ≡ symbolAt (rest f) (runs f) (spread (fields f) (numbers t w)) i
+unfolding codeRuns codeFields runs fields timeFields seconds minutes hours days tenths hundredths straightSeconds numbers timeNumbers
+code-symbol f t w i =
+    let last : symbolAt (rest f) (codeControl f ++ []) (digitsOf (codeControl f) w ++ []) i ≡ symbolAt (rest f) (control f ++ []) (digitsOf (control f) w ++ []) i =
+    rw (append-nil (codeControl f), append-nil (control f), append-nil (digitsOf (codeControl f) w), append-nil (digitsOf (control f) w)) (control-symbol f w i) in
+    symbol-front (rest f) (flatten (timeFields f)) (straightSeconds f ++ (codeControl f ++ [])) (straightSeconds f ++ (control f ++ [])) (spread (timeFields f) (timeNumbers t))
+    (digitsOf (straightSeconds f) (t .hundredths / 100) ++ (digitsOf (codeControl f) w ++ [])) (digitsOf (straightSeconds f) (t .hundredths / 100) ++ (digitsOf (control f) w ++ [])) i refl
+    (symbol-front (rest f) (straightSeconds f) (codeControl f ++ []) (control f ++ []) (digitsOf (straightSeconds f) (t .hundredths / 100)) (digitsOf (codeControl f) w ++ []) (digitsOf (control f) w ++ []) i refl last)
+
+same-tabulate : (n i : ℕ) (g h : ℕ → ℕ) → ((k : ℕ) → g k ≡ h k) → tabulate n i g ≡ tabulate n i h
+same-tabulate zero i g h e = refl
+same-tabulate (suc n) i g h e = rw (e i) (ap (λ (xs : List ℕ). h i ∷ xs) (same-tabulate n (suc i) g h e))
+
+-- ---- what the code's functions are proved by
+
+pub code-written : (f : Format) (t : Time) (w : ℕ) → encode (size f) (rest f) (codeRuns f) (spread (codeFields f) (numbers t w)) ≡ written f t w
+unfolding written encode
+code-written f t w = same-tabulate (size f) 0 _ _ (code-symbol f t w)
+
+pub code-elements : (f : Format) (i : ℕ) (ss : List ℕ) (a : Reading) → checkElements (rest f) (codeRuns f) i ss a ≡ checkElements (rest f) (runs f) i ss a
+unfolding checkElements marksAgree elementFits
+code-elements f i [] a = refl
+code-elements f i (s ∷ ss) a = rw (code-held f i, code-elements f (suc i) ss a)
+
+pub code-small : (f : Format) (t : Time) (w : ℕ) → Valid f t w → Small (codeRuns f) (spread (codeFields f) (numbers t w))
+unfolding codeRuns codeFields timeFields numbers timeNumbers seconds minutes hours days tenths hundredths
+code-small f t w v =
+    small-append (flatten (timeFields f)) (straightSeconds f ++ (codeControl f ++ [])) (spread (timeFields f) (timeNumbers t)) (digitsOf (straightSeconds f) (t .hundredths / 100) ++ (digitsOf (codeControl f) w ++ []))
+    (time-small f t (v .format) (v .time))
+    (small-append (straightSeconds f) (codeControl f ++ []) (digitsOf (straightSeconds f) (t .hundredths / 100)) (digitsOf (codeControl f) w ++ []) (binary-small (straightSeconds f) (t .hundredths / 100) (straight-binary f))
+    (small-append (codeControl f) [] (digitsOf (codeControl f) w) [] (binary-small (codeControl f) w (code-binary f)) tt))
+
+all-proper : everyFormat (λ f. proper (size f) (rest f) (codeRuns f)) ≡ true
+unfolding everyFormat table proper clear size rowOf lookUp rest isMark codeRuns codeFields timeFields seconds minutes hours days tenths hundredths straightSeconds hasSeconds carriesSeconds codeControl codeRange carriesControl
+all-proper = refl
+
+pub code-proper : (f : Format) → known f ≡ true → proper (size f) (rest f) (codeRuns f) ≡ true
+code-proper = of-every (λ f. proper (size f) (rest f) (codeRuns f)) all-proper
