@@ -11,9 +11,9 @@ use lib.ListN.{getD, length, drop, drop-of-length-le}
 use lib.Pow.{field, high, low, mod-mod-pow, pow-mono, pow-pos, shr-shr, split}
 use lib.Seq.{drop-cons}
 use Rattle.timecode.specs.Formats.{table, lookUp, rowOf, known, size, carriesControl, carriesSeconds}
-use Rattle.timecode.specs.Frames.{held}
+use Rattle.timecode.specs.Frames.{covered}
 use Rattle.timecode.specs.Laws.Bits.{value-of-bits}
-use Rattle.timecode.specs.Laws.Runs.{in-run, proper, held-once, later-proper, held-inside, symbol-free, place-in, length-tabulate, getD-tabulate, tabulate-same}
+use Rattle.timecode.specs.Laws.Runs.{in-run, proper, covered-once, later-proper, covered-inside, symbol-free, place-in, length-tabulate, getD-tabulate, tabulate-same}
 use Rattle.timecode.specs.Laws.Table.{everyFormat, of-every}
 use Rattle.timecode.specs.Laws.Tests.{by-test, clash, and-left, and-right}
 use Rattle.timecode.specs.Layout.{Run, seconds, minutes, hours, days, tenths, hundredths, hasSeconds, straightSeconds, timeFields, inRun, bitOf, placeOf, isMark, rest, symbolAt, tabulate, encode, value, Small}
@@ -168,7 +168,7 @@ module _ (n : ℕ) (rests : ℕ → ℕ) (from to : ℕ) where
           (λ c l.
           let place : from + (t + c) ≡ placeOf r c = omega arith in
           ap (λ (k : ℕ). k % 2) (shr-shr m t c) ∙ later (t + c) (omega arith) ∙ ap (symbolAt zeros rs xs) place
-          ∙ symbol-free n zeros rs xs (placeOf r c) (held-once n rests rs r p (placeOf r c) (place-in r c l)))
+          ∙ symbol-free n zeros rs xs (placeOf r c) (covered-once n rests rs r p (placeOf r c) (place-in r c l)))
 
 -- ---- the elements of the frame
 
@@ -179,9 +179,9 @@ symbol-rests rests others (r ∷ rs) [] i h = h
 symbol-rests rests others (r ∷ rs) (x ∷ xs) i h = ap (cond (inRun r i) (x / 2 ^ bitOf r i % 2)) (symbol-rests rests others rs xs i h)
 
 -- a mark is in no run
-mark-free : (f : Format) → known f ≡ true → (i : ℕ) → isMark i ≡ true → held (codeRuns f) i ≡ false
+mark-free : (f : Format) → known f ≡ true → (i : ℕ) → isMark i ≡ true → covered (codeRuns f) i ≡ false
 unfolding rest
-mark-free f k i y = by-test (held (codeRuns f) i) (λ h. clash {b = true} refl (rw y at (held-inside (size f) (rest f) (codeRuns f) (code-proper f k) i h .1))) (λ m. m)
+mark-free f k i y = by-test (covered (codeRuns f) i) (λ h. clash {b = true} refl (rw y at (covered-inside (size f) (rest f) (codeRuns f) (code-proper f k) i h .1))) (λ m. m)
 
 symbol-marks : (f : Format) → known f ≡ true → (xs : List ℕ) (i : ℕ) → symbolAt (rest f) (codeRuns f) xs i ≡ cond (isMark i) 2 (symbolAt zeros (codeRuns f) xs i)
 unfolding rest

@@ -9,7 +9,7 @@ use lib.Dec.{leb, ltb}
 use lib.ListN.{getD, length, List·getD-map}
 use lib.Pow.{pow-mono}
 use Rattle.timecode.specs.Formats.{table, lookUp, rowOf, known, size, carriesControl, carriesSeconds}
-use Rattle.timecode.specs.Laws.Runs.{place-in, held-inside, held-at}
+use Rattle.timecode.specs.Laws.Runs.{place-in, covered-inside, covered-at}
 use Rattle.timecode.specs.Laws.Table.{everyFormat, of-every}
 use Rattle.timecode.specs.Laws.Tests.{and-left, and-right}
 use Rattle.timecode.specs.Layout.{Run, seconds, minutes, hours, days, tenths, hundredths, hasSeconds, straightSeconds, timeFields, rest, tabulate, value, Small, decode}
@@ -87,7 +87,7 @@ pub run-inside : (f : Format) → known f ≡ true → (j k : ℕ) → j < 18 �
 run-inside f h j k b l =
     let w : k < runAt f j .width = rw (width-at f j) at l in
     rw (start-at f j)
-    (held-inside (size f) (rest f) (codeRuns f) (code-proper f h) (runAt f j .start + k) (held-at (codeRuns f) noRun j (runAt f j .start + k) (omega (arith, length-runs f)) (place-in (runAt f j) k w)) .0)
+    (covered-inside (size f) (rest f) (codeRuns f) (code-proper f h) (runAt f j .start + k) (covered-at (codeRuns f) noRun j (runAt f j .start + k) (omega (arith, length-runs f)) (place-in (runAt f j) k w)) .0)
 
 -- ---- runs that begin before 60 begin by 50: nine bits that are moved there lose none
 

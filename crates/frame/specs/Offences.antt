@@ -12,7 +12,7 @@ use lib.ListN.{getD, length, drop, drop-of-length-le}
 use lib.Pow.{high, ones-lt, ones-split, pow-pos, shl-exact}
 use lib.Seq.{drop-cons}
 use Rattle.timecode.specs.Formats.{size}
-use Rattle.timecode.specs.Frames.{areSymbols, held, marksAgree, elementFits, checkElements}
+use Rattle.timecode.specs.Frames.{areSymbols, covered, marksAgree, elementFits, checkElements}
 use Rattle.timecode.specs.Laws.Runs.{in-run, Clean, fits-agree, getD-encode, length-encode}
 use Rattle.timecode.specs.Laws.Tests.{by-test}
 use Rattle.timecode.specs.Layout.{Run, seconds, minutes, hours, days, tenths, hundredths, straightSeconds, timeFields, inRun, bitOf, isMark, rest, runs, symbolAt, tabulate, encode, Small}
@@ -86,7 +86,7 @@ full-bit w k h =
     let above : (2 ^ (suc m + k) - 1) / 2 ^ k ≡ 2 ^ suc m - 1 = ap (λ (n : ℕ). n / 2 ^ k) (ones-split (suc m) k) ∙ high (2 ^ suc m - 1) k (ones-lt k) in
     ap (λ (n : ℕ). (2 ^ n - 1) / 2 ^ k % 2) (sym all) ∙ ap (λ (n : ℕ). n % 2) above ∙ omega (arith, two-pow-succ m, pow-pos m)
 
-ones : (rests : ℕ → ℕ) (rs : List Run) (i : ℕ) → symbolAt rests rs (greatestDigits rs) i ≡ cond (held rs i) 1 (rests i)
+ones : (rests : ℕ → ℕ) (rs : List Run) (i : ℕ) → symbolAt rests rs (greatestDigits rs) i ≡ cond (covered rs i) 1 (rests i)
 unfolding symbolAt
 ones rests [] i = refl
 ones rests (r ∷ rs) i =
@@ -110,7 +110,7 @@ pub length-shape : (f : Format) → length (shape f) ≡ 100
 unfolding shape
 length-shape f = length-encode 100 (rest f) (codeRuns f) (greatestDigits (codeRuns f))
 
-shape-at : (f : Format) (i : ℕ) → i < 100 → getD (shape f) i 0 ≡ cond (held (codeRuns f) i) 1 (rest f i)
+shape-at : (f : Format) (i : ℕ) → i < 100 → getD (shape f) i 0 ≡ cond (covered (codeRuns f) i) 1 (rest f i)
 unfolding shape
 shape-at f i h = getD-encode 100 (rest f) (codeRuns f) (greatestDigits (codeRuns f)) i h ∙ ones (rest f) (codeRuns f) i
 
@@ -120,11 +120,11 @@ rest-not-1 f i h = by-test (isMark i) (λ y. let z : _≡_ {A = ℕ} 2 1 = rw y 
 
 shape-agrees : (f : Format) (i s : ℕ) → i < 100 → agreesWith (getD (shape f) i 0) s ≡ marksAgree (rest f) (codeRuns f) i s
 unfolding agreesWith marksAgree
-shape-agrees f i s h = rw (shape-at f i h) (by-test (held (codeRuns f) i) (λ y. rw y) (λ m. rw m))
+shape-agrees f i s h = rw (shape-at f i h) (by-test (covered (codeRuns f) i) (λ y. rw y) (λ m. rw m))
 
 shape-fits : (f : Format) (i s : ℕ) → i < 100 → fitsIn (getD (shape f) i 0) s ≡ elementFits (rest f) (codeRuns f) i s
 unfolding fitsIn elementFits
-shape-fits f i s h = rw (shape-at f i h) (by-test (held (codeRuns f) i) (λ y. rw y) (λ m. rw (m, ne-eqb (rest f i) 1 (rest-not-1 f i))))
+shape-fits f i s h = rw (shape-at f i h) (by-test (covered (codeRuns f) i) (λ y. rw y) (λ m. rw (m, ne-eqb (rest f i) 1 (rest-not-1 f i))))
 
 -- ---- what the search finds is what the definition refuses
 

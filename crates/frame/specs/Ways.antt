@@ -11,7 +11,7 @@ use lib.ListN.{getD, length, length-map}
 use lib.Seq.{ext-getD}
 use Rattle.timecode.specs.Formats.{known, size}
 use Rattle.timecode.specs.Frames.{areSymbols, elementFits, readOf}
-use Rattle.timecode.specs.Laws.Runs.{getD-encode, length-encode, Clean, clean-bits, encode-clean, held-inside, small-decoded, small-length}
+use Rattle.timecode.specs.Laws.Runs.{getD-encode, length-encode, Clean, clean-bits, encode-clean, covered-inside, small-decoded, small-length}
 use Rattle.timecode.specs.Laws.Table.{size-range, two-sizes}
 use Rattle.timecode.specs.Laws.Tests.{by-test, clash}
 use Rattle.timecode.specs.Laws.Writing.{symbol-small, symbols-tabulate}
@@ -66,7 +66,7 @@ module _ (f : Format) (frame : List ℕ) (k : known f ≡ true) (n : length fram
   small-digits form binary same =
       small-decoded frame (codeRuns f)
       (λ i h.
-      let inside = held-inside (size f) (rest f) (codeRuns f) (code-proper f k) i h in
+      let inside = covered-inside (size f) (rest f) (codeRuns f) (code-proper f k) i h in
       by-test (isMark i)
       (λ y. clash {b = true} refl (rw y at (inside .1)))
       (λ m. rw (same i (omega (arith, inside .0))) (binary i (omega (arith, inside .0, size-range f)) m)))

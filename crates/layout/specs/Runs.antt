@@ -10,7 +10,7 @@ use borrow.Author.Tests.{eqb-true}
 use lib.Dec.{eqb}
 use lib.ListN.{getD, length}
 use Rattle.timecode.specs.Formats.{member, table, lookUp, rowOf, known, size, carriesControl, carriesSeconds}
-use Rattle.timecode.specs.Frames.{Valid, totalWidth, written, held, marksAgree, elementFits, checkElements}
+use Rattle.timecode.specs.Frames.{Valid, totalWidth, written, covered, marksAgree, elementFits, checkElements}
 use Rattle.timecode.specs.Laws.Fields.{Binary, binary-small}
 use Rattle.timecode.specs.Laws.Reading.{straight-binary, control-binary}
 use Rattle.timecode.specs.Laws.Runs.{in-run, proper, clear, small-append}
@@ -78,7 +78,7 @@ carriedRuns (r ∷ rs) = cond (eqb (r .width) 0) (carriedRuns rs) (r ∷ carried
 none-in : (r : Run) (i : ℕ) → r .width ≡ 0 → inRun r i ≡ false
 none-in r i h = by-test (inRun r i) (λ y. let z : ⊥ = omega (arith, in-run r i y) in absurd z) (λ m. m)
 
-held-carried : (rs : Field) (i : ℕ) → held (carriedRuns rs) i ≡ held rs i
+held-carried : (rs : Field) (i : ℕ) → covered (carriedRuns rs) i ≡ covered rs i
 held-carried [] i = refl
 held-carried (r ∷ rs) i =
     by-test (eqb (r .width) 0)
@@ -164,7 +164,7 @@ control-symbol f w i =
 
 -- ---- behind the same runs
 
-held-front : (ps rs qs : List Run) (i : ℕ) → held rs i ≡ held qs i → held (ps ++ rs) i ≡ held (ps ++ qs) i
+held-front : (ps rs qs : List Run) (i : ℕ) → covered rs i ≡ covered qs i → covered (ps ++ rs) i ≡ covered (ps ++ qs) i
 held-front [] rs qs i h = h
 held-front (p ∷ ps) rs qs i h = ap (λ (b : Bool). inRun p i || b) (held-front ps rs qs i h)
 
@@ -176,11 +176,11 @@ symbol-front rests [] rs qs (x ∷ xs) ys zs i l h = let z : ⊥ = omega arith i
 symbol-front rests (p ∷ ps) rs qs [] ys zs i l h = let z : ⊥ = omega arith in absurd z
 symbol-front rests (p ∷ ps) rs qs (x ∷ xs) ys zs i l h = ap (λ (k : ℕ). cond (inRun p i) (x / 2 ^ bitOf p i % 2) k) (symbol-front rests ps rs qs xs ys zs i (omega arith) h)
 
-pub code-held : (f : Format) (i : ℕ) → held (codeRuns f) i ≡ held (runs f) i
+pub code-held : (f : Format) (i : ℕ) → covered (codeRuns f) i ≡ covered (runs f) i
 unfolding codeRuns codeFields runs fields timeFields seconds minutes hours days tenths hundredths straightSeconds
 code-held f i =
-    let last : held (codeControl f ++ []) i ≡ held (control f ++ []) i =
-    rw (append-nil (codeControl f), append-nil (control f)) (sym (held-carried (codeControl f) i) ∙ ap (λ (rs : Field). held rs i) (same-carried f) ∙ held-carried (control f) i) in
+    let last : covered (codeControl f ++ []) i ≡ covered (control f ++ []) i =
+    rw (append-nil (codeControl f), append-nil (control f)) (sym (held-carried (codeControl f) i) ∙ ap (λ (rs : Field). covered rs i) (same-carried f) ∙ held-carried (control f) i) in
     held-front (flatten (timeFields f)) (straightSeconds f ++ (codeControl f ++ [])) (straightSeconds f ++ (control f ++ [])) i
     (held-front (straightSeconds f) (codeControl f ++ []) (control f ++ []) i last)
 

@@ -196,14 +196,14 @@ abbrev pub areSymbols : List ℕ → Bool
 areSymbols [] = true
 areSymbols (s ∷ ss) = isSymbol s && areSymbols ss
 
--- some run holds the index
-abbrev pub held : List Run → ℕ → Bool
-held [] i = false
-held (r ∷ rs) i = inRun r i || held rs i
+-- some run covers the index
+abbrev pub covered : List Run → ℕ → Bool
+covered [] i = false
+covered (r ∷ rs) i = inRun r i || covered rs i
 
 -- a mark belongs at index i: no run holds it, and a mark is what rests there
 abbrev pub markBelongs : (ℕ → ℕ) → List Run → ℕ → Bool
-markBelongs rests rs i = not (held rs i) && eqb (rests i) 2
+markBelongs rests rs i = not (covered rs i) && eqb (rests i) 2
 
 -- number 5: symbol s at index i is a mark exactly where one belongs
 unfoldable pub marksAgree : (ℕ → ℕ) → List Run → ℕ → ℕ → Bool
@@ -211,7 +211,7 @@ marksAgree rests rs i s = cond (markBelongs rests rs i) (eqb s 2) (not (eqb s 2)
 
 -- number 6: 0 or 1 in the place of a digit, SBS or control bit, and elsewhere what rests there
 unfoldable pub elementFits : (ℕ → ℕ) → List Run → ℕ → ℕ → Bool
-elementFits rests rs i s = cond (held rs i) (ltb s 2) (eqb s (rests i))
+elementFits rests rs i s = cond (covered rs i) (ltb s 2) (eqb s (rests i))
 
 -- The lowest index that offends, counted from i on, decides.
 unfoldable pub checkElements : (ℕ → ℕ) → List Run → ℕ → List ℕ → Reading → Reading

@@ -141,7 +141,7 @@ isMark i = eqb i 0 || eqb (i % 10) 9
 unfoldable pub rest : Format → ℕ → ℕ
 rest f i = cond (isMark i) 2 0
 
--- the symbol at index i: the bit of the digit whose run holds i, else what rests
+-- the symbol at index i: the bit of the digit whose run covers i, else what rests
 unfoldable pub symbolAt : (ℕ → ℕ) → List Run → List ℕ → ℕ → ℕ
 symbolAt rests [] xs i = rests i
 symbolAt rests (r ∷ rs) [] i = rests i

@@ -9,9 +9,9 @@ use borrow.Author.Tests.{eqb-true, eq-eqb}
 use lib.Dec.{eqb}
 use lib.ListN.{getD, length}
 use Rattle.timecode.specs.Formats.{size}
-use Rattle.timecode.specs.Frames.{held, written, readOf, Valid}
+use Rattle.timecode.specs.Frames.{covered, written, readOf, Valid}
 use Rattle.timecode.specs.Laws.Reading.{accepted-was-written}
-use Rattle.timecode.specs.Laws.Runs.{getD-encode, held-inside, small-length, symbol-free, symbol-held}
+use Rattle.timecode.specs.Laws.Runs.{getD-encode, covered-inside, small-length, symbol-free, symbol-covered}
 use Rattle.timecode.specs.Laws.Table.{two-sizes, layout-proper}
 use Rattle.timecode.specs.Laws.Tests.{by-test, clash, or-other}
 use Rattle.timecode.specs.Laws.Writing.{length-written, written-small}
@@ -43,16 +43,16 @@ pub mark-there : (f : Format) (t : Time) (w : ℕ) → Valid f t w → (i : ℕ)
 mark-there f t w v i h m =
     let xs = spread (fields f) (numbers t w) in
     at-written f t w i h
-    ∙ by-test (held (runs f) i)
-    (λ y. clash (eq-eqb (rest f i) 2 (rest-mark f i m)) (held-inside (size f) (rest f) (runs f) (layout-proper f (v .format)) i y .1))
+    ∙ by-test (covered (runs f) i)
+    (λ y. clash (eq-eqb (rest f i) 2 (rest-mark f i m)) (covered-inside (size f) (rest f) (runs f) (layout-proper f (v .format)) i y .1))
     (λ n. symbol-free (size f) (rest f) (runs f) xs i n ∙ rest-mark f i m)
 
 pub mark-only : (f : Format) (t : Time) (w : ℕ) → Valid f t w → (i : ℕ) → i < size f → getD (written f t w) i 0 ≡ 2 → isMark i ≡ true
 mark-only f t w v i h k =
     let xs = spread (fields f) (numbers t w) in
     let s : symbolAt (rest f) (runs f) xs i ≡ 2 = sym (at-written f t w i h) ∙ k in
-    by-test (held (runs f) i)
-    (λ y. let n : ⊥ = omega (arith, s, symbol-held (size f) (rest f) (runs f) xs (small-length (runs f) xs (written-small f t w v)) i y) in absurd n)
+    by-test (covered (runs f) i)
+    (λ y. let n : ⊥ = omega (arith, s, symbol-covered (size f) (rest f) (runs f) xs (small-length (runs f) xs (written-small f t w v)) i y) in absurd n)
     (λ n. mark-rest f i (sym (symbol-free (size f) (rest f) (runs f) xs i n) ∙ s))
 
 pub mark-index : (i : ℕ) → isMark i ≡ true → (i ≡ 0) ⊎ (i % 10 ≡ 9)

@@ -10,7 +10,7 @@ use borrow.Author.Tests.{ltb-true, leb-true, eqb-true, not-true, lt-ltb, le-leb,
 use lib.Dec.{leb, ltb, eqb}
 use lib.ListN.{getD, length, take, set}
 use lib.Seq.{ext-getD, take-suc-set, take-length}
-use Rattle.timecode.specs.Frames.{held, marksAgree, elementFits}
+use Rattle.timecode.specs.Frames.{covered, marksAgree, elementFits}
 use Rattle.timecode.specs.Laws.Bits.{value-of-bits, value-small, bits-of-value}
 use Rattle.timecode.specs.Laws.Tests.{by-test, clash, and-left, and-right, or-other, or-first, or-second, neither-first, neither-second}
 use Rattle.timecode.specs.Layout.{Run, inRun, bitOf, placeOf, symbolAt, tabulate, encode, Small, decode}
@@ -84,7 +84,7 @@ place-of-bit r i h = let p = in-run r i h in omega arith
 
 unfoldable pub clear : ℕ → (ℕ → ℕ) → List Run → ℕ → ℕ → Bool
 clear n rests rs i zero = true
-clear n rests rs i (suc w) = (ltb i n && (not (eqb (rests i) 2) && not (held rs i))) && clear n rests rs (suc i) w
+clear n rests rs i (suc w) = (ltb i n && (not (eqb (rests i) 2) && not (covered rs i))) && clear n rests rs (suc i) w
 
 unfoldable pub proper : ℕ → (ℕ → ℕ) → List Run → Bool
 proper n rests [] = true
@@ -104,21 +104,21 @@ small-append (r ∷ rs) qs (x ∷ xs) ys a b = (a .0, small-append rs qs xs ys (
 
 module _ (n : ℕ) (rests : ℕ → ℕ) where
   Clear : List Run → ℕ → Type 0
-  Clear rs i = (i < n) × (eqb (rests i) 2 ≡ false) × (held rs i ≡ false)
+  Clear rs i = (i < n) × (eqb (rests i) 2 ≡ false) × (covered rs i ≡ false)
 
   clear-at : (rs : List Run) (s w : ℕ) → clear n rests rs s w ≡ true → (b : ℕ) → b < w → Clear rs (s + b)
   unfolding clear Clear
   clear-at rs s zero t b h = absurd (not-suc-le-zero h)
   clear-at rs s (suc w) t zero h =
-      let here = and-left (ltb s n && (not (eqb (rests s) 2) && not (held rs s))) (clear n rests rs (suc s) w) t in
-      let free = and-right (ltb s n) (not (eqb (rests s) 2) && not (held rs s)) here in
+      let here = and-left (ltb s n && (not (eqb (rests s) 2) && not (covered rs s))) (clear n rests rs (suc s) w) t in
+      let free = and-right (ltb s n) (not (eqb (rests s) 2) && not (covered rs s)) here in
       rw (add-zero s) (
-        ltb-true s n (and-left (ltb s n) (not (eqb (rests s) 2) && not (held rs s)) here),
-        not-true (eqb (rests s) 2) (and-left (not (eqb (rests s) 2)) (not (held rs s)) free),
-        not-true (held rs s) (and-right (not (eqb (rests s) 2)) (not (held rs s)) free),
+        ltb-true s n (and-left (ltb s n) (not (eqb (rests s) 2) && not (covered rs s)) here),
+        not-true (eqb (rests s) 2) (and-left (not (eqb (rests s) 2)) (not (covered rs s)) free),
+        not-true (covered rs s) (and-right (not (eqb (rests s) 2)) (not (covered rs s)) free),
       )
   clear-at rs s (suc w) t (suc b) h =
-      rw (add-suc s b, ← suc-add s b) (clear-at rs (suc s) w (and-right (ltb s n && (not (eqb (rests s) 2) && not (held rs s))) (clear n rests rs (suc s) w) t) b (omega arith))
+      rw (add-suc s b, ← suc-add s b) (clear-at rs (suc s) w (and-right (ltb s n && (not (eqb (rests s) 2) && not (covered rs s))) (clear n rests rs (suc s) w) t) b (omega arith))
 
   clear-in : (rs : List Run) (r : Run) → proper n rests (r ∷ rs) ≡ true → (i : ℕ) → inRun r i ≡ true → Clear rs i
   unfolding proper
@@ -131,21 +131,21 @@ module _ (n : ℕ) (rests : ℕ → ℕ) where
   later-proper rs r t = and-right (clear n rests rs (r .start) (r .width)) (proper n rests rs) t
 
   -- no later run holds an element of this one
-  pub held-once : (rs : List Run) (r : Run) → proper n rests (r ∷ rs) ≡ true → (i : ℕ) → inRun r i ≡ true → held rs i ≡ false
+  pub covered-once : (rs : List Run) (r : Run) → proper n rests (r ∷ rs) ≡ true → (i : ℕ) → inRun r i ≡ true → covered rs i ≡ false
   unfolding Clear
-  held-once rs r t i h = clear-in rs r t i h .2
+  covered-once rs r t i h = clear-in rs r t i h .2
 
-  pub held-inside : (rs : List Run) → proper n rests rs ≡ true → (i : ℕ) → held rs i ≡ true → (i < n) × (eqb (rests i) 2 ≡ false)
+  pub covered-inside : (rs : List Run) → proper n rests rs ≡ true → (i : ℕ) → covered rs i ≡ true → (i < n) × (eqb (rests i) 2 ≡ false)
   unfolding Clear
-  held-inside [] t i h = clash h refl
-  held-inside (r ∷ rs) t i h =
+  covered-inside [] t i h = clash h refl
+  covered-inside (r ∷ rs) t i h =
       by-test (inRun r i)
       (λ y. let a = clear-in rs r t i y in (a .0, a .1))
-      (λ m. held-inside rs (later-proper rs r t) i (or-other (inRun r i) (held rs i) m h))
+      (λ m. covered-inside rs (later-proper rs r t) i (or-other (inRun r i) (covered rs i) m h))
 
   -- ---- digits to frame to digits
 
-  read-back : (frame : List ℕ) (rs : List Run) (xs : List ℕ) → proper n rests rs ≡ true → Small rs xs → ((i : ℕ) → held rs i ≡ true → getD frame i 0 ≡ symbolAt rests rs xs i) → decode rs frame ≡ xs
+  read-back : (frame : List ℕ) (rs : List Run) (xs : List ℕ) → proper n rests rs ≡ true → Small rs xs → ((i : ℕ) → covered rs i ≡ true → getD frame i 0 ≡ symbolAt rests rs xs i) → decode rs frame ≡ xs
   unfolding symbolAt Clear
   read-back frame [] [] t s h = refl
   read-back frame [] (x ∷ xs) t s h = absurd s
@@ -155,39 +155,39 @@ module _ (n : ℕ) (rests : ℕ → ℕ) where
       (value-of-bits (r .width) (λ b. getD frame (placeOf r b) 0) x
       (λ b l.
       let y = place-in r b l in
-      h (placeOf r b) (or-first (inRun r (placeOf r b)) (held rs (placeOf r b)) y) ∙ rw (y, bit-of-place r b))
+      h (placeOf r b) (or-first (inRun r (placeOf r b)) (covered rs (placeOf r b)) y) ∙ rw (y, bit-of-place r b))
       ∙ mod-eq-of-lt (s .0))
       (read-back frame rs xs (later-proper rs r t) (s .1)
       (λ i k.
       let m : inRun r i ≡ false = by-test (inRun r i) (λ y. clash k (clear-in rs r t i y .2)) (λ m. m) in
-      h i (or-second (inRun r i) (held rs i) k) ∙ rw m))
+      h i (or-second (inRun r i) (covered rs i) k) ∙ rw m))
 
   pub decode-encode : (rs : List Run) (xs : List ℕ) → proper n rests rs ≡ true → Small rs xs → decode rs (encode n rests rs xs) ≡ xs
-  decode-encode rs xs t s = read-back (encode n rests rs xs) rs xs t s (λ i k. getD-encode n rests rs xs i (held-inside rs t i k .0))
+  decode-encode rs xs t s = read-back (encode n rests rs xs) rs xs t s (λ i k. getD-encode n rests rs xs i (covered-inside rs t i k .0))
 
   -- ---- frame to digits to frame
 
-  pub symbol-free : (rs : List Run) (xs : List ℕ) (i : ℕ) → held rs i ≡ false → symbolAt rests rs xs i ≡ rests i
+  pub symbol-free : (rs : List Run) (xs : List ℕ) (i : ℕ) → covered rs i ≡ false → symbolAt rests rs xs i ≡ rests i
   unfolding symbolAt
   symbol-free [] xs i h = refl
   symbol-free (r ∷ rs) [] i h = refl
-  symbol-free (r ∷ rs) (x ∷ xs) i h = rw (neither-first (inRun r i) (held rs i) h) (symbol-free rs xs i (neither-second (inRun r i) (held rs i) h))
+  symbol-free (r ∷ rs) (x ∷ xs) i h = rw (neither-first (inRun r i) (covered rs i) h) (symbol-free rs xs i (neither-second (inRun r i) (covered rs i) h))
 
-  pub symbol-held : (rs : List Run) (xs : List ℕ) → length xs ≡ length rs → (i : ℕ) → held rs i ≡ true → symbolAt rests rs xs i < 2
+  pub symbol-covered : (rs : List Run) (xs : List ℕ) → length xs ≡ length rs → (i : ℕ) → covered rs i ≡ true → symbolAt rests rs xs i < 2
   unfolding symbolAt
-  symbol-held [] xs l i h = clash h refl
-  symbol-held (r ∷ rs) [] l i h = let n : ⊥ = omega arith in absurd n
-  symbol-held (r ∷ rs) (x ∷ xs) l i h = by-test (inRun r i) (λ y. rw y (omega arith)) (λ m. rw m (symbol-held rs xs (omega arith) i (or-other (inRun r i) (held rs i) m h)))
+  symbol-covered [] xs l i h = clash h refl
+  symbol-covered (r ∷ rs) [] l i h = let n : ⊥ = omega arith in absurd n
+  symbol-covered (r ∷ rs) (x ∷ xs) l i h = by-test (inRun r i) (λ y. rw y (omega arith)) (λ m. rw m (symbol-covered rs xs (omega arith) i (or-other (inRun r i) (covered rs i) m h)))
 
   -- every element of the frame fits its place, so that none offends
   abbrev pub Clean : List Run → List ℕ → Type 0
   Clean rs frame = (i : ℕ) → i < n → elementFits rests rs i (getD frame i 0) ≡ true
 
-  clean-held : (rs : List Run) (i s : ℕ) → elementFits rests rs i s ≡ true → held rs i ≡ true → s < 2
+  clean-covered : (rs : List Run) (i s : ℕ) → elementFits rests rs i s ≡ true → covered rs i ≡ true → s < 2
   unfolding elementFits
-  clean-held rs i s h y = ltb-true s 2 (rw y at h)
+  clean-covered rs i s h y = ltb-true s 2 (rw y at h)
 
-  clean-free : (rs : List Run) (i s : ℕ) → elementFits rests rs i s ≡ true → held rs i ≡ false → s ≡ rests i
+  clean-free : (rs : List Run) (i s : ℕ) → elementFits rests rs i s ≡ true → covered rs i ≡ false → s ≡ rests i
   unfolding elementFits
   clean-free rs i s h y = eqb-true s (rests i) (rw y at h)
 
@@ -195,16 +195,16 @@ module _ (n : ℕ) (rests : ℕ → ℕ) where
   pub fits-agree : (rs : List Run) (i s : ℕ) → elementFits rests rs i s ≡ true → marksAgree rests rs i s ≡ true
   unfolding marksAgree
   fits-agree rs i s h =
-      by-test (held rs i)
-      (λ y. let b : s < 2 = clean-held rs i s h y in rw (y, ne-eqb s 2 (λ e. omega arith)))
+      by-test (covered rs i)
+      (λ y. let b : s < 2 = clean-covered rs i s h y in rw (y, ne-eqb s 2 (λ e. omega arith)))
       (λ m.
       rw (m, ← clean-free rs i s h m)
       (by-test (eqb s 2) (λ u. rw u) (λ u. rw u)))
 
-  pub clean-bits : (rs : List Run) (frame : List ℕ) → proper n rests rs ≡ true → Clean rs frame → (i : ℕ) → held rs i ≡ true → getD frame i 0 < 2
-  clean-bits rs frame t c i h = clean-held rs i (getD frame i 0) (c i (held-inside rs t i h .0)) h
+  pub clean-bits : (rs : List Run) (frame : List ℕ) → proper n rests rs ≡ true → Clean rs frame → (i : ℕ) → covered rs i ≡ true → getD frame i 0 < 2
+  clean-bits rs frame t c i h = clean-covered rs i (getD frame i 0) (c i (covered-inside rs t i h .0)) h
 
-  symbol-decoded : (frame : List ℕ) (rs : List Run) → ((i : ℕ) → held rs i ≡ true → getD frame i 0 < 2) → (i : ℕ) → held rs i ≡ true → symbolAt rests rs (decode rs frame) i ≡ getD frame i 0
+  symbol-decoded : (frame : List ℕ) (rs : List Run) → ((i : ℕ) → covered rs i ≡ true → getD frame i 0 < 2) → (i : ℕ) → covered rs i ≡ true → symbolAt rests rs (decode rs frame) i ≡ getD frame i 0
   unfolding symbolAt
   symbol-decoded frame [] b i h = clash h refl
   symbol-decoded frame (r ∷ rs) b i h =
@@ -212,9 +212,9 @@ module _ (n : ℕ) (rests : ℕ → ℕ) where
       (λ y.
       let p = place-of-bit r i y in
       rw y
-      (bits-of-value (r .width) (λ k. getD frame (placeOf r k) 0) (λ k l. b (placeOf r k) (or-first (inRun r (placeOf r k)) (held rs (placeOf r k)) (place-in r k l))) (bitOf r i) (p .1)
+      (bits-of-value (r .width) (λ k. getD frame (placeOf r k) 0) (λ k l. b (placeOf r k) (or-first (inRun r (placeOf r k)) (covered rs (placeOf r k)) (place-in r k l))) (bitOf r i) (p .1)
       ∙ ap (λ (k : ℕ). getD frame k 0) (p .0)))
-      (λ m. rw m (symbol-decoded frame rs (λ k l. b k (or-second (inRun r k) (held rs k) l)) i (or-other (inRun r i) (held rs i) m h)))
+      (λ m. rw m (symbol-decoded frame rs (λ k l. b k (or-second (inRun r k) (covered rs k) l)) i (or-other (inRun r i) (covered rs i) m h)))
 
   pub encode-decode : (rs : List Run) (frame : List ℕ) → proper n rests rs ≡ true → length frame ≡ n → Clean rs frame → encode n rests rs (decode rs frame) ≡ frame
   encode-decode rs frame t l c =
@@ -222,7 +222,7 @@ module _ (n : ℕ) (rests : ℕ → ℕ) where
       (λ i h.
       let k : i < n = rw (length-encode n rests rs (decode rs frame)) at h in
       getD-encode n rests rs (decode rs frame) i k
-      ∙ by-test (held rs i)
+      ∙ by-test (covered rs i)
       (λ y. symbol-decoded frame rs (clean-bits rs frame t c) i y)
       (λ m. symbol-free rs (decode rs frame) i m ∙ sym (clean-free rs i (getD frame i 0) (c i k) m)))
 
@@ -230,15 +230,15 @@ module _ (n : ℕ) (rests : ℕ → ℕ) where
   unfolding elementFits
   encode-clean rs xs l i h =
       rw (getD-encode n rests rs xs i h)
-      (by-test (held rs i)
-      (λ y. rw (y, lt-ltb (symbolAt rests rs xs i) 2 (symbol-held rs xs l i y)))
+      (by-test (covered rs i)
+      (λ y. rw (y, lt-ltb (symbolAt rests rs xs i) 2 (symbol-covered rs xs l i y)))
       (λ m. rw (m, eq-eqb (symbolAt rests rs xs i) (rests i) (symbol-free rs xs i m))))
 
-pub small-decoded : (frame : List ℕ) (rs : List Run) → ((i : ℕ) → held rs i ≡ true → getD frame i 0 < 2) → Small rs (decode rs frame)
+pub small-decoded : (frame : List ℕ) (rs : List Run) → ((i : ℕ) → covered rs i ≡ true → getD frame i 0 < 2) → Small rs (decode rs frame)
 small-decoded frame [] b = tt
 small-decoded frame (r ∷ rs) b = (
-  value-small (r .width) (λ k. getD frame (placeOf r k) 0) (λ k l. b (placeOf r k) (or-first (inRun r (placeOf r k)) (held rs (placeOf r k)) (place-in r k l))),
-  small-decoded frame rs (λ i h. b i (or-second (inRun r i) (held rs i) h)),
+  value-small (r .width) (λ k. getD frame (placeOf r k) 0) (λ k l. b (placeOf r k) (or-first (inRun r (placeOf r k)) (covered rs (placeOf r k)) (place-in r k l))),
+  small-decoded frame rs (λ i h. b i (or-second (inRun r i) (covered rs i) h)),
 )
 
 pub small-front : (frame : List ℕ) (rs qs : List Run) → Small (rs ++ qs) (decode (rs ++ qs) frame) → Small rs (decode rs frame)
@@ -249,8 +249,8 @@ pub small-back : (frame : List ℕ) (rs qs : List Run) → Small (rs ++ qs) (dec
 small-back frame [] qs s = s
 small-back frame (r ∷ rs) qs s = small-back frame rs qs (s .1)
 
--- an index of one of the runs is held
-pub held-at : (rs : List Run) (none : Run) (j i : ℕ) → j < length rs → inRun (getD rs j none) i ≡ true → held rs i ≡ true
-held-at [] none j i h y = absurd (not-suc-le-zero h)
-held-at (r ∷ rs) none zero i h y = or-first (inRun r i) (held rs i) y
-held-at (r ∷ rs) none (suc j) i h y = or-second (inRun r i) (held rs i) (held-at rs none j i (omega arith) y)
+-- an index of one of the runs is covered
+pub covered-at : (rs : List Run) (none : Run) (j i : ℕ) → j < length rs → inRun (getD rs j none) i ≡ true → covered rs i ≡ true
+covered-at [] none j i h y = absurd (not-suc-le-zero h)
+covered-at (r ∷ rs) none zero i h y = or-first (inRun r i) (covered rs i) y
+covered-at (r ∷ rs) none (suc j) i h y = or-second (inRun r i) (covered rs i) (covered-at rs none j i (omega arith) y)
