@@ -7,7 +7,7 @@ use Rattle.timecode.specs.Calls.{symbolOf, isInterval}
 use Rattle.timecode.specs.Demand3.{Demand3, SameAnswers, demand-3, two-readers}
 use Rattle.timecode.specs.Formats.{known}
 use Rattle.timecode.specs.Laws.Tests.{by-test}
-use Rattle.timecode.specs.Stream.{plainAnswers, plainHeld, elementsOf, SameWindow}
+use Rattle.timecode.specs.Stream.{plainAnswers, plainReceived, elementsOf, SameWindow}
 use Rattle.timecode.specs.declared.Answer.{Answer}
 use Rattle.timecode.specs.declared.Format.{Format}
 use Rattle.stream.specs.FeedLists.{answers-append, reader-append}
@@ -73,29 +73,29 @@ reader-is-fed r (c ∷ cs) =
 -- ---- from a fresh reader
 
 -- The plain machine's block takes symbols that it accepts, puts in their reports with their indexes, and stops where all are taken, where the machine refuses or where no room is left.
-pub plain-block-takes : (f : Format) (held ss : List ℕ) (l : Lists) → Takes 0 (roomIn l) (plainAnswers f held ss) (plainBlock f held ss l)
-plain-block-takes f held ss l = block-takes 0 (roomIn l) (plainAnswers f held ss)
+pub plain-block-takes : (f : Format) (received ss : List ℕ) (l : Lists) → Takes 0 (roomIn l) (plainAnswers f received ss) (plainBlock f received ss l)
+plain-block-takes f received ss l = block-takes 0 (roomIn l) (plainAnswers f received ss)
 
 module _ (f : Format) (k : known f ≡ true) where
-  call-plain : (r : Reader) (held : List ℕ) (c : Call) → Hears f r held → resultOf r c ≡ plainResult f held c
+  call-plain : (r : Reader) (received : List ℕ) (c : Call) → Hears f r received → resultOf r c ≡ plainResult f received c
   unfolding feedPulseOf feedBlockOf blockAnswer blockFor fieldLeft
-  call-plain r held (symbol s) h = ap (symbolResult s) (feed-hears f r held s k h .0)
-  call-plain r held (symbolInPlace s) h = ap (inPlaceResult s) (feed-hears f r held s k h .0)
-  call-plain r held (pulse T width period) h = by-test (isInterval T) (λ y. rw y (ap (pulseResult T width period) (feed-hears f r held (symbolOf T width period) k h .0))) (λ n. rw n)
-  call-plain r held (block ss l) h =
-      rw (hears-valid f r held k h, answers-plain f k r held ss h)
+  call-plain r received (symbol s) h = ap (symbolResult s) (feed-hears f r received s k h .0)
+  call-plain r received (symbolInPlace s) h = ap (inPlaceResult s) (feed-hears f r received s k h .0)
+  call-plain r received (pulse T width period) h = by-test (isInterval T) (λ y. rw y (ap (pulseResult T width period) (feed-hears f r received (symbolOf T width period) k h .0))) (λ n. rw n)
+  call-plain r received (block ss l) h =
+      rw (hears-valid f r received k h, answers-plain f k r received ss h)
       (by-test (areRecords l) (λ y. rw y) (λ n. rw n))
 
-  results-plain : (r : Reader) (held : List ℕ) (cs : List Call) → Hears f r held → results r cs ≡ plainResults f held cs
+  results-plain : (r : Reader) (received : List ℕ) (cs : List Call) → Hears f r received → results r cs ≡ plainResults f received cs
   unfolding results plainResults
-  results-plain r held [] h = refl
-  results-plain r held (c ∷ cs) h =
-      let same = call-plain r held c h in
-      let fed = hears-after f k r held (symbolsFed (resultOf r c)) h in
-      let next : Hears f (readerOf r c) (plainHeld f held (symbolsFed (plainResult f held c))) =
-      subst (λ (q : Reader). Hears f q (plainHeld f held (symbolsFed (plainResult f held c)))) (sym (call-reader r c))
-      (subst (λ (x : Result). Hears f (readerAfter r (symbolsFed (resultOf r c))) (plainHeld f held (symbolsFed x))) same fed) in
-      ap₂ (λ (x : Result) (xs : List Result). x ∷ xs) same (results-plain (readerOf r c) (plainHeld f held (symbolsFed (plainResult f held c))) cs next)
+  results-plain r received [] h = refl
+  results-plain r received (c ∷ cs) h =
+      let same = call-plain r received c h in
+      let fed = hears-after f k r received (symbolsFed (resultOf r c)) h in
+      let next : Hears f (readerOf r c) (plainReceived f received (symbolsFed (plainResult f received c))) =
+      subst (λ (q : Reader). Hears f q (plainReceived f received (symbolsFed (plainResult f received c)))) (sym (call-reader r c))
+      (subst (λ (x : Result). Hears f (readerAfter r (symbolsFed (resultOf r c))) (plainReceived f received (symbolsFed x))) same fed) in
+      ap₂ (λ (x : Result) (xs : List Result). x ∷ xs) same (results-plain (readerOf r c) (plainReceived f received (symbolsFed (plainResult f received c))) cs next)
 
   -- Of any list of calls in any mix: each result is the plain machine's, the answers are the plain machine's to the symbols fed, and the reader afterwards is the one that single Feeds of these give.
   pub record ArePlain (cs : List Call) : Type 0 where

@@ -4,7 +4,7 @@ use mathlib.Core.List.{List, [], _∷_, _++_}
 use Prim.Native.Nat.{ℕ}
 use lib.ListN.{length, take}
 use Rattle.timecode.specs.Calls.{symbolOf, isInterval}
-use Rattle.timecode.specs.Stream.{plainFeed, plainAnswers, plainHeld}
+use Rattle.timecode.specs.Stream.{plainFeed, plainAnswers, plainReceived}
 use Rattle.timecode.specs.declared.Answer.{Answer}
 use Rattle.timecode.specs.declared.Format.{Format}
 use Rattle.timecode.specs.declared.Refusal.the-variants.{WrongLength, InvalidInterval}
@@ -80,17 +80,17 @@ readerAfterCalls r (c ∷ cs) = readerAfterCalls (readerOf r c) cs
 
 -- the block stops before the first symbol that the machine refuses or whose report would not fit
 abbrev pub plainBlock : Format → List ℕ → List ℕ → Lists → Block
-plainBlock f held ss l = blockIn 0 (roomIn l) (plainAnswers f held ss)
+plainBlock f received ss l = blockIn 0 (roomIn l) (plainAnswers f received ss)
 
 abbrev pub plainResult : Format → List ℕ → Call → Result
-plainResult f held (symbol s) = symbolResult s (plainFeed f held s .answer)
-plainResult f held (symbolInPlace s) = inPlaceResult s (plainFeed f held s .answer)
-plainResult f held (pulse T width period) = pulseResult T width period (cond (isInterval T) (plainFeed f held (symbolOf T width period) .answer) (Answer.Refused InvalidInterval))
-plainResult f held (block ss l) =
+plainResult f received (symbol s) = symbolResult s (plainFeed f received s .answer)
+plainResult f received (symbolInPlace s) = inPlaceResult s (plainFeed f received s .answer)
+plainResult f received (pulse T width period) = pulseResult T width period (cond (isInterval T) (plainFeed f received (symbolOf T width period) .answer) (Answer.Refused InvalidInterval))
+plainResult f received (block ss l) =
     cond (areRecords l)
-    (blockResult ss l (BlockAnswer.Taken (plainBlock f held ss l .taken) (length (plainBlock f held ss l .reports)) (plainBlock f held ss l .stop)) (listsLeft (plainBlock f held ss l) l))
+    (blockResult ss l (BlockAnswer.Taken (plainBlock f received ss l .taken) (length (plainBlock f received ss l .reports)) (plainBlock f received ss l .stop)) (listsLeft (plainBlock f received ss l) l))
     (blockResult ss l (BlockAnswer.Refused WrongLength) l)
 
 unfoldable pub plainResults : Format → List ℕ → List Call → List Result
-plainResults f held [] = []
-plainResults f held (c ∷ cs) = plainResult f held c ∷ plainResults f (plainHeld f held (symbolsFed (plainResult f held c))) cs
+plainResults f received [] = []
+plainResults f received (c ∷ cs) = plainResult f received c ∷ plainResults f (plainReceived f received (symbolsFed (plainResult f received c))) cs

@@ -51,13 +51,13 @@ module _ (f : Format) (held : List ℕ) (i : ℕ) (t : Time) (w : ℕ) (h : i < 
   before-long : length (e .before) + (2 * size f + 1) ≡ suc i
   before-long =
       let n : length (take (suc i) held) ≡ length (e .before) + suc (length (e .first) + length (e .second)) =
-      ap length (e .held-is) ∙ length-append (e .before) (2 ∷ (e .first ++ e .second)) ∙ ap (λ (k : ℕ). length (e .before) + suc k) (length-append (e .first) (e .second)) in
+      ap length (e .received-is) ∙ length-append (e .before) (2 ∷ (e .first ++ e .second)) ∙ ap (λ (k : ℕ). length (e .before) + suc k) (length-append (e .first) (e .second)) in
       omega (arith, n, length-take-le (suc i) held h, first-long, second-long)
 
   frames-at : (k : ℕ) → k < 2 * size f → getD held (length (e .before) + suc k) 0 ≡ getD (e .first ++ e .second) k 0
   frames-at k b =
       sym (getD-take (suc i) held (length (e .before) + suc k) 0 (omega (arith, before-long)))
-      ∙ ap (λ (xs : List ℕ). getD xs (length (e .before) + suc k) 0) (e .held-is)
+      ∙ ap (λ (xs : List ℕ). getD xs (length (e .before) + suc k) 0) (e .received-is)
       ∙ getD-append-add (e .before) (2 ∷ (e .first ++ e .second)) (suc k) 0
 
   -- the symbol at index k of the first frame and of the second

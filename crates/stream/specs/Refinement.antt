@@ -16,7 +16,7 @@ use Rattle.timecode.specs.Laws.Machine.{feed-accepts, feed-refuses, answer-long
 use Rattle.timecode.specs.Laws.Marks.{size-positive}
 use Rattle.timecode.specs.Laws.Table.{size-range}
 use Rattle.timecode.specs.Laws.Tests.{by-test, everyBelow, below-every}
-use Rattle.timecode.specs.Stream.{windowLength, windowAnswer, lastOf, plainAnswer, plainFeed, plainAnswers, plainHeld, elementsOf, SameWindow}
+use Rattle.timecode.specs.Stream.{windowLength, windowAnswer, lastOf, plainAnswer, plainFeed, plainAnswers, plainReceived, elementsOf, SameWindow}
 use Rattle.timecode.specs.declared.Answer.{Answer}
 use Rattle.timecode.specs.declared.Answer.the-variants.{Quiet}
 use Rattle.timecode.specs.declared.Format.{Format}
@@ -39,10 +39,10 @@ readerAfter r (s ∷ ss) = readerAfter (feedOf r s .reader) ss
 -- ---- the register shows the list from its end, and spoiled symbols before its beginning
 
 abbrev pub backIn : List ℕ → ℕ → ℕ
-backIn held back = cond (ltb back (length held)) (getD held (length held - 1 - back) 0) 3
+backIn received back = cond (ltb back (length received)) (getD received (length received - 1 - back) 0) 3
 
 abbrev pub Shows : Register → List ℕ → Type 0
-Shows r held = (back : ℕ) → back < 224 → heardAt (wordsOf r) back ≡ backIn held back
+Shows r received = (back : ℕ) → back < 224 → heardAt (wordsOf r) back ≡ backIn received back
 
 all-spoiled : everyBelow 224 (λ back. eqb (heardAt (wordsOf silence) back) 3) ≡ true
 unfolding heardAt
@@ -52,98 +52,98 @@ silence-shows : Shows silence []
 silence-shows back b =
     eqb-true (heardAt (wordsOf silence) back) 3 (below-every 224 (λ back. eqb (heardAt (wordsOf silence) back) 3) all-spoiled back b) ∙ rw (le-ltb back 0 (omega arith))
 
-pub push-shows : (r : Register) (held : List ℕ) (s : ℕ) → s ≤ 3 → Shows r held → Shows (pushOf r s) (held ++ (s ∷ []))
-push-shows r held s b h zero l =
-    let n : length (held ++ (s ∷ [])) ≡ length held + 1 = length-append held (s ∷ []) in
-    let last : length held + 1 - 1 - 0 ≡ length held + 0 = omega arith in
-    heard-newest r s ∙ rw (n, lt-ltb 0 (length held + 1) (omega arith), last) (omega (arith, getD-append-add held (s ∷ []) 0 0))
-push-shows r held s b h (suc back) l =
-    let n : length (held ++ (s ∷ [])) ≡ length held + 1 = length-append held (s ∷ []) in
-    let same : length held + 1 - 1 - suc back ≡ length held - 1 - back = omega arith in
+pub push-shows : (r : Register) (received : List ℕ) (s : ℕ) → s ≤ 3 → Shows r received → Shows (pushOf r s) (received ++ (s ∷ []))
+push-shows r received s b h zero l =
+    let n : length (received ++ (s ∷ [])) ≡ length received + 1 = length-append received (s ∷ []) in
+    let last : length received + 1 - 1 - 0 ≡ length received + 0 = omega arith in
+    heard-newest r s ∙ rw (n, lt-ltb 0 (length received + 1) (omega arith), last) (omega (arith, getD-append-add received (s ∷ []) 0 0))
+push-shows r received s b h (suc back) l =
+    let n : length (received ++ (s ∷ [])) ≡ length received + 1 = length-append received (s ∷ []) in
+    let same : length received + 1 - 1 - suc back ≡ length received - 1 - back = omega arith in
     heard-earlier r s back l
     ∙ h back (omega arith)
     ∙ rw (n, same)
-    (by-test (ltb back (length held))
+    (by-test (ltb back (length received))
     (λ y.
-    let below = ltb-true back (length held) y in
-    rw (y, lt-ltb (suc back) (length held + 1) (omega arith)) (sym (List·getD-append held (s ∷ []) 0 (length held - 1 - back) (omega arith))))
-    (λ m. let above = ltb-false back (length held) m in rw (m, le-ltb (suc back) (length held + 1) (omega arith))))
+    let below = ltb-true back (length received) y in
+    rw (y, lt-ltb (suc back) (length received + 1) (omega arith)) (sym (List·getD-append received (s ∷ []) 0 (length received - 1 - back) (omega arith))))
+    (λ m. let above = ltb-false back (length received) m in rw (m, le-ltb (suc back) (length received + 1) (omega arith))))
 
 -- ---- then its window is the plain machine's, or begins with a spoiled symbol where that has none
 
-shown-window : (f : Format) (r : Register) (held : List ℕ) → Shows r held → windowLength f ≤ length held → windowIn f (wordsOf r) ≡ lastOf (windowLength f) held
+shown-window : (f : Format) (r : Register) (received : List ℕ) → Shows r received → windowLength f ≤ length received → windowIn f (wordsOf r) ≡ lastOf (windowLength f) received
 unfolding windowLength lastOf
-shown-window f r held h l =
-    ext-getD 0 (windowIn f (wordsOf r)) (drop (length held - (2 * size f + 1)) held) (length-window f (wordsOf r) ∙ sym (length-drop (length held - (2 * size f + 1)) held ∙ omega arith))
+shown-window f r received h l =
+    ext-getD 0 (windowIn f (wordsOf r)) (drop (length received - (2 * size f + 1)) received) (length-window f (wordsOf r) ∙ sym (length-drop (length received - (2 * size f + 1)) received ∙ omega arith))
     (λ i m.
     let k : i < 2 * size f + 1 = omega (arith, length-window f (wordsOf r)) in
     let back : i + (2 * size f - i) ≡ 2 * size f = omega arith in
     window-at f (wordsOf r) i (2 * size f - i) back
     ∙ h (2 * size f - i) (omega (arith, size-range f))
-    ∙ rw (lt-ltb (2 * size f - i) (length held) (omega arith)) (ap (λ (j : ℕ). getD held j 0) (omega arith) ∙ sym (getD-drop (length held - (2 * size f + 1)) held i 0)))
+    ∙ rw (lt-ltb (2 * size f - i) (length received) (omega arith)) (ap (λ (j : ℕ). getD received j 0) (omega arith) ∙ sym (getD-drop (length received - (2 * size f + 1)) received i 0)))
 
-short-window : (f : Format) (r : Register) (held : List ℕ) → Shows r held → length held < windowLength f → windowAnswer f (windowIn f (wordsOf r)) ≡ Quiet
+short-window : (f : Format) (r : Register) (received : List ℕ) → Shows r received → length received < windowLength f → windowAnswer f (windowIn f (wordsOf r)) ≡ Quiet
 unfolding windowLength windowAnswer
-short-window f r held h l =
-    let first : getD (windowIn f (wordsOf r)) 0 0 ≡ 3 = window-at f (wordsOf r) 0 (2 * size f) (omega arith) ∙ h (2 * size f) (omega (arith, size-range f)) ∙ rw (le-ltb (2 * size f) (length held) (omega arith)) in
+short-window f r received h l =
+    let first : getD (windowIn f (wordsOf r)) 0 0 ≡ 3 = window-at f (wordsOf r) 0 (2 * size f) (omega arith) ∙ h (2 * size f) (omega (arith, size-range f)) ∙ rw (le-ltb (2 * size f) (length received) (omega arith)) in
     rw first
 
-pub shown-answer : (f : Format) (r : Register) (held : List ℕ) → Shows r held → windowAnswer f (windowIn f (wordsOf r)) ≡ plainAnswer f held
-shown-answer f r held h = go (decLe (windowLength f) (length held))
+pub shown-answer : (f : Format) (r : Register) (received : List ℕ) → Shows r received → windowAnswer f (windowIn f (wordsOf r)) ≡ plainAnswer f received
+shown-answer f r received h = go (decLe (windowLength f) (length received))
   where
-    go : Dec (windowLength f ≤ length held) → windowAnswer f (windowIn f (wordsOf r)) ≡ plainAnswer f held
-    go (yes l) = ap (windowAnswer f) (shown-window f r held h l) ∙ sym (answer-long f held l)
-    go (no l) = short-window f r held h (omega arith) ∙ sym (answer-short f held (omega arith))
+    go : Dec (windowLength f ≤ length received) → windowAnswer f (windowIn f (wordsOf r)) ≡ plainAnswer f received
+    go (yes l) = ap (windowAnswer f) (shown-window f r received h l) ∙ sym (answer-long f received l)
+    go (no l) = short-window f r received h (omega arith) ∙ sym (answer-short f received (omega arith))
 
--- ---- one Feed: the reader goes on showing what the plain machine holds
+-- ---- one Feed: the reader goes on showing what the plain machine has received
 
 -- the reader has the format, its place is the number of elements modulo n, and its register shows them
-pub record Hears (f : Format) (r : Reader) (held : List ℕ) : Type 0 where
+pub record Hears (f : Format) (r : Reader) (received : List ℕ) : Type 0 where
   pub same-format : r .format ≡ f
-  pub place-is : r .place ≡ length held % size f
-  pub shows : Shows (r .heard) held
+  pub place-is : r .place ≡ length received % size f
+  pub shows : Shows (r .heard) received
 
 pub fresh-hears : (f : Format) → Hears f (freshReader f) []
 fresh-hears f = record { same-format = refl; place-is = sym (zero-mod (size f)); shows = silence-shows }
 
-pub hears-valid : (f : Format) (r : Reader) (held : List ℕ) → known f ≡ true → Hears f r held → isValid r ≡ true
+pub hears-valid : (f : Format) (r : Reader) (received : List ℕ) → known f ≡ true → Hears f r received → isValid r ≡ true
 unfolding isValid
-hears-valid f r held k h = rw (h .same-format, k, h .place-is) (lt-ltb (length held % size f) (size f) (mod-lt (length held) (size-positive f)))
+hears-valid f r received k h = rw (h .same-format, k, h .place-is) (lt-ltb (length received % size f) (size f) (mod-lt (length received) (size-positive f)))
 
-pub feed-hears : (f : Format) (r : Reader) (held : List ℕ) (s : ℕ) → known f ≡ true → Hears f r held → (feedOf r s .answer ≡ plainFeed f held s .answer) × Hears f (feedOf r s .reader) (plainFeed f held s .held)
+pub feed-hears : (f : Format) (r : Reader) (received : List ℕ) (s : ℕ) → known f ≡ true → Hears f r received → (feedOf r s .answer ≡ plainFeed f received s .answer) × Hears f (feedOf r s .reader) (plainFeed f received s .received)
 unfolding feedOf answerOf nextOf
-feed-hears f r held s k h = go (decLe s 3)
+feed-hears f r received s k h = go (decLe s 3)
   where
     valid : isValid r ≡ true
-    valid = hears-valid f r held k h
+    valid = hears-valid f r received k h
 
-    go : Dec (s ≤ 3) → (feedOf r s .answer ≡ plainFeed f held s .answer) × Hears f (feedOf r s .reader) (plainFeed f held s .held)
+    go : Dec (s ≤ 3) → (feedOf r s .answer ≡ plainFeed f received s .answer) × Hears f (feedOf r s .reader) (plainFeed f received s .received)
     go (yes l) =
-        let shown = push-shows (r .heard) held s l (h .shows) in
-        rw (feed-accepts f held s l, valid, le-leb s 3 l) (
-          rw (h .same-format) (shown-answer f (pushOf (r .heard) s) (held ++ (s ∷ [])) shown),
+        let shown = push-shows (r .heard) received s l (h .shows) in
+        rw (feed-accepts f received s l, valid, le-leb s 3 l) (
+          rw (h .same-format) (shown-answer f (pushOf (r .heard) s) (received ++ (s ∷ [])) shown),
           record {
             same-format = h .same-format;
-            place-is = rw (h .same-format, h .place-is, length-append held (s ∷ [])) (mod-add-mod (length held) (size f) 1);
+            place-is = rw (h .same-format, h .place-is, length-append received (s ∷ [])) (mod-add-mod (length received) (size f) 1);
             shows = shown;
           },
         )
-    go (no l) = rw (feed-refuses f held s (omega arith), valid, lt-leb s 3 (omega arith)) (refl, h)
+    go (no l) = rw (feed-refuses f received s (omega arith), valid, lt-leb s 3 (omega arith)) (refl, h)
 
 -- ---- Demand 3
 
 module _ (f : Format) (k : known f ≡ true) where
-  pub answers-plain : (r : Reader) (held ss : List ℕ) → Hears f r held → answers r ss ≡ plainAnswers f held ss
+  pub answers-plain : (r : Reader) (received ss : List ℕ) → Hears f r received → answers r ss ≡ plainAnswers f received ss
   unfolding answers plainAnswers
-  answers-plain r held [] h = refl
-  answers-plain r held (s ∷ ss) h =
-      let fed = feed-hears f r held s k h in
-      ap₂ (λ (a : Answer) (as′ : List Answer). a ∷ as′) (fed .0) (answers-plain (feedOf r s .reader) (plainFeed f held s .held) ss (fed .1))
+  answers-plain r received [] h = refl
+  answers-plain r received (s ∷ ss) h =
+      let fed = feed-hears f r received s k h in
+      ap₂ (λ (a : Answer) (as′ : List Answer). a ∷ as′) (fed .0) (answers-plain (feedOf r s .reader) (plainFeed f received s .received) ss (fed .1))
 
-  pub hears-after : (r : Reader) (held ss : List ℕ) → Hears f r held → Hears f (readerAfter r ss) (plainHeld f held ss)
-  unfolding readerAfter plainHeld
-  hears-after r held [] h = h
-  hears-after r held (s ∷ ss) h = hears-after (feedOf r s .reader) (plainFeed f held s .held) ss (feed-hears f r held s k h .1)
+  pub hears-after : (r : Reader) (received ss : List ℕ) → Hears f r received → Hears f (readerAfter r ss) (plainReceived f received ss)
+  unfolding readerAfter plainReceived
+  hears-after r received [] h = h
+  hears-after r received (s ∷ ss) h = hears-after (feedOf r s .reader) (plainFeed f received s .received) ss (feed-hears f r received s k h .1)
 
   -- With every Feed of the list the answer is the plain machine's, refusals too.
   pub answers-are-plain : (ss : List ℕ) → answers (freshReader f) ss ≡ plainAnswers f [] ss
@@ -157,12 +157,12 @@ module _ (f : Format) (k : known f ≡ true) where
       → (none : Answer) → SameAnswers ss rs (answers (freshReader f) (ss ++ xs)) (answers (freshReader f) (rs ++ xs)) none
   two-readers-agree ss rs xs = two-readers f ss rs xs (answers (freshReader f) (ss ++ xs)) (answers (freshReader f) (rs ++ xs)) (answers-are-plain (ss ++ xs)) (answers-are-plain (rs ++ xs))
 
-  pub fed-hears : (ss : List ℕ) → Hears f (readerAfter (freshReader f) ss) (plainHeld f [] ss)
+  pub fed-hears : (ss : List ℕ) → Hears f (readerAfter (freshReader f) ss) (plainReceived f [] ss)
   fed-hears ss = hears-after (freshReader f) [] ss (fresh-hears f)
 
   -- A reader made by feeding a fresh one never meets 13, and its place is the number of its elements modulo n.
   pub fed-is-valid : (ss : List ℕ) → isValid (readerAfter (freshReader f) ss) ≡ true
-  fed-is-valid ss = hears-valid f (readerAfter (freshReader f) ss) (plainHeld f [] ss) k (fed-hears ss)
+  fed-is-valid ss = hears-valid f (readerAfter (freshReader f) ss) (plainReceived f [] ss) k (fed-hears ss)
 
   pub fed-place : (ss : List ℕ) → readerAfter (freshReader f) ss .place ≡ length (elementsOf ss) % size f
-  fed-place ss = fed-hears ss .place-is ∙ ap (λ (held : List ℕ). length held % size f) (holds-the-elements f ss)
+  fed-place ss = fed-hears ss .place-is ∙ ap (λ (received : List ℕ). length received % size f) (holds-the-elements f ss)

@@ -12,10 +12,10 @@ use Rattle.timecode.specs.Formats.{size}
 use Rattle.timecode.specs.Frames.{Sent, Generator, elements, sentAt, EndsFrame}
 use Rattle.timecode.specs.Laws.Checks.{refused-no-report}
 use Rattle.timecode.specs.Laws.Generators.{length-elements}
-use Rattle.timecode.specs.Laws.Machine.{feed-accepts, feed-refuses, held-elements, answer-no-refusal, feed-reports, same-answer, same-answers, length-answers, answers-append, answers-behind, feed-at, elements-next, elements-to-newest}
+use Rattle.timecode.specs.Laws.Machine.{feed-accepts, feed-refuses, received-elements, answer-no-refusal, feed-reports, same-answer, same-answers, length-answers, answers-append, answers-behind, feed-at, elements-next, elements-to-newest}
 use Rattle.timecode.specs.Laws.Marks.{size-positive}
 use Rattle.timecode.specs.Laws.Streams.{among-le, part-report, part-intact, part-replaced, part-whole, stream-replaced, report, first-report}
-use Rattle.timecode.specs.Stream.{windowLength, plainAnswer, Plain, plainAnswers, plainHeld, elementsOf, IsRefused, IsElement, IsNewest, elementsUpTo, EndsInFrames, SameWindow}
+use Rattle.timecode.specs.Stream.{windowLength, plainAnswer, Plain, plainAnswers, plainReceived, elementsOf, IsRefused, IsElement, IsNewest, elementsUpTo, EndsInFrames, SameWindow}
 use Rattle.timecode.specs.declared.Answer.{Answer}
 use Rattle.timecode.specs.declared.Answer.the-variants.{Quiet, Report}
 use Rattle.timecode.specs.declared.Format.{Format}
@@ -66,8 +66,8 @@ pub record SameAnswers (ss rs : List ℕ) (first second : List Answer) (none : A
 -- ---- they hold of the plain machine
 
 -- It holds the elements of its Feeds, and nothing else.
-pub holds-the-elements : (f : Format) (ss : List ℕ) → plainHeld f [] ss ≡ elementsOf ss
-holds-the-elements f ss = held-elements f [] ss
+pub holds-the-elements : (f : Format) (ss : List ℕ) → plainReceived f [] ss ≡ elementsOf ss
+holds-the-elements f ss = received-elements f [] ss
 
 module _ (f : Format) (ss : List ℕ) (none : Answer) where
   abbrev answerTo : ℕ → Answer
@@ -152,7 +152,7 @@ plain-demand-3 f ss none =
 newest-answer : (f : Format) (ss xs : List ℕ) (none : Answer) (i : ℕ) → IsNewest ss i → getD (plainAnswers f [] (ss ++ xs)) i none ≡ plainAnswer f (elementsOf ss)
 newest-answer f ss xs none i n =
     ap (λ (as′ : List Answer). getD as′ i none) (answers-append f [] ss xs)
-    ∙ List·getD-append (plainAnswers f [] ss) (plainAnswers f (plainHeld f [] ss) xs) none i (omega (arith, n .0 .0, length-answers f [] ss))
+    ∙ List·getD-append (plainAnswers f [] ss) (plainAnswers f (plainReceived f [] ss) xs) none i (omega (arith, n .0 .0, length-answers f [] ss))
     ∙ to-element f ss none i (n .0)
     ∙ ap (plainAnswer f) (elements-to-newest ss i n)
 
@@ -172,7 +172,7 @@ two-readers f ss rs xs first second first-plain second-plain same none = rw (fir
     after-them : drop (length ss) (plainAnswers f [] (ss ++ xs)) ≡ drop (length rs) (plainAnswers f [] (rs ++ xs))
     after-them =
         answers-behind f [] ss xs
-        ∙ ap (λ (held : List ℕ). plainAnswers f held xs) (holds-the-elements f ss)
+        ∙ ap (λ (received : List ℕ). plainAnswers f received xs) (holds-the-elements f ss)
         ∙ same-answers f xs (elementsOf ss) (elementsOf rs) same
-        ∙ ap (λ (held : List ℕ). plainAnswers f held xs) (sym (holds-the-elements f rs))
+        ∙ ap (λ (received : List ℕ). plainAnswers f received xs) (sym (holds-the-elements f rs))
         ∙ sym (answers-behind f [] rs xs)

@@ -37,30 +37,30 @@ windowAnswer f window = cond (eqb (getD window 0 0) 2) (confirm f (readOf f (fra
 unfoldable pub lastOf : ℕ → List ℕ → List ℕ
 lastOf k xs = drop (length xs - k) xs
 
--- the answer to the newest of the symbols held
+-- the answer to the newest of the symbols received
 unfoldable pub plainAnswer : Format → List ℕ → Answer
-plainAnswer f held = cond (leb (windowLength f) (length held)) (windowAnswer f (lastOf (windowLength f) held)) Quiet
+plainAnswer f received = cond (leb (windowLength f) (length received)) (windowAnswer f (lastOf (windowLength f) received)) Quiet
 
 -- The plain machine holds the list of the symbols that it accepted, oldest first, and gives an answer.
 pub record Plain : Type 0 where
-  pub held : List ℕ
+  pub received : List ℕ
   pub answer : Answer
 
 -- A symbol of 0 to 3 joins the end of the list; one above 3 is refused with 4, and the list stays.
 unfoldable pub plainFeed : Format → List ℕ → ℕ → Plain
-plainFeed f held s =
+plainFeed f received s =
     cond (isSymbol s)
-    (record { held = held ++ (s ∷ []); answer = plainAnswer f (held ++ (s ∷ [])) })
-    (record { held = held; answer = Answer.Refused UnknownSymbol })
+    (record { received = received ++ (s ∷ []); answer = plainAnswer f (received ++ (s ∷ [])) })
+    (record { received = received; answer = Answer.Refused UnknownSymbol })
 
--- the answers to a list of Feeds, and the list held after them
+-- the answers to a list of Feeds, and the list received after them
 unfoldable pub plainAnswers : Format → List ℕ → List ℕ → List Answer
-plainAnswers f held [] = []
-plainAnswers f held (s ∷ ss) = plainFeed f held s .answer ∷ plainAnswers f (plainFeed f held s .held) ss
+plainAnswers f received [] = []
+plainAnswers f received (s ∷ ss) = plainFeed f received s .answer ∷ plainAnswers f (plainFeed f received s .received) ss
 
-unfoldable pub plainHeld : Format → List ℕ → List ℕ → List ℕ
-plainHeld f held [] = held
-plainHeld f held (s ∷ ss) = plainHeld f (plainFeed f held s .held) ss
+unfoldable pub plainReceived : Format → List ℕ → List ℕ → List ℕ
+plainReceived f received [] = received
+plainReceived f received (s ∷ ss) = plainReceived f (plainFeed f received s .received) ss
 
 -- the elements of a list of Feeds: the symbols that are accepted
 abbrev pub elementsOf : List ℕ → List ℕ
@@ -85,13 +85,13 @@ abbrev pub elementsUpTo : List ℕ → ℕ → List ℕ
 elementsUpTo ss i = elementsOf (take (suc i) ss)
 
 -- The list ends in a mark and two accepted frames, the second's time next after the first's. The second's time and control word are t and w.
-pub record EndsInFrames (f : Format) (held : List ℕ) (t : Time) (w : ℕ) : Type 0 where
+pub record EndsInFrames (f : Format) (received : List ℕ) (t : Time) (w : ℕ) : Type 0 where
   pub before : List ℕ
   pub first : List ℕ
   pub second : List ℕ
   pub first-time : Time
   pub first-control : ℕ
-  pub held-is : held ≡ before ++ (2 ∷ (first ++ second))
+  pub received-is : received ≡ before ++ (2 ∷ (first ++ second))
   pub first-accepted : readOf f first ≡ Accepted first-time first-control
   pub second-accepted : readOf f second ≡ Accepted t w
   pub next : nextAfter f first-time t ≡ true

@@ -16,7 +16,7 @@ use Rattle.timecode.specs.Laws.Marks.{accepted-length}
 use Rattle.timecode.specs.Laws.Stepping.{follows-next}
 use Rattle.timecode.specs.Laws.Tests.{by-test}
 use Rattle.timecode.specs.Laws.Windows.{long, Confirmed, window-confirmed, second-reads, second-follows, window-quiet}
-use Rattle.timecode.specs.Stream.{windowLength, frameIn, confirm, windowAnswer, lastOf, plainAnswer, Plain, plainFeed, plainAnswers, plainHeld, elementsOf, IsElement, IsNewest, elementsUpTo, EndsInFrames, SameWindow}
+use Rattle.timecode.specs.Stream.{windowLength, frameIn, confirm, windowAnswer, lastOf, plainAnswer, Plain, plainFeed, plainAnswers, plainReceived, elementsOf, IsElement, IsNewest, elementsUpTo, EndsInFrames, SameWindow}
 use Rattle.timecode.specs.declared.Answer.{Answer}
 use Rattle.timecode.specs.declared.Answer.the-variants.{Quiet, Report}
 use Rattle.timecode.specs.declared.Format.{Format}
@@ -26,22 +26,22 @@ use Rattle.timecode.specs.declared.Time.{Time}
 
 -- ---- one Feed
 
-pub feed-accepts : (f : Format) (held : List ℕ) (s : ℕ) → s ≤ 3 → plainFeed f held s ≡ record { held = held ++ (s ∷ []); answer = plainAnswer f (held ++ (s ∷ [])) }
+pub feed-accepts : (f : Format) (received : List ℕ) (s : ℕ) → s ≤ 3 → plainFeed f received s ≡ record { received = received ++ (s ∷ []); answer = plainAnswer f (received ++ (s ∷ [])) }
 unfolding plainFeed
-feed-accepts f held s h = rw (le-leb s 3 h)
+feed-accepts f received s h = rw (le-leb s 3 h)
 
-pub feed-refuses : (f : Format) (held : List ℕ) (s : ℕ) → 3 < s → plainFeed f held s ≡ record { held = held; answer = Answer.Refused UnknownSymbol }
+pub feed-refuses : (f : Format) (received : List ℕ) (s : ℕ) → 3 < s → plainFeed f received s ≡ record { received = received; answer = Answer.Refused UnknownSymbol }
 unfolding plainFeed
-feed-refuses f held s h = rw (lt-leb s 3 h)
+feed-refuses f received s h = rw (lt-leb s 3 h)
 
-held-step : (f : Format) (held ss : List ℕ) (s : ℕ) → plainFeed f held s .held ++ elementsOf ss ≡ held ++ elementsOf (s ∷ ss)
+received-step : (f : Format) (received ss : List ℕ) (s : ℕ) → plainFeed f received s .received ++ elementsOf ss ≡ received ++ elementsOf (s ∷ ss)
 unfolding plainFeed
-held-step f held ss s = by-test (isSymbol s) (λ y. rw y (append-assoc held (s ∷ []) (elementsOf ss))) (λ m. rw m)
+received-step f received ss s = by-test (isSymbol s) (λ y. rw y (append-assoc received (s ∷ []) (elementsOf ss))) (λ m. rw m)
 
-pub held-elements : (f : Format) (held ss : List ℕ) → plainHeld f held ss ≡ held ++ elementsOf ss
-unfolding plainHeld
-held-elements f held [] = sym (append-nil held)
-held-elements f held (s ∷ ss) = held-elements f (plainFeed f held s .held) ss ∙ held-step f held ss s
+pub received-elements : (f : Format) (received ss : List ℕ) → plainReceived f received ss ≡ received ++ elementsOf ss
+unfolding plainReceived
+received-elements f received [] = sym (append-nil received)
+received-elements f received (s ∷ ss) = received-elements f (plainFeed f received s .received) ss ∙ received-step f received ss s
 
 -- ---- long and short lists
 
@@ -49,35 +49,35 @@ pub window-long : (f : Format) → windowLength f ≡ long f 1
 unfolding windowLength
 window-long f = omega arith
 
-pub answer-long : (f : Format) (held : List ℕ) → windowLength f ≤ length held → plainAnswer f held ≡ windowAnswer f (lastOf (windowLength f) held)
+pub answer-long : (f : Format) (received : List ℕ) → windowLength f ≤ length received → plainAnswer f received ≡ windowAnswer f (lastOf (windowLength f) received)
 unfolding plainAnswer
-answer-long f held h = rw (le-leb (windowLength f) (length held) h)
+answer-long f received h = rw (le-leb (windowLength f) (length received) h)
 
-pub answer-short : (f : Format) (held : List ℕ) → length held < windowLength f → plainAnswer f held ≡ Quiet
+pub answer-short : (f : Format) (received : List ℕ) → length received < windowLength f → plainAnswer f received ≡ Quiet
 unfolding plainAnswer
-answer-short f held h = rw (lt-leb (windowLength f) (length held) h)
+answer-short f received h = rw (lt-leb (windowLength f) (length received) h)
 
-pub answer-quiet : (f : Format) (held : List ℕ) → ((t : Time) (w : ℕ) → plainAnswer f held ≡ Report t w → ⊥) → plainAnswer f held ≡ Quiet
-answer-quiet f held n = go (decLe (windowLength f) (length held))
+pub answer-quiet : (f : Format) (received : List ℕ) → ((t : Time) (w : ℕ) → plainAnswer f received ≡ Report t w → ⊥) → plainAnswer f received ≡ Quiet
+answer-quiet f received n = go (decLe (windowLength f) (length received))
   where
-    go : Dec (windowLength f ≤ length held) → plainAnswer f held ≡ Quiet
-    go (no h) = answer-short f held (omega arith)
-    go (yes h) = answer-long f held h ∙ window-quiet f (lastOf (windowLength f) held) (λ t w r. n t w (answer-long f held h ∙ r))
+    go : Dec (windowLength f ≤ length received) → plainAnswer f received ≡ Quiet
+    go (no h) = answer-short f received (omega arith)
+    go (yes h) = answer-long f received h ∙ window-quiet f (lastOf (windowLength f) received) (λ t w r. n t w (answer-long f received h ∙ r))
 
 -- an answer from a list of symbols is no refusal
-pub answer-no-refusal : (f : Format) (held : List ℕ) (r : Refusal) → plainAnswer f held ≡ Answer.Refused r → ⊥
-answer-no-refusal f held r h =
-    let quiet = answer-quiet f held (λ t w p. refused-no-report r t w (sym h ∙ p)) in
+pub answer-no-refusal : (f : Format) (received : List ℕ) (r : Refusal) → plainAnswer f received ≡ Answer.Refused r → ⊥
+answer-no-refusal f received r h =
+    let quiet = answer-quiet f received (λ t w p. refused-no-report r t w (sym h ∙ p)) in
     let z : Quiet ≡ Answer.Refused r = sym quiet ∙ h in
     let n : _≡_ {A = ℕ} 0 1 = cc in
     omega arith
 
-pub report-long : (f : Format) (held : List ℕ) (t : Time) (w : ℕ) → plainAnswer f held ≡ Report t w → windowLength f ≤ length held
-report-long f held t w h = go (decLe (windowLength f) (length held))
+pub report-long : (f : Format) (received : List ℕ) (t : Time) (w : ℕ) → plainAnswer f received ≡ Report t w → windowLength f ≤ length received
+report-long f received t w h = go (decLe (windowLength f) (length received))
   where
-    go : Dec (windowLength f ≤ length held) → windowLength f ≤ length held
+    go : Dec (windowLength f ≤ length received) → windowLength f ≤ length received
     go (yes l) = l
-    go (no l) = quiet-no-report t w (sym (answer-short f held (omega arith)) ∙ h)
+    go (no l) = quiet-no-report t w (sym (answer-short f received (omega arith)) ∙ h)
 
 pub length-last : (k : ℕ) (xs : List ℕ) → k ≤ length xs → length (lastOf k xs) ≡ k
 unfolding lastOf
@@ -122,41 +122,41 @@ confirmed-ends f before window t w l c =
       second = frameIn f window 1;
       first-time = c .times 0;
       first-control = c .controls 0;
-      held-is = ap (λ (xs : List ℕ). before ++ xs) (window-parts f window l ∙ ap (λ (s : ℕ). s ∷ (frameIn f window 0 ++ frameIn f window 1)) (c .begins));
+      received-is = ap (λ (xs : List ℕ). before ++ xs) (window-parts f window l ∙ ap (λ (s : ℕ). s ∷ (frameIn f window 0 ++ frameIn f window 1)) (c .begins));
       first-accepted = c .reads 0 (omega arith);
       second-accepted = second-reads f window t w c;
       next = follows-next f (c .times 0) t (second-follows f window t w c);
     }
 
-pub report-ends : (f : Format) (held : List ℕ) (t : Time) (w : ℕ) → plainAnswer f held ≡ Report t w → EndsInFrames f held t w
-report-ends f held t w h =
-    let l = report-long f held t w h in
-    let window = lastOf (windowLength f) held in
-    subst (λ (xs : List ℕ). EndsInFrames f xs t w) (sym (last-behind (windowLength f) held))
-    (confirmed-ends f (take (length held - windowLength f) held) window t w (length-last (windowLength f) held l) (window-confirmed f window t w (sym (answer-long f held l) ∙ h)))
+pub report-ends : (f : Format) (received : List ℕ) (t : Time) (w : ℕ) → plainAnswer f received ≡ Report t w → EndsInFrames f received t w
+report-ends f received t w h =
+    let l = report-long f received t w h in
+    let window = lastOf (windowLength f) received in
+    subst (λ (xs : List ℕ). EndsInFrames f xs t w) (sym (last-behind (windowLength f) received))
+    (confirmed-ends f (take (length received - windowLength f) received) window t w (length-last (windowLength f) received l) (window-confirmed f window t w (sym (answer-long f received l) ∙ h)))
 
-pub ends-report : (f : Format) (held : List ℕ) (t : Time) (w : ℕ) → EndsInFrames f held t w → plainAnswer f held ≡ Report t w
+pub ends-report : (f : Format) (received : List ℕ) (t : Time) (w : ℕ) → EndsInFrames f received t w → plainAnswer f received ≡ Report t w
 unfolding windowLength lastOf windowAnswer confirm
-ends-report f held t w e =
+ends-report f received t w e =
     let window : List ℕ = 2 ∷ (e .first ++ e .second) in
     let a = accepted-length f (e .first) (e .first-time) (e .first-control) (e .first-accepted) in
     let b = accepted-length f (e .second) t w (e .second-accepted) in
-    let n : length held ≡ length (e .before) + suc (length (e .first) + length (e .second)) =
-    ap length (e .held-is) ∙ length-append (e .before) (2 ∷ (e .first ++ e .second)) ∙ ap (λ (k : ℕ). length (e .before) + suc k) (length-append (e .first) (e .second)) in
-    let front : length (e .before) ≡ length held - (2 * size f + 1) = omega arith in
-    let last : drop (length held - (2 * size f + 1)) held ≡ 2 ∷ (e .first ++ e .second) =
-    ap (drop (length held - (2 * size f + 1))) (e .held-is) ∙ drop-at (e .before) (2 ∷ (e .first ++ e .second)) (length held - (2 * size f + 1)) front in
-    answer-long f held (omega arith)
+    let n : length received ≡ length (e .before) + suc (length (e .first) + length (e .second)) =
+    ap length (e .received-is) ∙ length-append (e .before) (2 ∷ (e .first ++ e .second)) ∙ ap (λ (k : ℕ). length (e .before) + suc k) (length-append (e .first) (e .second)) in
+    let front : length (e .before) ≡ length received - (2 * size f + 1) = omega arith in
+    let last : drop (length received - (2 * size f + 1)) received ≡ 2 ∷ (e .first ++ e .second) =
+    ap (drop (length received - (2 * size f + 1))) (e .received-is) ∙ drop-at (e .before) (2 ∷ (e .first ++ e .second)) (length received - (2 * size f + 1)) front in
+    answer-long f received (omega arith)
     ∙ ap (windowAnswer f) last
     ∙ rw (parts-first f 2 (e .first) (e .second) a, parts-second f 2 (e .first) (e .second) a b, e .first-accepted, e .second-accepted, e .next)
 
 -- with one Feed: the symbol is accepted, and the list then ends so
-pub feed-reports : (f : Format) (held : List ℕ) (s : ℕ) (t : Time) (w : ℕ) → (plainFeed f held s .answer ≡ Report t w) ↔ ((s ≤ 3) × EndsInFrames f (held ++ (s ∷ [])) t w)
-feed-reports f held s t w = (λ h. go h (decLe s 3), λ e. ap (λ (p : Plain). p .answer) (feed-accepts f held s (e .0)) ∙ ends-report f (held ++ (s ∷ [])) t w (e .1))
+pub feed-reports : (f : Format) (received : List ℕ) (s : ℕ) (t : Time) (w : ℕ) → (plainFeed f received s .answer ≡ Report t w) ↔ ((s ≤ 3) × EndsInFrames f (received ++ (s ∷ [])) t w)
+feed-reports f received s t w = (λ h. go h (decLe s 3), λ e. ap (λ (p : Plain). p .answer) (feed-accepts f received s (e .0)) ∙ ends-report f (received ++ (s ∷ [])) t w (e .1))
   where
-    go : plainFeed f held s .answer ≡ Report t w → Dec (s ≤ 3) → (s ≤ 3) × EndsInFrames f (held ++ (s ∷ [])) t w
-    go h (yes l) = (l, report-ends f (held ++ (s ∷ [])) t w (sym (ap (λ (p : Plain). p .answer) (feed-accepts f held s l)) ∙ h))
-    go h (no l) = refused-no-report UnknownSymbol t w (sym (ap (λ (p : Plain). p .answer) (feed-refuses f held s (omega arith))) ∙ h)
+    go : plainFeed f received s .answer ≡ Report t w → Dec (s ≤ 3) → (s ≤ 3) × EndsInFrames f (received ++ (s ∷ [])) t w
+    go h (yes l) = (l, report-ends f (received ++ (s ∷ [])) t w (sym (ap (λ (p : Plain). p .answer) (feed-accepts f received s l)) ∙ h))
+    go h (no l) = refused-no-report UnknownSymbol t w (sym (ap (λ (p : Plain). p .answer) (feed-refuses f received s (omega arith))) ∙ h)
 
 -- ---- the answers depend on the last 2n + 1 symbols alone
 
@@ -191,7 +191,7 @@ same-answers f [] xs ys w = refl
 same-answers f (s ∷ ss) xs ys w = go (same-answers f ss) (decLe s 3)
   where
     go : ((xs ys : List ℕ) → SameWindow f xs ys → plainAnswers f xs ss ≡ plainAnswers f ys ss) → Dec (s ≤ 3)
-        → plainFeed f xs s .answer ∷ plainAnswers f (plainFeed f xs s .held) ss ≡ plainFeed f ys s .answer ∷ plainAnswers f (plainFeed f ys s .held) ss
+        → plainFeed f xs s .answer ∷ plainAnswers f (plainFeed f xs s .received) ss ≡ plainFeed f ys s .answer ∷ plainAnswers f (plainFeed f ys s .received) ss
     go later (yes h) =
         let longer = same-longer f xs ys s w in
         rw (feed-accepts f xs s h, feed-accepts f ys s h)
@@ -200,35 +200,35 @@ same-answers f (s ∷ ss) xs ys w = go (same-answers f ss) (decLe s 3)
 
 -- ---- the answers by their index
 
-pub length-answers : (f : Format) (held ss : List ℕ) → length (plainAnswers f held ss) ≡ length ss
+pub length-answers : (f : Format) (received ss : List ℕ) → length (plainAnswers f received ss) ≡ length ss
 unfolding plainAnswers
-length-answers f held [] = refl
-length-answers f held (s ∷ ss) = ap suc (length-answers f (plainFeed f held s .held) ss)
+length-answers f received [] = refl
+length-answers f received (s ∷ ss) = ap suc (length-answers f (plainFeed f received s .received) ss)
 
-pub answers-append : (f : Format) (held ss rs : List ℕ) → plainAnswers f held (ss ++ rs) ≡ plainAnswers f held ss ++ plainAnswers f (plainHeld f held ss) rs
-unfolding plainAnswers plainHeld
-answers-append f held [] rs = refl
-answers-append f held (s ∷ ss) rs = ap (λ (zs : List Answer). plainFeed f held s .answer ∷ zs) (answers-append f (plainFeed f held s .held) ss rs)
+pub answers-append : (f : Format) (received ss rs : List ℕ) → plainAnswers f received (ss ++ rs) ≡ plainAnswers f received ss ++ plainAnswers f (plainReceived f received ss) rs
+unfolding plainAnswers plainReceived
+answers-append f received [] rs = refl
+answers-append f received (s ∷ ss) rs = ap (λ (zs : List Answer). plainFeed f received s .answer ∷ zs) (answers-append f (plainFeed f received s .received) ss rs)
 
 -- the answers behind a list of Feeds
-pub answers-behind : (f : Format) (held ss rs : List ℕ) → drop (length ss) (plainAnswers f held (ss ++ rs)) ≡ plainAnswers f (plainHeld f held ss) rs
-answers-behind f held ss rs = ap (drop (length ss)) (answers-append f held ss rs) ∙ drop-at (plainAnswers f held ss) (plainAnswers f (plainHeld f held ss) rs) (length ss) (length-answers f held ss)
+pub answers-behind : (f : Format) (received ss rs : List ℕ) → drop (length ss) (plainAnswers f received (ss ++ rs)) ≡ plainAnswers f (plainReceived f received ss) rs
+answers-behind f received ss rs = ap (drop (length ss)) (answers-append f received ss rs) ∙ drop-at (plainAnswers f received ss) (plainAnswers f (plainReceived f received ss) rs) (length ss) (length-answers f received ss)
 
-pub answer-at : (f : Format) (held ss : List ℕ) (none : Answer) → ((k : ℕ) → k < length ss → getD ss k 0 ≤ 3) → (i : ℕ) → i < length ss → getD (plainAnswers f held ss) i none ≡ plainAnswer f (held ++ take (suc i) ss)
+pub answer-at : (f : Format) (received ss : List ℕ) (none : Answer) → ((k : ℕ) → k < length ss → getD ss k 0 ≤ 3) → (i : ℕ) → i < length ss → getD (plainAnswers f received ss) i none ≡ plainAnswer f (received ++ take (suc i) ss)
 unfolding plainAnswers
-answer-at f held [] none a i b = absurd (not-suc-le-zero b)
-answer-at f held (s ∷ ss) none a zero b = rw (feed-accepts f held s (a 0 (omega arith)))
-answer-at f held (s ∷ ss) none a (suc i) b =
-    rw (feed-accepts f held s (a 0 (omega arith)))
-    (answer-at f (held ++ (s ∷ [])) ss none (λ k c. a (suc k) (omega arith)) i (omega arith) ∙ ap (plainAnswer f) (append-assoc held (s ∷ []) (take (suc i) ss)))
+answer-at f received [] none a i b = absurd (not-suc-le-zero b)
+answer-at f received (s ∷ ss) none a zero b = rw (feed-accepts f received s (a 0 (omega arith)))
+answer-at f received (s ∷ ss) none a (suc i) b =
+    rw (feed-accepts f received s (a 0 (omega arith)))
+    (answer-at f (received ++ (s ∷ [])) ss none (λ k c. a (suc k) (omega arith)) i (omega arith) ∙ ap (plainAnswer f) (append-assoc received (s ∷ []) (take (suc i) ss)))
 
 -- the same where Feeds are refused: each is answered by the elements before it and its own symbol
-pub feed-at : (f : Format) (held ss : List ℕ) (none : Answer) (i : ℕ) → i < length ss → getD (plainAnswers f held ss) i none ≡ plainFeed f (held ++ elementsOf (take i ss)) (getD ss i 0) .answer
+pub feed-at : (f : Format) (received ss : List ℕ) (none : Answer) (i : ℕ) → i < length ss → getD (plainAnswers f received ss) i none ≡ plainFeed f (received ++ elementsOf (take i ss)) (getD ss i 0) .answer
 unfolding plainAnswers
-feed-at f held [] none i b = absurd (not-suc-le-zero b)
-feed-at f held (s ∷ ss) none zero b = ap (λ (xs : List ℕ). plainFeed f xs s .answer) (sym (append-nil held))
-feed-at f held (s ∷ ss) none (suc i) b =
-    feed-at f (plainFeed f held s .held) ss none i (omega arith) ∙ ap (λ (xs : List ℕ). plainFeed f xs (getD ss i 0) .answer) (held-step f held (take i ss) s)
+feed-at f received [] none i b = absurd (not-suc-le-zero b)
+feed-at f received (s ∷ ss) none zero b = ap (λ (xs : List ℕ). plainFeed f xs s .answer) (sym (append-nil received))
+feed-at f received (s ∷ ss) none (suc i) b =
+    feed-at f (plainFeed f received s .received) ss none i (omega arith) ∙ ap (λ (xs : List ℕ). plainFeed f xs (getD ss i 0) .answer) (received-step f received (take i ss) s)
 
 -- ---- the elements by the index of their Feeds
 
