@@ -138,10 +138,10 @@ pub record Together (r : Reader) (ss held : List ℕ) (count : ℕ) : Type 0 whe
   pub behind : Behind r ss held count
   pub room : 224 + count ≤ length held
 
-pub together : (r : Reader) (ss front held : List ℕ) (count : ℕ) → isValid r ≡ true → length ss ≤ 512 → front ≡ past (r .heard) ++ drop 224 (replicate 736 0) → Laid front ss held → count ≡ acceptedIn ss → Together r ss held count
+pub together : (r : Reader) (ss front held : List ℕ) (count : ℕ) → isValid r ≡ true → length ss ≤ 512 → front ≡ past (r .received) ++ drop 224 (replicate 736 0) → Laid front ss held → count ≡ acceptedIn ss → Together r ss held count
 together r ss front held count v few unpacked laid counted =
     let zeros = replicate {A = ℕ} 736 0 in
-    let long : length held ≡ 736 = laid .long ∙ ap length unpacked ∙ length-append (past (r .heard)) (drop 224 zeros) ∙ omega (arith, length-past (r .heard), length-drop 224 zeros, length-replicate {A = ℕ} 736 0) in
+    let long : length held ≡ 736 = laid .long ∙ ap length unpacked ∙ length-append (past (r .received)) (drop 224 zeros) ∙ omega (arith, length-past (r .received), length-drop 224 zeros, length-replicate {A = ℕ} 736 0) in
     record { counted = counted; behind = rw counted (laid-behind r ss zeros front held v unpacked laid); room = omega (arith, long, counted, accepted-within ss) }
 
 module _ {r : Reader} {ss held : List ℕ} {count : ℕ} (t : Together r ss held count) {first put : ℕ} {l₀ : Lists} {found : Heard} {l : Lists} (hears : (as′ : List Answer) → Agrees (r .format) held (224 + count) as′ → Hears as′ first put l₀ (224 + count) found l) where

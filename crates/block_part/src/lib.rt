@@ -223,7 +223,7 @@ fn feed_together(
     ensures { λ _. ⌜ lists (now (indexes .exit)) (now (days .exit)) (now (hundredths .exit)) (now (controls .exit)) ≡ putFrom put (partOf reader (now (symbols .entry)) first put (length (now (indexes .entry))) .reports) (lists (now (indexes .entry)) (now (days .entry)) (now (hundredths .entry)) (now (controls .entry))) ⌝ }
 {
     let format = reader.format;
-    let heard = reader.heard;
+    let heard = reader.received;
     let mut held = [0u8; 736];
     unpack(heard, &mut held);
     copy(symbols, &mut held);

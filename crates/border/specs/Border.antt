@@ -93,7 +93,7 @@ indexLeft s old = unlessRefused s old (getD (s .values) 0 old)
 unfoldable pub wordsFor : Reader → List ℕ
 wordsFor r =
     r .format .letter ∷ r .format .expression ∷ r .place
-    ∷ r .heard .word0 ∷ r .heard .word1 ∷ r .heard .word2 ∷ r .heard .word3 ∷ r .heard .word4 ∷ r .heard .word5 ∷ r .heard .word6
+    ∷ r .received .word0 ∷ r .received .word1 ∷ r .received .word2 ∷ r .received .word3 ∷ r .received .word4 ∷ r .received .word5 ∷ r .received .word6
     ∷ []
 
 -- A word that is no byte stands for 255, which is neither a letter nor an expression, so that number 13 refuses it.
@@ -106,7 +106,7 @@ readerIn words =
     record {
       format = formatOf (byteIn (getD words 0 0)) (byteIn (getD words 1 0));
       place = getD words 2 0;
-      heard = record {
+      received = record {
         word0 = getD words 3 0;
         word1 = getD words 4 0;
         word2 = getD words 5 0;

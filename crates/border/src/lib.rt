@@ -99,7 +99,7 @@ fn byte_in(word: u64) -> u8
 pub fn reader_in(words: [u64; 10]) -> Reader
     ensures { λ r. ⌜ r ≡ readerIn words ⌝ }
 {
-    let heard = Register {
+    let received = Register {
         word0: words[3],
         word1: words[4],
         word2: words[5],
@@ -112,7 +112,7 @@ pub fn reader_in(words: [u64; 10]) -> Reader
     Reader {
         format: format,
         place: words[2] as usize,
-        heard: heard,
+        received: received,
     }
 }
 
@@ -121,18 +121,18 @@ pub fn words_for(reader: Reader) -> [u64; 10]
     ensures { λ r. ⌜ r ≡ wordsFor reader ⌝ }
 {
     let format = reader.format;
-    let heard = reader.heard;
+    let received = reader.received;
     [
         format.letter as u64,
         format.expression as u64,
         reader.place as u64,
-        heard.word0,
-        heard.word1,
-        heard.word2,
-        heard.word3,
-        heard.word4,
-        heard.word5,
-        heard.word6,
+        received.word0,
+        received.word1,
+        received.word2,
+        received.word3,
+        received.word4,
+        received.word5,
+        received.word6,
     ]
 }
 

@@ -133,7 +133,7 @@ fn reader_at(format: Format, place: usize) -> Reader {
     Reader {
         format: format,
         place: place,
-        heard: heard,
+        received: heard,
     }
 }
 

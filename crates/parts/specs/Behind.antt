@@ -64,17 +64,17 @@ small-behind h xs a k b = go (decLt k 224)
         let small = a (k - 224) (omega arith) in
         rw index (rw (getD-append-add (past h) xs (k - 224) 0) (omega (arith, small)))
 
-next-is : (r : Reader) (s : ℕ) → isValid r ≡ true → s ≤ 3 → nextOf r s ≡ record { format = r .format; place = (r .place + 1) % size (r .format); heard = pushOf (r .heard) s }
+next-is : (r : Reader) (s : ℕ) → isValid r ≡ true → s ≤ 3 → nextOf r s ≡ record { format = r .format; place = (r .place + 1) % size (r .format); received = pushOf (r .received) s }
 unfolding nextOf
 next-is r s v b = rw (v, le-leb s 3 b)
 
-after-shows : (r : Reader) (held ss : List ℕ) → isValid r ≡ true → Accepted ss → Shows (r .heard) held → Shows (readerAfter r ss .heard) (held ++ ss)
+after-shows : (r : Reader) (held ss : List ℕ) → isValid r ≡ true → Accepted ss → Shows (r .received) held → Shows (readerAfter r ss .received) (held ++ ss)
 unfolding readerAfter feedOf
 after-shows r held [] v a h = rw (append-nil held) h
 after-shows r held (s ∷ ss) v a h =
     let next = next-is r s v (a 0 (omega arith)) in
     rw (sym (append-assoc held (s ∷ []) ss))
-    (after-shows (nextOf r s) (held ++ (s ∷ [])) ss (valid-next r s v) (λ k b. a (suc k) (omega arith)) (rw next (push-shows (r .heard) held s (a 0 (omega arith)) h)))
+    (after-shows (nextOf r s) (held ++ (s ∷ [])) ss (valid-next r s v) (λ k b. a (suc k) (omega arith)) (rw next (push-shows (r .received) held s (a 0 (omega arith)) h)))
 
 after-format : (r : Reader) (ss : List ℕ) → readerAfter r ss .format ≡ r .format
 unfolding readerAfter feedOf nextOf
@@ -98,9 +98,9 @@ reader-start r ss = refl
 -- ---- the answers
 
 -- the answer of a valid reader to a symbol that it accepts
-answer-shown : (r : Reader) (held : List ℕ) (s : ℕ) → isValid r ≡ true → s ≤ 3 → Shows (r .heard) held → answerOf r s ≡ plainAnswer (r .format) (held ++ (s ∷ []))
+answer-shown : (r : Reader) (held : List ℕ) (s : ℕ) → isValid r ≡ true → s ≤ 3 → Shows (r .received) held → answerOf r s ≡ plainAnswer (r .format) (held ++ (s ∷ []))
 unfolding answerOf
-answer-shown r held s v b h = rw (v, le-leb s 3 b) (shown-answer (r .format) (pushOf (r .heard) s) (held ++ (s ∷ [])) (push-shows (r .heard) held s b h))
+answer-shown r held s v b h = rw (v, le-leb s 3 b) (shown-answer (r .format) (pushOf (r .received) s) (held ++ (s ∷ [])) (push-shows (r .received) held s b h))
 
 -- ---- a part of which the first m symbols are accepted, behind the reader's own
 
@@ -108,7 +108,7 @@ pub record Behind (r : Reader) (ss held : List ℕ) (m : ℕ) : Type 0 where
   pub valid : isValid r ≡ true
   pub within : m ≤ length ss
   pub accepted : (k : ℕ) → k < m → getD ss k 0 ≤ 3
-  pub behind : take (224 + m) held ≡ past (r .heard) ++ take m ss
+  pub behind : take (224 + m) held ≡ past (r .received) ++ take m ss
 
 module _ (r : Reader) (ss held : List ℕ) (m : ℕ) (given : Behind r ss held m) where
   v : isValid r ≡ true
@@ -126,31 +126,31 @@ module _ (r : Reader) (ss held : List ℕ) (m : ℕ) (given : Behind r ss held m
       let under : j < k = omega (arith, long) in
       rw (getD-take k ss j 0 under) (accepted j (omega arith))
 
-  shown : (k : ℕ) → k ≤ m → Shows (readerAfter r (take k ss) .heard) (past (r .heard) ++ take k ss)
-  shown k b = after-shows r (past (r .heard)) (take k ss) v (first-accepted k b) (past-shows (r .heard))
+  shown : (k : ℕ) → k ≤ m → Shows (readerAfter r (take k ss) .received) (past (r .received) ++ take k ss)
+  shown k b = after-shows r (past (r .received)) (take k ss) v (first-accepted k b) (past-shows (r .received))
 
   -- the symbols up to the one behind k of them
-  behind-at : (k : ℕ) → k ≤ m → take (224 + k) held ≡ past (r .heard) ++ take k ss
+  behind-at : (k : ℕ) → k ≤ m → take (224 + k) held ≡ past (r .received) ++ take k ss
   behind-at k b =
-      let long : 224 + k ≡ length (past (r .heard)) + k = ap (λ (n : ℕ). n + k) (sym (length-past (r .heard))) in
+      let long : 224 + k ≡ length (past (r .received)) + k = ap (λ (n : ℕ). n + k) (sym (length-past (r .received))) in
       sym (take-take (224 + k) (224 + m) held (omega arith))
       ∙ ap (take (224 + k)) (given .behind)
-      ∙ ap (λ (n : ℕ). take n (past (r .heard) ++ take m ss)) long
-      ∙ take-append-add (past (r .heard)) (take m ss) k
-      ∙ ap (λ (xs : List ℕ). past (r .heard) ++ xs) (take-take k m ss b)
+      ∙ ap (λ (n : ℕ). take n (past (r .received) ++ take m ss)) long
+      ∙ take-append-add (past (r .received)) (take m ss) k
+      ∙ ap (λ (xs : List ℕ). past (r .received) ++ xs) (take-take k m ss b)
 
   -- the answers are the plain machine's there
   pub answers-there : (j : ℕ) → j < m → getD (answers r ss) j Quiet ≡ answerAt (r .format) held (224 + j)
   answers-there j b =
       let q = readerAfter r (take j ss) in
       let more : 224 + suc j ≡ suc (224 + j) = omega arith in
-      let list : (past (r .heard) ++ take j ss) ++ (getD ss j 0 ∷ []) ≡ take (suc (224 + j)) held =
-      append-assoc (past (r .heard)) (take j ss) (getD ss j 0 ∷ [])
-      ∙ ap (λ (xs : List ℕ). past (r .heard) ++ xs) (sym (take-suc ss j 0 (omega (arith, within))))
+      let list : (past (r .received) ++ take j ss) ++ (getD ss j 0 ∷ []) ≡ take (suc (224 + j)) held =
+      append-assoc (past (r .received)) (take j ss) (getD ss j 0 ∷ [])
+      ∙ ap (λ (xs : List ℕ). past (r .received) ++ xs) (sym (take-suc ss j 0 (omega (arith, within))))
       ∙ sym (behind-at (suc j) b)
       ∙ ap (λ (n : ℕ). take n held) more in
       answers-at r ss Quiet j (omega (arith, within))
-      ∙ answer-shown q (past (r .heard) ++ take j ss) (getD ss j 0) (valid-after r (take j ss) v) (accepted j b) (shown j (omega arith))
+      ∙ answer-shown q (past (r .received) ++ take j ss) (getD ss j 0) (valid-after r (take j ss) v) (accepted j b) (shown j (omega arith))
       ∙ ap₂ plainAnswer (after-format r (take j ss)) list
 
   pub among : m ≤ length (answers r ss)
@@ -162,18 +162,18 @@ module _ (r : Reader) (ss held : List ℕ) (m : ℕ) (given : Behind r ss held m
   unfolding pushOf
   pushed-fits h s = record { fits0 = omega arith; fits1 = omega arith; fits2 = omega arith; fits3 = omega arith; fits4 = omega arith; fits5 = omega arith; fits6 = omega arith }
 
-  pub next-fits : (k : ℕ) → 1 ≤ k → k ≤ m → Fits (readerAfter r (take k ss) .heard)
+  pub next-fits : (k : ℕ) → 1 ≤ k → k ≤ m → Fits (readerAfter r (take k ss) .received)
   unfolding readerAfter feedOf
   next-fits k a b =
       let q = readerAfter r (take (k - 1) ss) in
       let one : k ≡ suc (k - 1) = omega arith in
       let last : readerAfter r (take k ss) ≡ nextOf q (getD ss (k - 1) 0) =
       ap (λ (n : ℕ). readerAfter r (take n ss)) one ∙ ap (readerAfter r) (take-suc ss (k - 1) 0 (omega (arith, within))) ∙ reader-append r (take (k - 1) ss) (getD ss (k - 1) 0 ∷ []) in
-      rw (last, next-is q (getD ss (k - 1) 0) (valid-after r (take (k - 1) ss) v) (accepted (k - 1) (omega arith))) (pushed-fits (q .heard) (getD ss (k - 1) 0))
+      rw (last, next-is q (getD ss (k - 1) 0) (valid-after r (take (k - 1) ss) v) (accepted (k - 1) (omega arith))) (pushed-fits (q .received) (getD ss (k - 1) 0))
 
-  pub next-holds : (k : ℕ) → k ≤ m → Holds held (224 + k) (readerAfter r (take k ss) .heard)
+  pub next-holds : (k : ℕ) → k ≤ m → Holds held (224 + k) (readerAfter r (take k ss) .received)
   next-holds k b back u =
-      let long : length (past (r .heard) ++ take k ss) ≡ 224 + k = length-append (past (r .heard)) (take k ss) ∙ ap₂ (λ (x y : ℕ). x + y) (length-past (r .heard)) (length-take-le k ss (omega (arith, within))) in
+      let long : length (past (r .received) ++ take k ss) ≡ 224 + k = length-append (past (r .received)) (take k ss) ∙ ap₂ (λ (x y : ℕ). x + y) (length-past (r .received)) (length-take-le k ss (omega (arith, within))) in
       shown k b back u
       ∙ rw (long, lt-ltb back (224 + k) (omega arith))
       (ap (λ (xs : List ℕ). getD xs (224 + k - 1 - back) 0) (sym (behind-at k b)) ∙ getD-take (224 + k) held (224 + k - 1 - back) 0 (omega arith))
@@ -182,16 +182,16 @@ module _ (r : Reader) (ss held : List ℕ) (m : ℕ) (given : Behind r ss held m
   pub small-there : (k : ℕ) → k < 224 + m → getD held k 0 < 4
   small-there k b =
       let long : length (take m ss) ≡ m = length-take-le m ss within in
-      rw (sym (getD-take (224 + m) held k 0 b), given .behind) (small-behind (r .heard) (take m ss) (first-accepted m (omega arith)) k (omega (arith, long)))
+      rw (sym (getD-take (224 + m) held k 0 b), given .behind) (small-behind (r .received) (take m ss) (first-accepted m (omega arith)) k (omega (arith, long)))
 
-  pub next-reader : (k : ℕ) (h : Register) → k ≤ m → h ≡ readerAfter r (take k ss) .heard → record { format = r .format; place = (r .place + k) % size (r .format); heard = h } ≡ readerAfter r (take k ss)
+  pub next-reader : (k : ℕ) (h : Register) → k ≤ m → h ≡ readerAfter r (take k ss) .received → record { format = r .format; place = (r .place + k) % size (r .format); received = h } ≡ readerAfter r (take k ss)
   next-reader k h b e =
       let long : length (take k ss) ≡ k = length-take-le k ss (omega (arith, within)) in
       let place : readerAfter r (take k ss) .place ≡ (r .place + k) % size (r .format) = after-place r (take k ss) v (first-accepted k b) ∙ ap (λ (n : ℕ). (r .place + n) % size (r .format)) long in
       let q = readerAfter r (take k ss) in
-      ap (λ (x : Register). record { format = r .format; place = (r .place + k) % size (r .format); heard = x }) e
-      ∙ ap (λ (x : ℕ). record { format = r .format; place = x; heard = q .heard }) (sym place)
-      ∙ ap (λ (x : Format). record { format = x; place = q .place; heard = q .heard }) (sym (after-format r (take k ss)))
+      ap (λ (x : Register). record { format = r .format; place = (r .place + k) % size (r .format); received = x }) e
+      ∙ ap (λ (x : ℕ). record { format = r .format; place = x; received = q .received }) (sym place)
+      ∙ ap (λ (x : Format). record { format = x; place = q .place; received = q .received }) (sym (after-format r (take k ss)))
 
 -- ---- the part's symbols laid there
 
@@ -212,7 +212,7 @@ laid-more entry ss held s room laid =
       behind = rw longer (take-suc-set held (224 + length ss) s (omega (arith, laid .long)) ∙ ap (λ (xs : List ℕ). xs ++ (s ∷ [])) (laid .behind) ∙ append-assoc (take 224 entry) ss (s ∷ []));
     }
 
-pub laid-behind : (r : Reader) (ss entry front held : List ℕ) → isValid r ≡ true → front ≡ past (r .heard) ++ drop 224 entry → Laid front ss held → Behind r ss held (acceptedIn ss)
+pub laid-behind : (r : Reader) (ss entry front held : List ℕ) → isValid r ≡ true → front ≡ past (r .received) ++ drop 224 entry → Laid front ss held → Behind r ss held (acceptedIn ss)
 laid-behind r ss entry front held v unpacked laid =
     let m = acceptedIn ss in
     record {
@@ -221,9 +221,9 @@ laid-behind r ss entry front held v unpacked laid =
       accepted = accepted-at ss;
       behind =
           sym (take-take (224 + m) (224 + length ss) held (omega (arith, accepted-within ss)))
-          ∙ ap (take (224 + m)) (laid .behind ∙ ap (λ (xs : List ℕ). xs ++ ss) (ap (take 224) unpacked ∙ take-at (past (r .heard)) (drop 224 entry) 224 (length-past (r .heard))))
-          ∙ ap (λ (n : ℕ). take (n + m) (past (r .heard) ++ ss)) (sym (length-past (r .heard)))
-          ∙ take-append-add (past (r .heard)) ss m;
+          ∙ ap (take (224 + m)) (laid .behind ∙ ap (λ (xs : List ℕ). xs ++ ss) (ap (take 224) unpacked ∙ take-at (past (r .received)) (drop 224 entry) 224 (length-past (r .received))))
+          ∙ ap (λ (n : ℕ). take (n + m) (past (r .received) ++ ss)) (sym (length-past (r .received)))
+          ∙ take-append-add (past (r .received)) ss m;
     }
 
 -- the answers that a search among the symbols finds, up to an index

@@ -36,6 +36,6 @@ pub fn reader_after(reader: Reader, held: &[u8], taken: usize) -> Reader
     Reader {
         format: format,
         place: (reader.place + taken) % frame_size(format),
-        heard: heard,
+        received: heard,
     }
 }

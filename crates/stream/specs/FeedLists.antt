@@ -83,7 +83,7 @@ pub above-refused : (r : Reader) (s : ℕ) (x : Refusal) → isValid r ≡ true 
 unfolding answerOf
 above-refused r s x v h =
     by-test (isSymbol s)
-    (λ y. absurd (window-no-refusal (r .format) (windowIn (r .format) (wordsOf (pushOf (r .heard) s))) x (rw (v, y) at h)))
+    (λ y. absurd (window-no-refusal (r .format) (windowIn (r .format) (wordsOf (pushOf (r .received) s))) x (rw (v, y) at h)))
     (λ n. leb-false s 3 n)
 
 -- ---- demand 1: a refused Feed hands back the same reader, whatever it refuses with

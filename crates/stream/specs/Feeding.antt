@@ -34,7 +34,7 @@ silence =
 
 -- a format, place 0, nothing heard
 abbrev pub freshReader : Format → Reader
-freshReader f = record { format = f; place = 0; heard = silence }
+freshReader f = record { format = f; place = 0; received = silence }
 
 -- Making a fresh reader checks 1.
 unfoldable pub madeOf : Format → Made
@@ -53,7 +53,7 @@ isValid r = known (r .format) && ltb (r .place) (size (r .format))
 unfoldable pub nextOf : Reader → ℕ → Reader
 nextOf r s =
     cond (isValid r && isSymbol s)
-    (record { format = r .format; place = (r .place + 1) % size (r .format); heard = pushOf (r .heard) s })
+    (record { format = r .format; place = (r .place + 1) % size (r .format); received = pushOf (r .received) s })
     r
 
 -- an accepted symbol that is no mark: the reader after it
@@ -69,7 +69,7 @@ unfoldable pub answerOf : Reader → ℕ → Answer
 answerOf r s =
     check Answer.Refused InvalidReader (isValid r)  -- 13
     (check Answer.Refused UnknownSymbol (isSymbol s)  -- 4
-    (windowAnswer (r .format) (windowIn (r .format) (wordsOf (pushOf (r .heard) s)))))
+    (windowAnswer (r .format) (windowIn (r .format) (wordsOf (pushOf (r .received) s)))))
 
 unfoldable pub feedOf : Reader → ℕ → Fed
 feedOf r s = record { reader = nextOf r s; answer = answerOf r s }

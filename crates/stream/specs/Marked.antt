@@ -122,7 +122,7 @@ other-quiet f r s b n =
 -- the answer to a symbol that is no mark
 pub other-answer : (r : Reader) (s : ℕ) → isValid r ≡ true → s ≤ 3 → (s ≡ 2 → ⊥) → answerOf r s ≡ Quiet
 unfolding answerOf
-other-answer r s v b n = rw (v, le-leb s 3 b) (sym (other-quiet (r .format) (r .heard) s b n))
+other-answer r s v b n = rw (v, le-leb s 3 b) (sym (other-quiet (r .format) (r .received) s b n))
 
 abbrev isNext : Passed → Bool
 isNext (Passed.Next q) = true

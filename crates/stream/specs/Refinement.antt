@@ -101,7 +101,7 @@ shown-answer f r received h = go (decLe (windowLength f) (length received))
 pub record Hears (f : Format) (r : Reader) (received : List ℕ) : Type 0 where
   pub same-format : r .format ≡ f
   pub place-is : r .place ≡ length received % size f
-  pub shows : Shows (r .heard) received
+  pub shows : Shows (r .received) received
 
 pub fresh-hears : (f : Format) → Hears f (freshReader f) []
 fresh-hears f = record { same-format = refl; place-is = sym (zero-mod (size f)); shows = silence-shows }
@@ -119,9 +119,9 @@ feed-hears f r received s k h = go (decLe s 3)
 
     go : Dec (s ≤ 3) → (feedOf r s .answer ≡ plainFeed f received s .answer) × Hears f (feedOf r s .reader) (plainFeed f received s .received)
     go (yes l) =
-        let shown = push-shows (r .heard) received s l (h .shows) in
+        let shown = push-shows (r .received) received s l (h .shows) in
         rw (feed-accepts f received s l, valid, le-leb s 3 l) (
-          rw (h .same-format) (shown-answer f (pushOf (r .heard) s) (received ++ (s ∷ [])) shown),
+          rw (h .same-format) (shown-answer f (pushOf (r .received) s) (received ++ (s ∷ [])) shown),
           record {
             same-format = h .same-format;
             place-is = rw (h .same-format, h .place-is, length-append received (s ∷ [])) (mod-add-mod (length received) (size f) 1);

@@ -14,7 +14,7 @@ format letter expression = record { letter = letter; expression = expression }
 
 -- a reader at that place
 abbrev at : Format → ℕ → Reader
-at f place = record { format = f; place = place; heard = silence }
+at f place = record { format = f; place = place; received = silence }
 
 abbrev saids : List Said
 saids =

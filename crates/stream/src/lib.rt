@@ -30,7 +30,7 @@ use timecode::SPOILED;
 pub struct Reader {
     pub format: Format,
     pub place: usize,
-    pub heard: Register,
+    pub received: Register,
 }
 
 // A fresh reader, or why there is none.
@@ -58,7 +58,7 @@ impl Reader {
     {
         if is_known(format) {
             let spoiled = 18_446_744_073_709_551_615;
-            let heard = Register {
+            let received = Register {
                 word0: spoiled,
                 word1: spoiled,
                 word2: spoiled,
@@ -70,7 +70,7 @@ impl Reader {
             return Made::Fresh(Reader {
                 format: format,
                 place: 0,
-                heard: heard,
+                received: received,
             });
         }
         Made::Refused(Refusal::UnknownFormat)
@@ -163,13 +163,13 @@ fn with_symbol(reader: Reader, symbol: u8) -> Reader
     ensures { λ r. ⌜ r ≡ nextOf reader symbol ⌝ }
 {
     let format = reader.format;
-    let heard = reader.heard;
+    let received = reader.received;
     let place = place_after(reader.place, frame_size(format));
-    let longer = push(heard, symbol);
+    let longer = push(received, symbol);
     Reader {
         format: format,
         place: place,
-        heard: longer,
+        received: longer,
     }
 }
 
@@ -209,7 +209,7 @@ pub fn answer_to(reader: Reader, symbol: u8) -> Answer
             return Answer::Refused(Refusal::UnknownSymbol);
         }
         if symbol == MARK {
-            let window = words(push(reader.heard, symbol));
+            let window = words(push(reader.received, symbol));
             return window_answer(reader.format, &window);
         }
         return Answer::Quiet;

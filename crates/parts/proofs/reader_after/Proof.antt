@@ -40,7 +40,7 @@ returns-2 c =
     let some : 1 ≤ a .taken = omega (arith, c .before .before .before .before .if1 .left) in
     rw (c .frame-size .ensures .0)
     (λ ss m g b. next-reader (a .reader) ss (a .held .now) m (g some) (a .taken) (c .before .before .pack .result) b
-    (c .before .before .pack .ensures (readerAfter (a .reader) (take (a .taken) ss) .heard) (next-fits (a .reader) ss (a .held .now) m (g some) (a .taken) some b) (next-holds (a .reader) ss (a .held .now) m (g some) (a .taken) b)))
+    (c .before .before .pack .ensures (readerAfter (a .reader) (take (a .taken) ss) .received) (next-fits (a .reader) ss (a .held .now) m (g some) (a .taken) some b) (next-holds (a .reader) ss (a .held .now) m (g some) (a .taken) b)))
 
 pub reader-after-spec : {M : Type 1} → statement M
 reader-after-spec =

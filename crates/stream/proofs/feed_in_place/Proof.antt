@@ -78,13 +78,13 @@ stored r =
     (vcons (vint w64 (r .place))
     (vcons
     (vstruct
-    (vcons (vint w64 (r .heard .word0))
-    (vcons (vint w64 (r .heard .word1))
-    (vcons (vint w64 (r .heard .word2))
-    (vcons (vint w64 (r .heard .word3))
-    (vcons (vint w64 (r .heard .word4))
-    (vcons (vint w64 (r .heard .word5))
-    (vcons (vint w64 (r .heard .word6)) vnil))))))))
+    (vcons (vint w64 (r .received .word0))
+    (vcons (vint w64 (r .received .word1))
+    (vcons (vint w64 (r .received .word2))
+    (vcons (vint w64 (r .received .word3))
+    (vcons (vint w64 (r .received .word4))
+    (vcons (vint w64 (r .received .word5))
+    (vcons (vint w64 (r .received .word6)) vnil))))))))
     vnil)))
 
 module _ {M : Type 1} (𝓤 : URA M) (H : Heap 𝓤) (A : Atoms 𝓤) (mem′ : Memory → SProp 𝓤) (run : Routine → Fun 𝓤) where
