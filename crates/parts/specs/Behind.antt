@@ -22,7 +22,7 @@ use Rattle.packing.specs.Packing.{Fits, Holds}
 use Rattle.search.specs.Accepted.{acceptedIn, accepted-within, accepted-at}
 use Rattle.search.specs.Ends.{answerAt, part}
 use Rattle.stream.specs.Feeding.{isValid, nextOf, answerOf, feedOf, valid-place}
-use Rattle.stream.specs.Refinement.{answers, readerAfter, Shows, push-shows, shown-answer}
+use Rattle.stream.specs.Refinement.{answers, readerAfter, RegisterShows, push-shows, shown-answer}
 use Rattle.stream.specs.declared.Reader.{Reader}
 use Rattle.stream.specs.FeedLists.{answers-at, length-answers, reader-append, valid-next, valid-after}
 
@@ -36,7 +36,7 @@ pub length-past : (h : Register) → length (past h) ≡ 224
 unfolding heardFrame
 length-past h = length-tabulate 224 0 (λ i. heardAt (wordsOf h) (0 + (224 - 1 - i)))
 
-past-shows : (h : Register) → Shows h (past h)
+past-shows : (h : Register) → RegisterShows h (past h)
 unfolding heardFrame
 past-shows h back b =
     let index : 0 + (224 - 1 - (224 - 1 - back)) ≡ back = omega arith in
@@ -68,7 +68,7 @@ next-is : (r : Reader) (s : ℕ) → isValid r ≡ true → s ≤ 3 → nextOf r
 unfolding nextOf
 next-is r s v b = rw (v, le-leb s 3 b)
 
-after-shows : (r : Reader) (held ss : List ℕ) → isValid r ≡ true → Accepted ss → Shows (r .received) held → Shows (readerAfter r ss .received) (held ++ ss)
+after-shows : (r : Reader) (held ss : List ℕ) → isValid r ≡ true → Accepted ss → RegisterShows (r .received) held → RegisterShows (readerAfter r ss .received) (held ++ ss)
 unfolding readerAfter feedOf
 after-shows r held [] v a h = rw (append-nil held) h
 after-shows r held (s ∷ ss) v a h =
@@ -98,7 +98,7 @@ reader-start r ss = refl
 -- ---- the answers
 
 -- the answer of a valid reader to a symbol that it accepts
-answer-shown : (r : Reader) (held : List ℕ) (s : ℕ) → isValid r ≡ true → s ≤ 3 → Shows (r .received) held → answerOf r s ≡ plainAnswer (r .format) (held ++ (s ∷ []))
+answer-shown : (r : Reader) (held : List ℕ) (s : ℕ) → isValid r ≡ true → s ≤ 3 → RegisterShows (r .received) held → answerOf r s ≡ plainAnswer (r .format) (held ++ (s ∷ []))
 unfolding answerOf
 answer-shown r held s v b h = rw (v, le-leb s 3 b) (shown-answer (r .format) (pushOf (r .received) s) (held ++ (s ∷ [])) (push-shows (r .received) held s b h))
 
@@ -126,7 +126,7 @@ module _ (r : Reader) (ss held : List ℕ) (m : ℕ) (given : Behind r ss held m
       let under : j < k = omega (arith, long) in
       rw (getD-take k ss j 0 under) (accepted j (omega arith))
 
-  shown : (k : ℕ) → k ≤ m → Shows (readerAfter r (take k ss) .received) (past (r .received) ++ take k ss)
+  shown : (k : ℕ) → k ≤ m → RegisterShows (readerAfter r (take k ss) .received) (past (r .received) ++ take k ss)
   shown k b = after-shows r (past (r .received)) (take k ss) v (first-accepted k b) (past-shows (r .received))
 
   -- the symbols up to the one behind k of them

@@ -12,7 +12,7 @@ use Rattle.timecode.specs.declared.Answer.{Answer}
 use Rattle.timecode.specs.declared.Format.{Format}
 use Rattle.stream.specs.FeedLists.{answers-append, reader-append}
 use Rattle.stream.specs.Feeding.{freshReader, isValid}
-use Rattle.stream.specs.Refinement.{answers, readerAfter, Hears, fresh-hears, hears-valid, feed-hears, answers-plain, hears-after, answers-are-plain}
+use Rattle.stream.specs.Refinement.{answers, readerAfter, Receives, fresh-receives, receives-valid, feed-receives, answers-plain, receives-after, answers-are-plain}
 use Rattle.stream.specs.declared.Reader.{Reader}
 use Rattle.block.specs.Blocks.{Lists, roomIn, areRecords, fieldLeft, listsLeft, blockFor, blockAnswer, feedBlockOf}
 use Rattle.block.specs.Folds.{Takes, block-takes, block-answers}
@@ -77,24 +77,24 @@ pub plain-block-takes : (f : Format) (received ss : List ℕ) (l : Lists) → Ta
 plain-block-takes f received ss l = block-takes 0 (roomIn l) (plainAnswers f received ss)
 
 module _ (f : Format) (k : known f ≡ true) where
-  call-plain : (r : Reader) (received : List ℕ) (c : Call) → Hears f r received → resultOf r c ≡ plainResult f received c
+  call-plain : (r : Reader) (received : List ℕ) (c : Call) → Receives f r received → resultOf r c ≡ plainResult f received c
   unfolding feedPulseOf feedBlockOf blockAnswer blockFor fieldLeft
-  call-plain r received (symbol s) h = ap (symbolResult s) (feed-hears f r received s k h .0)
-  call-plain r received (symbolInPlace s) h = ap (inPlaceResult s) (feed-hears f r received s k h .0)
-  call-plain r received (pulse T width period) h = by-test (isInterval T) (λ y. rw y (ap (pulseResult T width period) (feed-hears f r received (symbolOf T width period) k h .0))) (λ n. rw n)
+  call-plain r received (symbol s) h = ap (symbolResult s) (feed-receives f r received s k h .0)
+  call-plain r received (symbolInPlace s) h = ap (inPlaceResult s) (feed-receives f r received s k h .0)
+  call-plain r received (pulse T width period) h = by-test (isInterval T) (λ y. rw y (ap (pulseResult T width period) (feed-receives f r received (symbolOf T width period) k h .0))) (λ n. rw n)
   call-plain r received (block ss l) h =
-      rw (hears-valid f r received k h, answers-plain f k r received ss h)
+      rw (receives-valid f r received k h, answers-plain f k r received ss h)
       (by-test (areRecords l) (λ y. rw y) (λ n. rw n))
 
-  results-plain : (r : Reader) (received : List ℕ) (cs : List Call) → Hears f r received → results r cs ≡ plainResults f received cs
+  results-plain : (r : Reader) (received : List ℕ) (cs : List Call) → Receives f r received → results r cs ≡ plainResults f received cs
   unfolding results plainResults
   results-plain r received [] h = refl
   results-plain r received (c ∷ cs) h =
       let same = call-plain r received c h in
-      let fed = hears-after f k r received (symbolsFed (resultOf r c)) h in
-      let next : Hears f (readerOf r c) (plainReceived f received (symbolsFed (plainResult f received c))) =
-      subst (λ (q : Reader). Hears f q (plainReceived f received (symbolsFed (plainResult f received c)))) (sym (call-reader r c))
-      (subst (λ (x : Result). Hears f (readerAfter r (symbolsFed (resultOf r c))) (plainReceived f received (symbolsFed x))) same fed) in
+      let fed = receives-after f k r received (symbolsFed (resultOf r c)) h in
+      let next : Receives f (readerOf r c) (plainReceived f received (symbolsFed (plainResult f received c))) =
+      subst (λ (q : Reader). Receives f q (plainReceived f received (symbolsFed (plainResult f received c)))) (sym (call-reader r c))
+      (subst (λ (x : Result). Receives f (readerAfter r (symbolsFed (resultOf r c))) (plainReceived f received (symbolsFed x))) same fed) in
       ap₂ (λ (x : Result) (xs : List Result). x ∷ xs) same (results-plain (readerOf r c) (plainReceived f received (symbolsFed (plainResult f received c))) cs next)
 
   -- Of any list of calls in any mix: each result is the plain machine's, the answers are the plain machine's to the symbols fed, and the reader afterwards is the one that single Feeds of these give.
@@ -106,7 +106,7 @@ module _ (f : Format) (k : known f ≡ true) where
   pub calls-are-plain : (cs : List Call) → ArePlain cs
   calls-are-plain cs =
       record {
-        each-result = results-plain (freshReader f) [] cs (fresh-hears f);
+        each-result = results-plain (freshReader f) [] cs (fresh-receives f);
         all-answers = calls-are-feeds (freshReader f) cs ∙ answers-are-plain f k (allFed (results (freshReader f) cs));
         reader-after = reader-is-fed (freshReader f) cs;
       }

@@ -20,8 +20,8 @@ use Rattle.stream.specs.declared.Passed.{Passed}
 use Rattle.stream.specs.declared.Reader.{Reader}
 
 -- spoiled symbols alone
-abbrev pub silence : Register
-silence =
+abbrev pub spoiledRegister : Register
+spoiledRegister =
     record {
       word0 = 18446744073709551615;
       word1 = 18446744073709551615;
@@ -34,7 +34,7 @@ silence =
 
 -- a format, place 0, nothing heard
 abbrev pub freshReader : Format → Reader
-freshReader f = record { format = f; place = 0; received = silence }
+freshReader f = record { format = f; place = 0; received = spoiledRegister }
 
 -- Making a fresh reader checks 1.
 unfoldable pub madeOf : Format → Made
@@ -58,7 +58,7 @@ nextOf r s =
 
 -- an accepted symbol that is no mark: the reader after it
 unfoldable pub passOf : Reader → ℕ → Passed
-passOf r s = cond (eqb s 2) Passed.Other (cond (isSymbol s && isValid r) (Passed.Next (nextOf r s)) Passed.Other)
+passOf r s = cond (eqb s 2) Passed.NotPassed (cond (isSymbol s && isValid r) (Passed.Next (nextOf r s)) Passed.NotPassed)
 
 -- the last 2n + 1 symbols, oldest first
 unfoldable pub windowIn : Format → List ℕ → List ℕ

@@ -2,4 +2,4 @@ pub mod Feeding
 pub mod Marked
 pub mod Refinement
 pub mod FeedLists
-pub mod Rows
+pub mod ReaderRows

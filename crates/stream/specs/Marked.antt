@@ -32,27 +32,27 @@ pub length-window : (f : Format) (words : List ℕ) → length (windowIn f words
 unfolding windowIn heardFrame
 length-window f words = length-tabulate (windowLength f) 0 (λ i. heardAt words (0 + (windowLength f - 1 - i)))
 
-heard-at : (words : List ℕ) (back n i : ℕ) → i < n → getD (heardFrame words back n) i 0 ≡ heardAt words (back + (n - 1 - i))
+symbol-back : (words : List ℕ) (back n i : ℕ) → i < n → getD (heardFrame words back n) i 0 ≡ heardAt words (back + (n - 1 - i))
 unfolding heardFrame
-heard-at words back n i h = getD-tabulate n 0 (λ k. heardAt words (back + (n - 1 - k))) 0 i h ∙ ap (λ (k : ℕ). heardAt words (back + (n - 1 - k))) (zero-add i)
+symbol-back words back n i h = getD-tabulate n 0 (λ k. heardAt words (back + (n - 1 - k))) 0 i h ∙ ap (λ (k : ℕ). heardAt words (back + (n - 1 - k))) (zero-add i)
 
-pub length-heard : (words : List ℕ) (back n : ℕ) → length (heardFrame words back n) ≡ n
+pub length-received : (words : List ℕ) (back n : ℕ) → length (heardFrame words back n) ≡ n
 unfolding heardFrame
-length-heard words back n = length-tabulate n 0 (λ i. heardAt words (back + (n - 1 - i)))
+length-received words back n = length-tabulate n 0 (λ i. heardAt words (back + (n - 1 - i)))
 
 -- the symbol at index i is 2n - i back
 pub window-at : (f : Format) (words : List ℕ) (i back : ℕ) → i + back ≡ 2 * size f → getD (windowIn f words) i 0 ≡ heardAt words back
 unfolding windowIn windowLength
-window-at f words i back e = heard-at words 0 (2 * size f + 1) i (omega arith) ∙ ap (heardAt words) (omega arith)
+window-at f words i back e = symbol-back words 0 (2 * size f + 1) i (omega arith) ∙ ap (heardAt words) (omega arith)
 
 window-frame : (f : Format) (words : List ℕ) (j back : ℕ) → j ≤ 1 → back + size f * j ≡ size f → frameIn f (windowIn f words) j ≡ heardFrame words back (size f)
 unfolding windowLength
 window-frame f words j back b e =
     let n : length (frameIn f (windowIn f words) j) ≡ size f = length-frame-in f 1 (windowIn f words) (omega (arith, length-window f words)) j b in
-    ext-getD 0 (frameIn f (windowIn f words) j) (heardFrame words back (size f)) (n ∙ sym (length-heard words back (size f)))
+    ext-getD 0 (frameIn f (windowIn f words) j) (heardFrame words back (size f)) (n ∙ sym (length-received words back (size f)))
     (λ i m.
     let k : i < size f = rw n at m in
-    at-frame f (windowIn f words) j i k ∙ window-at f words (1 + size f * j + i) (back + (size f - 1 - i)) (omega arith) ∙ sym (heard-at words back (size f) i k))
+    at-frame f (windowIn f words) j i k ∙ window-at f words (1 + size f * j + i) (back + (size f - 1 - i)) (omega arith) ∙ sym (symbol-back words back (size f) i k))
 
 -- behind a mark the two frames decide
 pub marked-answer : (f : Format) (words : List ℕ) → heardAt words (size f + size f) ≡ 2
@@ -114,39 +114,39 @@ module _ (f : Format) (words : List ℕ) (t : Time) (w : ℕ) (c : Confirmed f 1
 pub unmarked-quiet : (f : Format) (words : List ℕ) → marksStand words (size f) ≡ false → Quiet ≡ windowAnswer f (windowIn f words)
 unmarked-quiet f words h = sym (window-quiet f (windowIn f words) (λ t w r. clash (confirmed-marks f words t w (window-confirmed f (windowIn f words) t w r)) h))
 
-pub other-quiet : (f : Format) (r : Register) (s : ℕ) → s ≤ 3 → (s ≡ 2 → ⊥) → Quiet ≡ windowAnswer f (windowIn f (wordsOf (pushOf r s)))
-other-quiet f r s b n =
+pub unmarked-symbol-quiet : (f : Format) (r : Register) (s : ℕ) → s ≤ 3 → (s ≡ 2 → ⊥) → Quiet ≡ windowAnswer f (windowIn f (wordsOf (pushOf r s)))
+unmarked-symbol-quiet f r s b n =
     let words = wordsOf (pushOf r s) in
     sym (window-quiet f (windowIn f words) (λ t w a. n (let newest = sym (heard-newest r s) ∙ confirmed-newest f words t w (window-confirmed f (windowIn f words) t w a) in omega arith)))
 
 -- the answer to a symbol that is no mark
-pub other-answer : (r : Reader) (s : ℕ) → isValid r ≡ true → s ≤ 3 → (s ≡ 2 → ⊥) → answerOf r s ≡ Quiet
+pub unmarked-symbol-answer : (r : Reader) (s : ℕ) → isValid r ≡ true → s ≤ 3 → (s ≡ 2 → ⊥) → answerOf r s ≡ Quiet
 unfolding answerOf
-other-answer r s v b n = rw (v, le-leb s 3 b) (sym (other-quiet (r .format) (r .received) s b n))
+unmarked-symbol-answer r s v b n = rw (v, le-leb s 3 b) (sym (unmarked-symbol-quiet (r .format) (r .received) s b n))
 
 abbrev isNext : Passed → Bool
 isNext (Passed.Next q) = true
-isNext Passed.Other = false
+isNext Passed.NotPassed = false
 
-abbrev readerIn : Reader → Passed → Reader
-readerIn other (Passed.Next q) = q
-readerIn other Passed.Other = other
+abbrev passedReader : Reader → Passed → Reader
+passedReader other (Passed.Next q) = q
+passedReader other Passed.NotPassed = other
 
 -- a symbol that is passed is a Feed that is answered with Quiet
 pub passed-next : (r : Reader) (s : ℕ) (q : Reader) → Passed.Next q ≡ passOf r s → (q ≡ nextOf r s) × (Quiet ≡ answerOf r s)
 unfolding passOf
 passed-next r s q e =
     by-test (eqb s 2)
-    (λ y. let other : passOf r s ≡ Passed.Other = rw y in absurd (true≢false (ap isNext (e ∙ other))))
+    (λ y. let other : passOf r s ≡ Passed.NotPassed = rw y in absurd (true≢false (ap isNext (e ∙ other))))
     (λ n.
     by-test (isSymbol s && isValid r)
     (λ v.
     let next : passOf r s ≡ Passed.Next (nextOf r s) = rw (n, v) in
-    (ap (readerIn r) (e ∙ next), sym (other-answer r s (and-right (isSymbol s) (isValid r) v) (leb-true s 3 (and-left (isSymbol s) (isValid r) v)) (eqb-false s 2 n))))
-    (λ m. let other : passOf r s ≡ Passed.Other = rw (n, m) in absurd (true≢false (ap isNext (e ∙ other)))))
+    (ap (passedReader r) (e ∙ next), sym (unmarked-symbol-answer r s (and-right (isSymbol s) (isValid r) v) (leb-true s 3 (and-left (isSymbol s) (isValid r) v)) (eqb-false s 2 n))))
+    (λ m. let other : passOf r s ≡ Passed.NotPassed = rw (n, m) in absurd (true≢false (ap isNext (e ∙ other)))))
 
 -- where a symbol that is no mark is not passed by a valid reader, it is above 3
-pub not-passed : (r : Reader) (s : ℕ) → Passed.Other ≡ passOf r s → (s ≡ 2 → ⊥) → isValid r ≡ true → 3 < s
+pub not-passed : (r : Reader) (s : ℕ) → Passed.NotPassed ≡ passOf r s → (s ≡ 2 → ⊥) → isValid r ≡ true → 3 < s
 unfolding passOf
 not-passed r s e n v =
     by-test (isSymbol s)

@@ -22,7 +22,7 @@ use Rattle.timecode.specs.declared.Answer.the-variants.{Quiet}
 use Rattle.timecode.specs.declared.Format.{Format}
 use Rattle.register.specs.Symbols.{wordsOf, pushOf, heardAt, heard-newest, heard-earlier}
 use Rattle.register.specs.declared.Register.{Register}
-use Rattle.stream.specs.Feeding.{silence, freshReader, isValid, nextOf, windowIn, answerOf, feedOf}
+use Rattle.stream.specs.Feeding.{spoiledRegister, freshReader, isValid, nextOf, windowIn, answerOf, feedOf}
 use Rattle.stream.specs.Marked.{length-window, window-at}
 use Rattle.stream.specs.declared.Reader.{Reader}
 
@@ -41,18 +41,18 @@ readerAfter r (s ∷ ss) = readerAfter (feedOf r s .reader) ss
 abbrev pub backIn : List ℕ → ℕ → ℕ
 backIn received back = cond (ltb back (length received)) (getD received (length received - 1 - back) 0) 3
 
-abbrev pub Shows : Register → List ℕ → Type 0
-Shows r received = (back : ℕ) → back < 224 → heardAt (wordsOf r) back ≡ backIn received back
+abbrev pub RegisterShows : Register → List ℕ → Type 0
+RegisterShows r received = (back : ℕ) → back < 224 → heardAt (wordsOf r) back ≡ backIn received back
 
-all-spoiled : everyBelow 224 (λ back. eqb (heardAt (wordsOf silence) back) 3) ≡ true
+all-spoiled : everyBelow 224 (λ back. eqb (heardAt (wordsOf spoiledRegister) back) 3) ≡ true
 unfolding heardAt
 all-spoiled = refl
 
-silence-shows : Shows silence []
-silence-shows back b =
-    eqb-true (heardAt (wordsOf silence) back) 3 (below-every 224 (λ back. eqb (heardAt (wordsOf silence) back) 3) all-spoiled back b) ∙ rw (le-ltb back 0 (omega arith))
+spoiled-shows : RegisterShows spoiledRegister []
+spoiled-shows back b =
+    eqb-true (heardAt (wordsOf spoiledRegister) back) 3 (below-every 224 (λ back. eqb (heardAt (wordsOf spoiledRegister) back) 3) all-spoiled back b) ∙ rw (le-ltb back 0 (omega arith))
 
-pub push-shows : (r : Register) (received : List ℕ) (s : ℕ) → s ≤ 3 → Shows r received → Shows (pushOf r s) (received ++ (s ∷ []))
+pub push-shows : (r : Register) (received : List ℕ) (s : ℕ) → s ≤ 3 → RegisterShows r received → RegisterShows (pushOf r s) (received ++ (s ∷ []))
 push-shows r received s b h zero l =
     let n : length (received ++ (s ∷ [])) ≡ length received + 1 = length-append received (s ∷ []) in
     let last : length received + 1 - 1 - 0 ≡ length received + 0 = omega arith in
@@ -71,7 +71,7 @@ push-shows r received s b h (suc back) l =
 
 -- ---- then its window is the plain machine's, or begins with a spoiled symbol where that has none
 
-shown-window : (f : Format) (r : Register) (received : List ℕ) → Shows r received → windowLength f ≤ length received → windowIn f (wordsOf r) ≡ lastOf (windowLength f) received
+shown-window : (f : Format) (r : Register) (received : List ℕ) → RegisterShows r received → windowLength f ≤ length received → windowIn f (wordsOf r) ≡ lastOf (windowLength f) received
 unfolding windowLength lastOf
 shown-window f r received h l =
     ext-getD 0 (windowIn f (wordsOf r)) (drop (length received - (2 * size f + 1)) received) (length-window f (wordsOf r) ∙ sym (length-drop (length received - (2 * size f + 1)) received ∙ omega arith))
@@ -82,13 +82,13 @@ shown-window f r received h l =
     ∙ h (2 * size f - i) (omega (arith, size-range f))
     ∙ rw (lt-ltb (2 * size f - i) (length received) (omega arith)) (ap (λ (j : ℕ). getD received j 0) (omega arith) ∙ sym (getD-drop (length received - (2 * size f + 1)) received i 0)))
 
-short-window : (f : Format) (r : Register) (received : List ℕ) → Shows r received → length received < windowLength f → windowAnswer f (windowIn f (wordsOf r)) ≡ Quiet
+short-window : (f : Format) (r : Register) (received : List ℕ) → RegisterShows r received → length received < windowLength f → windowAnswer f (windowIn f (wordsOf r)) ≡ Quiet
 unfolding windowLength windowAnswer
 short-window f r received h l =
     let first : getD (windowIn f (wordsOf r)) 0 0 ≡ 3 = window-at f (wordsOf r) 0 (2 * size f) (omega arith) ∙ h (2 * size f) (omega (arith, size-range f)) ∙ rw (le-ltb (2 * size f) (length received) (omega arith)) in
     rw first
 
-pub shown-answer : (f : Format) (r : Register) (received : List ℕ) → Shows r received → windowAnswer f (windowIn f (wordsOf r)) ≡ plainAnswer f received
+pub shown-answer : (f : Format) (r : Register) (received : List ℕ) → RegisterShows r received → windowAnswer f (windowIn f (wordsOf r)) ≡ plainAnswer f received
 shown-answer f r received h = go (decLe (windowLength f) (length received))
   where
     go : Dec (windowLength f ≤ length received) → windowAnswer f (windowIn f (wordsOf r)) ≡ plainAnswer f received
@@ -98,26 +98,26 @@ shown-answer f r received h = go (decLe (windowLength f) (length received))
 -- ---- one Feed: the reader goes on showing what the plain machine has received
 
 -- the reader has the format, its place is the number of elements modulo n, and its register shows them
-pub record Hears (f : Format) (r : Reader) (received : List ℕ) : Type 0 where
+pub record Receives (f : Format) (r : Reader) (received : List ℕ) : Type 0 where
   pub same-format : r .format ≡ f
   pub place-is : r .place ≡ length received % size f
-  pub shows : Shows (r .received) received
+  pub shows : RegisterShows (r .received) received
 
-pub fresh-hears : (f : Format) → Hears f (freshReader f) []
-fresh-hears f = record { same-format = refl; place-is = sym (zero-mod (size f)); shows = silence-shows }
+pub fresh-receives : (f : Format) → Receives f (freshReader f) []
+fresh-receives f = record { same-format = refl; place-is = sym (zero-mod (size f)); shows = spoiled-shows }
 
-pub hears-valid : (f : Format) (r : Reader) (received : List ℕ) → known f ≡ true → Hears f r received → isValid r ≡ true
+pub receives-valid : (f : Format) (r : Reader) (received : List ℕ) → known f ≡ true → Receives f r received → isValid r ≡ true
 unfolding isValid
-hears-valid f r received k h = rw (h .same-format, k, h .place-is) (lt-ltb (length received % size f) (size f) (mod-lt (length received) (size-positive f)))
+receives-valid f r received k h = rw (h .same-format, k, h .place-is) (lt-ltb (length received % size f) (size f) (mod-lt (length received) (size-positive f)))
 
-pub feed-hears : (f : Format) (r : Reader) (received : List ℕ) (s : ℕ) → known f ≡ true → Hears f r received → (feedOf r s .answer ≡ plainFeed f received s .answer) × Hears f (feedOf r s .reader) (plainFeed f received s .received)
+pub feed-receives : (f : Format) (r : Reader) (received : List ℕ) (s : ℕ) → known f ≡ true → Receives f r received → (feedOf r s .answer ≡ plainFeed f received s .answer) × Receives f (feedOf r s .reader) (plainFeed f received s .received)
 unfolding feedOf answerOf nextOf
-feed-hears f r received s k h = go (decLe s 3)
+feed-receives f r received s k h = go (decLe s 3)
   where
     valid : isValid r ≡ true
-    valid = hears-valid f r received k h
+    valid = receives-valid f r received k h
 
-    go : Dec (s ≤ 3) → (feedOf r s .answer ≡ plainFeed f received s .answer) × Hears f (feedOf r s .reader) (plainFeed f received s .received)
+    go : Dec (s ≤ 3) → (feedOf r s .answer ≡ plainFeed f received s .answer) × Receives f (feedOf r s .reader) (plainFeed f received s .received)
     go (yes l) =
         let shown = push-shows (r .received) received s l (h .shows) in
         rw (feed-accepts f received s l, valid, le-leb s 3 l) (
@@ -133,21 +133,21 @@ feed-hears f r received s k h = go (decLe s 3)
 -- ---- Demand 3
 
 module _ (f : Format) (k : known f ≡ true) where
-  pub answers-plain : (r : Reader) (received ss : List ℕ) → Hears f r received → answers r ss ≡ plainAnswers f received ss
+  pub answers-plain : (r : Reader) (received ss : List ℕ) → Receives f r received → answers r ss ≡ plainAnswers f received ss
   unfolding answers plainAnswers
   answers-plain r received [] h = refl
   answers-plain r received (s ∷ ss) h =
-      let fed = feed-hears f r received s k h in
+      let fed = feed-receives f r received s k h in
       ap₂ (λ (a : Answer) (as′ : List Answer). a ∷ as′) (fed .0) (answers-plain (feedOf r s .reader) (plainFeed f received s .received) ss (fed .1))
 
-  pub hears-after : (r : Reader) (received ss : List ℕ) → Hears f r received → Hears f (readerAfter r ss) (plainReceived f received ss)
+  pub receives-after : (r : Reader) (received ss : List ℕ) → Receives f r received → Receives f (readerAfter r ss) (plainReceived f received ss)
   unfolding readerAfter plainReceived
-  hears-after r received [] h = h
-  hears-after r received (s ∷ ss) h = hears-after (feedOf r s .reader) (plainFeed f received s .received) ss (feed-hears f r received s k h .1)
+  receives-after r received [] h = h
+  receives-after r received (s ∷ ss) h = receives-after (feedOf r s .reader) (plainFeed f received s .received) ss (feed-receives f r received s k h .1)
 
   -- With every Feed of the list the answer is the plain machine's, refusals too.
   pub answers-are-plain : (ss : List ℕ) → answers (freshReader f) ss ≡ plainAnswers f [] ss
-  answers-are-plain ss = answers-plain (freshReader f) [] ss (fresh-hears f)
+  answers-are-plain ss = answers-plain (freshReader f) [] ss (fresh-receives f)
 
   -- So all that demand 3 says holds of them.
   pub reader-demand-3 : (ss : List ℕ) (none : Answer) → Demand3 f ss (answers (freshReader f) ss) none
@@ -157,12 +157,12 @@ module _ (f : Format) (k : known f ≡ true) where
       → (none : Answer) → SameAnswers ss rs (answers (freshReader f) (ss ++ xs)) (answers (freshReader f) (rs ++ xs)) none
   two-readers-agree ss rs xs = two-readers f ss rs xs (answers (freshReader f) (ss ++ xs)) (answers (freshReader f) (rs ++ xs)) (answers-are-plain (ss ++ xs)) (answers-are-plain (rs ++ xs))
 
-  pub fed-hears : (ss : List ℕ) → Hears f (readerAfter (freshReader f) ss) (plainReceived f [] ss)
-  fed-hears ss = hears-after (freshReader f) [] ss (fresh-hears f)
+  pub fed-receives : (ss : List ℕ) → Receives f (readerAfter (freshReader f) ss) (plainReceived f [] ss)
+  fed-receives ss = receives-after (freshReader f) [] ss (fresh-receives f)
 
   -- A reader made by feeding a fresh one never meets 13, and its place is the number of its elements modulo n.
   pub fed-is-valid : (ss : List ℕ) → isValid (readerAfter (freshReader f) ss) ≡ true
-  fed-is-valid ss = hears-valid f (readerAfter (freshReader f) ss) (plainReceived f [] ss) k (fed-hears ss)
+  fed-is-valid ss = receives-valid f (readerAfter (freshReader f) ss) (plainReceived f [] ss) k (fed-receives ss)
 
   pub fed-place : (ss : List ℕ) → readerAfter (freshReader f) ss .place ≡ length (elementsOf ss) % size f
-  fed-place ss = fed-hears ss .place-is ∙ ap (λ (received : List ℕ). length received % size f) (holds-the-elements f ss)
+  fed-place ss = fed-receives ss .place-is ∙ ap (λ (received : List ℕ). length received % size f) (holds-the-elements f ss)

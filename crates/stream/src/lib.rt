@@ -48,7 +48,7 @@ pub struct Fed {
 // The reader after a symbol that is accepted and no mark; or another symbol, or an invalid reader.
 pub enum Passed {
     Next(Reader),
-    Other,
+    NotPassed,
 }
 
 impl Reader {
@@ -190,14 +190,14 @@ pub fn pass(reader: Reader, symbol: u8) -> Passed
     ensures { λ r. ⌜ r ≡ passOf reader symbol ⌝ }
 {
     if symbol == MARK {
-        return Passed::Other;
+        return Passed::NotPassed;
     }
     if symbol <= SPOILED {
         if is_valid(reader) {
             return Passed::Next(with_symbol(reader, symbol));
         }
     }
-    Passed::Other
+    Passed::NotPassed
 }
 
 // The answer to a Feed. Only a mark ends a frame.

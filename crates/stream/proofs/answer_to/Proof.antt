@@ -2,7 +2,7 @@
 use borrow.Author.Needs.{needs}
 use borrow.Author.Tests.{le-leb, lt-leb}
 use Rattle.stream.specs.Feeding.{answerOf}
-use Rattle.stream.specs.Marked.{other-quiet}
+use Rattle.stream.specs.Marked.{unmarked-symbol-quiet}
 use Rattle.stream.proofs.answer_to.Statement.{statement}
 use Rattle.stream.proofs.answer_to.Tie as tie
 
@@ -31,7 +31,7 @@ returns-2 c = rw (← c .before .before .before .before .before .before .before 
 
 returns-3 : tie.Need-returns-3
 unfolding answerOf
-returns-3 c = rw (← c .before .before .before .is-valid .ensures, c .before .before .if1 .taken, le-leb _ _ (c .before .if2 .left)) (other-quiet (c .before .before .before .before .args .reader .format) (c .before .before .before .before .args .reader .received) (c .before .before .before .before .args .symbol) (c .before .if2 .left) (c .if3 .left))
+returns-3 c = rw (← c .before .before .before .is-valid .ensures, c .before .before .if1 .taken, le-leb _ _ (c .before .if2 .left)) (unmarked-symbol-quiet (c .before .before .before .before .args .reader .format) (c .before .before .before .before .args .reader .received) (c .before .before .before .before .args .symbol) (c .before .if2 .left) (c .if3 .left))
 
 returns-4 : tie.Need-returns-4
 unfolding answerOf

@@ -3,7 +3,7 @@ use borrow.Author.Needs.{needs}
 use mathlib.Core.Path.{sym, ap, _∙_}
 use lib.ListN.{length}
 use Rattle.timecode.specs.Frames.{readOf}
-use Rattle.stream.specs.Marked.{length-heard}
+use Rattle.stream.specs.Marked.{length-received}
 use Rattle.stream.proofs.read_at.Statement.{statement}
 use Rattle.stream.proofs.read_at.Tie as tie
 
@@ -14,7 +14,7 @@ array-share-prefix-frame : tie.Need-array-share-prefix-frame
 array-share-prefix-frame c = search needs
 
 slice-aggregate-read : tie.Need-slice-aggregate-read
-slice-aggregate-read c = sym (ap length (c .before .frame-at .ensures) ∙ length-heard (c .before .before .before .args .words .now) (c .before .before .before .args .back) (c .before .before .before .args .n))
+slice-aggregate-read c = sym (ap length (c .before .frame-at .ensures) ∙ length-received (c .before .before .before .args .words .now) (c .before .before .before .args .back) (c .before .before .before .args .n))
 
 read-requires : tie.Need-read-requires
 read-requires c κs = search needs

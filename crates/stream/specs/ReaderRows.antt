@@ -6,7 +6,7 @@ use Rattle.timecode.specs.Answers.{Said, said, refused, answerSaid}
 use Rattle.timecode.specs.Formats.{D, H, table, lookUp, rowOf, known, size}
 use Rattle.timecode.specs.declared.Format.{Format}
 use Rattle.timecode.specs.declared.Refusal.the-variants.{UnknownFormat, UnknownSymbol, InvalidReader}
-use Rattle.stream.specs.Feeding.{silence, freshReader, madeOf, madeSaid, isValid, answerOf}
+use Rattle.stream.specs.Feeding.{spoiledRegister, freshReader, madeOf, madeSaid, isValid, answerOf}
 use Rattle.stream.specs.declared.Reader.{Reader}
 
 abbrev format : ℕ → ℕ → Format
@@ -14,7 +14,7 @@ format letter expression = record { letter = letter; expression = expression }
 
 -- a reader at that place
 abbrev at : Format → ℕ → Reader
-at f place = record { format = f; place = place; received = silence }
+at f place = record { format = f; place = place; received = spoiledRegister }
 
 abbrev saids : List Said
 saids =
