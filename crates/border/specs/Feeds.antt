@@ -25,7 +25,7 @@ use Rattle.block.specs.Folds.{refused-block-leaves}
 use Rattle.block.specs.declared.BlockAnswer.{BlockAnswer}
 use Rattle.pulse_feed.specs.Pulses.{feedPulseOf, refused-pulse-same-reader}
 use Rattle.reader_calls.specs.MixedCalls.{call-reader, calls-are-plain}
-use Rattle.reader_calls.specs.ReaderCalls.{Call, symbol, symbolInPlace, pulse, block, Result, symbolResult, inPlaceResult, pulseResult, blockResult, symbolsFed, allFed, allAnswers, resultOf, readerOf, results, readerAfterCalls, plainResults}
+use Rattle.reader_calls.specs.ReaderCalls.{ReaderCall, symbol, symbolInPlace, pulse, block, CallResult, symbolCallResult, inPlaceCallResult, pulseCallResult, blockCallResult, symbolsFed, allFed, allAnswers, callResult, readerOf, callResults, readerAfterCalls, plainCallResults}
 use Rattle.border.specs.Border.{unlessRefused, formatOf, fedSaid, fedWith, wordsFor, byteIn, readerIn, freshLeft, feedWords, feedPulseWords, wordsLeft, feedBlockWords, blockWordsLeft}
 use Rattle.border.specs.Laws.{refusal-numbered}
 
@@ -65,35 +65,35 @@ expression-above-255 words s h = rw (le-ltb (getD words 1 0) 256 h, no-expressio
 
 -- ---- calls in any mix: each takes the words that the call before left
 
-abbrev pub wordsResult : List ℕ → Call → Result
-wordsResult words (symbol s) = symbolResult s (feedWords words s .answer)
-wordsResult words (symbolInPlace s) = inPlaceResult s (feedWords words s .answer)
-wordsResult words (pulse T width period) = pulseResult T width period (feedPulseWords words T width period .answer)
-wordsResult words (block ss l) = blockResult ss l (feedBlockWords words ss l .answer) (listsLeft (blockFor (readerIn words) ss l) l)
+abbrev pub wordsResult : List ℕ → ReaderCall → CallResult
+wordsResult words (symbol s) = symbolCallResult s (feedWords words s .answer)
+wordsResult words (symbolInPlace s) = inPlaceCallResult s (feedWords words s .answer)
+wordsResult words (pulse T width period) = pulseCallResult T width period (feedPulseWords words T width period .answer)
+wordsResult words (block ss l) = blockCallResult ss l (feedBlockWords words ss l .answer) (listsLeft (blockFor (readerIn words) ss l) l)
 
-abbrev pub wordsAfter : List ℕ → Call → List ℕ
+abbrev pub wordsAfter : List ℕ → ReaderCall → List ℕ
 wordsAfter words (symbol s) = wordsLeft (feedWords words s) words
 wordsAfter words (symbolInPlace s) = wordsLeft (feedWords words s) words
 wordsAfter words (pulse T width period) = wordsLeft (feedPulseWords words T width period) words
 wordsAfter words (block ss l) = blockWordsLeft (feedBlockWords words ss l) words
 
-unfoldable pub wordsResults : List ℕ → List Call → List Result
+unfoldable pub wordsResults : List ℕ → List ReaderCall → List CallResult
 wordsResults words [] = []
 wordsResults words (c ∷ cs) = wordsResult words c ∷ wordsResults (wordsAfter words c) cs
 
-unfoldable pub wordsAfterCalls : List ℕ → List Call → List ℕ
+unfoldable pub wordsAfterCalls : List ℕ → List ReaderCall → List ℕ
 wordsAfterCalls words [] = words
 wordsAfterCalls words (c ∷ cs) = wordsAfterCalls (wordsAfter words c) cs
 
 -- the number that a call returns
-abbrev pub numberGiven : Result → ℕ
-numberGiven (symbolResult s a) = answerSaid a .number
-numberGiven (inPlaceResult s a) = answerSaid a .number
-numberGiven (pulseResult T width period a) = answerSaid a .number
-numberGiven (blockResult ss l a left) = blockSaid a .number
+abbrev pub numberGiven : CallResult → ℕ
+numberGiven (symbolCallResult s a) = answerSaid a .number
+numberGiven (inPlaceCallResult s a) = answerSaid a .number
+numberGiven (pulseCallResult T width period a) = answerSaid a .number
+numberGiven (blockCallResult ss l a left) = blockSaid a .number
 
 -- Demand 1: a call that refuses, on any words, leaves the words as they were,
-pub refused-call-leaves-words : (words : List ℕ) (c : Call) → (numberGiven (wordsResult words c) ≡ 0 → ⊥) → wordsAfter words c ≡ words
+pub refused-call-leaves-words : (words : List ℕ) (c : ReaderCall) → (numberGiven (wordsResult words c) ≡ 0 → ⊥) → wordsAfter words c ≡ words
 refused-call-leaves-words words (symbol s) h = rw (ne-eqb (fedSaid (feedWords words s) .number) 0 h)
 refused-call-leaves-words words (symbolInPlace s) h = rw (ne-eqb (fedSaid (feedWords words s) .number) 0 h)
 refused-call-leaves-words words (pulse T width period) h = rw (ne-eqb (fedSaid (feedPulseWords words T width period) .number) 0 h)
@@ -114,7 +114,7 @@ left-block : (r next : Reader) (a : BlockAnswer) → ((x : Refusal) → a ≡ Bl
 left-block r next (BlockAnswer.Taken taken reports why) h = refl
 left-block r next (BlockAnswer.Refused x) h = rw (refusal-numbered x) (ap wordsFor (sym (h x refl)))
 
-left-words : (r : Reader) (c : Call) → AreBytes (r .format) → wordsAfter (wordsFor r) c ≡ wordsFor (readerOf r c)
+left-words : (r : Reader) (c : ReaderCall) → AreBytes (r .format) → wordsAfter (wordsFor r) c ≡ wordsFor (readerOf r c)
 left-words r (symbol s) h = rw (packed-back r h) (left-fed r (feedOf r s .reader) (feedOf r s .answer) (refused-feed-same-reader r s))
 left-words r (symbolInPlace s) h = rw (packed-back r h) (left-fed r (feedOf r s .reader) (feedOf r s .answer) (refused-feed-same-reader r s))
 left-words r (pulse T width period) h =
@@ -126,24 +126,24 @@ unfolding readerAfter feedOf nextOf
 format-kept r [] = refl
 format-kept r (s ∷ ss) = format-kept (nextOf r s) ss ∙ by-test (isValid r && isSymbol s) (λ y. rw y) (λ n. rw n)
 
-bytes-kept : (r : Reader) (c : Call) → AreBytes (r .format) → AreBytes (readerOf r c .format)
-bytes-kept r c h = subst (λ (q : Reader). AreBytes (q .format)) (sym (call-reader r c)) (subst AreBytes (sym (format-kept r (symbolsFed (resultOf r c)))) h)
+bytes-kept : (r : Reader) (c : ReaderCall) → AreBytes (r .format) → AreBytes (readerOf r c .format)
+bytes-kept r c h = subst (λ (q : Reader). AreBytes (q .format)) (sym (call-reader r c)) (subst AreBytes (sym (format-kept r (symbolsFed (callResult r c)))) h)
 
 -- ---- so the words give the results of their reader
 
-result-of-words : (r : Reader) (c : Call) → AreBytes (r .format) → wordsResult (wordsFor r) c ≡ resultOf r c
+result-of-words : (r : Reader) (c : ReaderCall) → AreBytes (r .format) → wordsResult (wordsFor r) c ≡ callResult r c
 result-of-words r (symbol s) h = rw (packed-back r h)
 result-of-words r (symbolInPlace s) h = rw (packed-back r h)
 result-of-words r (pulse T width period) h = rw (packed-back r h)
 result-of-words r (block ss l) h = rw (packed-back r h)
 
-pub results-of-words : (r : Reader) → AreBytes (r .format) → (cs : List Call) → wordsResults (wordsFor r) cs ≡ results r cs
-unfolding wordsResults results
+pub results-of-words : (r : Reader) → AreBytes (r .format) → (cs : List ReaderCall) → wordsResults (wordsFor r) cs ≡ callResults r cs
+unfolding wordsResults callResults
 results-of-words r h [] = refl
 results-of-words r h (c ∷ cs) =
-    ap₂ (λ (x : Result) (xs : List Result). x ∷ xs) (result-of-words r c h) (ap (λ (words : List ℕ). wordsResults words cs) (left-words r c h) ∙ results-of-words (readerOf r c) (bytes-kept r c h) cs)
+    ap₂ (λ (x : CallResult) (xs : List CallResult). x ∷ xs) (result-of-words r c h) (ap (λ (words : List ℕ). wordsResults words cs) (left-words r c h) ∙ results-of-words (readerOf r c) (bytes-kept r c h) cs)
 
-pub words-of-reader : (r : Reader) → AreBytes (r .format) → (cs : List Call) → wordsAfterCalls (wordsFor r) cs ≡ wordsFor (readerAfterCalls r cs)
+pub words-of-reader : (r : Reader) → AreBytes (r .format) → (cs : List ReaderCall) → wordsAfterCalls (wordsFor r) cs ≡ wordsFor (readerAfterCalls r cs)
 unfolding wordsAfterCalls readerAfterCalls
 words-of-reader r h [] = refl
 words-of-reader r h (c ∷ cs) = ap (λ (words : List ℕ). wordsAfterCalls words cs) (left-words r c h) ∙ words-of-reader (readerOf r c) (bytes-kept r c h) cs
@@ -163,27 +163,27 @@ module _ (letter expression : ℕ) (old : List ℕ) (k : known (formatOf letter 
   made-words = rw k
 
   -- The results of any list of calls in any mix are those of the reader,
-  pub words-results : (cs : List Call) → wordsResults fresh cs ≡ results (freshReader f) cs
+  pub words-results : (cs : List ReaderCall) → wordsResults fresh cs ≡ callResults (freshReader f) cs
   words-results cs = ap (λ (words : List ℕ). wordsResults words cs) made-words ∙ results-of-words (freshReader f) (known-bytes f k) cs
 
   -- so each is the plain machine's, refusals too,
-  pub words-results-are-plain : (cs : List Call) → wordsResults fresh cs ≡ plainResults f [] cs
+  pub words-results-are-plain : (cs : List ReaderCall) → wordsResults fresh cs ≡ plainCallResults f [] cs
   words-results-are-plain cs = words-results cs ∙ calls-are-plain f k cs .each-result
 
   -- the answers are the plain machine's to the symbols fed,
-  pub words-answers-are-plain : (cs : List Call) → allAnswers (wordsResults fresh cs) ≡ plainAnswers f [] (allFed (wordsResults fresh cs))
+  pub words-answers-are-plain : (cs : List ReaderCall) → allAnswers (wordsResults fresh cs) ≡ plainAnswers f [] (allFed (wordsResults fresh cs))
   words-answers-are-plain cs = rw (words-results cs) (calls-are-plain f k cs .all-answers)
 
   -- and the words afterwards are those of the reader fed so.
-  pub words-after-calls : (cs : List Call) → wordsAfterCalls fresh cs ≡ wordsFor (readerAfterCalls (freshReader f) cs)
+  pub words-after-calls : (cs : List ReaderCall) → wordsAfterCalls fresh cs ≡ wordsFor (readerAfterCalls (freshReader f) cs)
   words-after-calls cs = ap (λ (words : List ℕ). wordsAfterCalls words cs) made-words ∙ words-of-reader (freshReader f) (known-bytes f k) cs
 
   -- So demand 3 holds of them.
-  pub words-demand-3 : (cs : List Call) (none : Answer) → Demand3 f (allFed (wordsResults fresh cs)) (allAnswers (wordsResults fresh cs)) none
+  pub words-demand-3 : (cs : List ReaderCall) (none : Answer) → Demand3 f (allFed (wordsResults fresh cs)) (allAnswers (wordsResults fresh cs)) none
   words-demand-3 cs = demand-3 f (allFed (wordsResults fresh cs)) (allAnswers (wordsResults fresh cs)) (words-answers-are-plain cs)
 
 -- Two readers in two memories.
-pub two-words-agree : (letter expression : ℕ) (old other : List ℕ) → known (formatOf letter expression) ≡ true → (cs ds : List Call) (ss rs xs : List ℕ)
+pub two-words-agree : (letter expression : ℕ) (old other : List ℕ) → known (formatOf letter expression) ≡ true → (cs ds : List ReaderCall) (ss rs xs : List ℕ)
     → allFed (wordsResults (freshLeft letter expression old) cs) ≡ ss ++ xs → allFed (wordsResults (freshLeft letter expression other) ds) ≡ rs ++ xs
     → SameWindow (formatOf letter expression) (elementsOf ss) (elementsOf rs)
     → (none : Answer) → SameAnswers ss rs (allAnswers (wordsResults (freshLeft letter expression old) cs)) (allAnswers (wordsResults (freshLeft letter expression other) ds)) none

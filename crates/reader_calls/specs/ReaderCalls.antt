@@ -15,64 +15,64 @@ use Rattle.block.specs.declared.BlockAnswer.{BlockAnswer}
 use Rattle.pulse_feed.specs.Pulses.{feedPulseOf}
 
 -- A symbol fed by value; a symbol fed in place; a pulse classified and fed (interval, width, period); a block of symbols, with the lent list for its reports.
-pub data Call : Type 0 where
-  symbol : ℕ → Call
-  symbolInPlace : ℕ → Call
-  pulse : ℕ → ℕ → ℕ → Call
-  block : List ℕ → Lists → Call
+pub data ReaderCall : Type 0 where
+  symbol : ℕ → ReaderCall
+  symbolInPlace : ℕ → ReaderCall
+  pulse : ℕ → ℕ → ℕ → ReaderCall
+  block : List ℕ → Lists → ReaderCall
 
 -- A call with its result: the answer, and of a block also the lent list afterwards.
-pub data Result : Type 0 where
-  symbolResult : ℕ → Answer → Result
-  inPlaceResult : ℕ → Answer → Result
-  pulseResult : ℕ → ℕ → ℕ → Answer → Result
-  blockResult : List ℕ → Lists → BlockAnswer → Lists → Result
+pub data CallResult : Type 0 where
+  symbolCallResult : ℕ → Answer → CallResult
+  inPlaceCallResult : ℕ → Answer → CallResult
+  pulseCallResult : ℕ → ℕ → ℕ → Answer → CallResult
+  blockCallResult : List ℕ → Lists → BlockAnswer → Lists → CallResult
 
 -- ---- what was fed, and what it was answered
 
 -- A symbol is fed, refused or not; a refused pulse feeds none, and a block feeds the symbols that it takes.
-abbrev pub symbolsFed : Result → List ℕ
-symbolsFed (symbolResult s a) = s ∷ []
-symbolsFed (inPlaceResult s a) = s ∷ []
-symbolsFed (pulseResult T width period a) = cond (isInterval T) (symbolOf T width period ∷ []) []
-symbolsFed (blockResult ss l (BlockAnswer.Taken taken reports why) left) = take taken ss
-symbolsFed (blockResult ss l (BlockAnswer.Refused x) left) = []
+abbrev pub symbolsFed : CallResult → List ℕ
+symbolsFed (symbolCallResult s a) = s ∷ []
+symbolsFed (inPlaceCallResult s a) = s ∷ []
+symbolsFed (pulseCallResult T width period a) = cond (isInterval T) (symbolOf T width period ∷ []) []
+symbolsFed (blockCallResult ss l (BlockAnswer.Taken taken reports why) left) = take taken ss
+symbolsFed (blockCallResult ss l (BlockAnswer.Refused x) left) = []
 
 -- an answer to each symbol fed; a block's are those that its records tell
-abbrev pub answersGiven : Result → List Answer
-answersGiven (symbolResult s a) = a ∷ []
-answersGiven (inPlaceResult s a) = a ∷ []
-answersGiven (pulseResult T width period a) = cond (isInterval T) (a ∷ []) []
-answersGiven (blockResult ss l (BlockAnswer.Taken taken reports why) left) = answersFrom 0 taken (recordsIn reports left)
-answersGiven (blockResult ss l (BlockAnswer.Refused x) left) = []
+abbrev pub answersGiven : CallResult → List Answer
+answersGiven (symbolCallResult s a) = a ∷ []
+answersGiven (inPlaceCallResult s a) = a ∷ []
+answersGiven (pulseCallResult T width period a) = cond (isInterval T) (a ∷ []) []
+answersGiven (blockCallResult ss l (BlockAnswer.Taken taken reports why) left) = answersFrom 0 taken (recordsIn reports left)
+answersGiven (blockCallResult ss l (BlockAnswer.Refused x) left) = []
 
-unfoldable pub allFed : List Result → List ℕ
+unfoldable pub allFed : List CallResult → List ℕ
 allFed [] = []
 allFed (x ∷ xs) = symbolsFed x ++ allFed xs
 
-unfoldable pub allAnswers : List Result → List Answer
+unfoldable pub allAnswers : List CallResult → List Answer
 allAnswers [] = []
 allAnswers (x ∷ xs) = answersGiven x ++ allAnswers xs
 
 -- ---- the calls of a reader: each takes the reader that the call before gave back
 
-abbrev pub resultOf : Reader → Call → Result
-resultOf r (symbol s) = symbolResult s (feedOf r s .answer)
-resultOf r (symbolInPlace s) = inPlaceResult s (feedOf r s .answer)
-resultOf r (pulse T width period) = pulseResult T width period (feedPulseOf r T width period .answer)
-resultOf r (block ss l) = blockResult ss l (feedBlockOf r ss l .answer) (listsLeft (blockFor r ss l) l)
+abbrev pub callResult : Reader → ReaderCall → CallResult
+callResult r (symbol s) = symbolCallResult s (feedOf r s .answer)
+callResult r (symbolInPlace s) = inPlaceCallResult s (feedOf r s .answer)
+callResult r (pulse T width period) = pulseCallResult T width period (feedPulseOf r T width period .answer)
+callResult r (block ss l) = blockCallResult ss l (feedBlockOf r ss l .answer) (listsLeft (blockFor r ss l) l)
 
-abbrev pub readerOf : Reader → Call → Reader
+abbrev pub readerOf : Reader → ReaderCall → Reader
 readerOf r (symbol s) = feedOf r s .reader
 readerOf r (symbolInPlace s) = feedOf r s .reader
 readerOf r (pulse T width period) = feedPulseOf r T width period .reader
 readerOf r (block ss l) = feedBlockOf r ss l .reader
 
-unfoldable pub results : Reader → List Call → List Result
-results r [] = []
-results r (c ∷ cs) = resultOf r c ∷ results (readerOf r c) cs
+unfoldable pub callResults : Reader → List ReaderCall → List CallResult
+callResults r [] = []
+callResults r (c ∷ cs) = callResult r c ∷ callResults (readerOf r c) cs
 
-unfoldable pub readerAfterCalls : Reader → List Call → Reader
+unfoldable pub readerAfterCalls : Reader → List ReaderCall → Reader
 readerAfterCalls r [] = r
 readerAfterCalls r (c ∷ cs) = readerAfterCalls (readerOf r c) cs
 
@@ -82,15 +82,15 @@ readerAfterCalls r (c ∷ cs) = readerAfterCalls (readerOf r c) cs
 abbrev pub plainBlock : Format → List ℕ → List ℕ → Lists → Block
 plainBlock f received ss l = blockIn 0 (roomIn l) (plainAnswers f received ss)
 
-abbrev pub plainResult : Format → List ℕ → Call → Result
-plainResult f received (symbol s) = symbolResult s (plainFeed f received s .answer)
-plainResult f received (symbolInPlace s) = inPlaceResult s (plainFeed f received s .answer)
-plainResult f received (pulse T width period) = pulseResult T width period (cond (isInterval T) (plainFeed f received (symbolOf T width period) .answer) (Answer.Refused InvalidInterval))
-plainResult f received (block ss l) =
+abbrev pub plainCallResult : Format → List ℕ → ReaderCall → CallResult
+plainCallResult f received (symbol s) = symbolCallResult s (plainFeed f received s .answer)
+plainCallResult f received (symbolInPlace s) = inPlaceCallResult s (plainFeed f received s .answer)
+plainCallResult f received (pulse T width period) = pulseCallResult T width period (cond (isInterval T) (plainFeed f received (symbolOf T width period) .answer) (Answer.Refused InvalidInterval))
+plainCallResult f received (block ss l) =
     cond (areRecords l)
-    (blockResult ss l (BlockAnswer.Taken (plainBlock f received ss l .taken) (length (plainBlock f received ss l .reports)) (plainBlock f received ss l .stop)) (listsLeft (plainBlock f received ss l) l))
-    (blockResult ss l (BlockAnswer.Refused WrongLength) l)
+    (blockCallResult ss l (BlockAnswer.Taken (plainBlock f received ss l .taken) (length (plainBlock f received ss l .reports)) (plainBlock f received ss l .stop)) (listsLeft (plainBlock f received ss l) l))
+    (blockCallResult ss l (BlockAnswer.Refused WrongLength) l)
 
-unfoldable pub plainResults : Format → List ℕ → List Call → List Result
-plainResults f received [] = []
-plainResults f received (c ∷ cs) = plainResult f received c ∷ plainResults f (plainReceived f received (symbolsFed (plainResult f received c))) cs
+unfoldable pub plainCallResults : Format → List ℕ → List ReaderCall → List CallResult
+plainCallResults f received [] = []
+plainCallResults f received (c ∷ cs) = plainCallResult f received c ∷ plainCallResults f (plainReceived f received (symbolsFed (plainCallResult f received c))) cs
