@@ -5,7 +5,7 @@ use Prim.Native.Nat.{ℕ, zero, suc}
 use lib.Dec.{eqb}
 use lib.IntN.{pos}
 use lib.ListN.{getD, length, take, drop}
-use Rattle.timecode.specs.Answers.{check, Said, said, refused}
+use Rattle.timecode.specs.Answers.{check, Result, success, refusalResult}
 use Rattle.timecode.specs.Layout.{tabulate}
 use Rattle.timecode.specs.declared.Answer.{Answer}
 use Rattle.timecode.specs.declared.Answer.the-variants.{Quiet, Report}
@@ -124,9 +124,9 @@ stopNumber AllTaken = 0
 stopNumber UnknownSymbol = 1
 stopNumber NoRoom = 2
 
-abbrev pub blockSaid : BlockAnswer → Said
-blockSaid (BlockAnswer.Taken taken reports why) = said (pos taken ∷ pos reports ∷ pos (stopNumber why) ∷ [])
-blockSaid (BlockAnswer.Refused x) = refused x
+abbrev pub blockResult : BlockAnswer → Result
+blockResult (BlockAnswer.Taken taken reports why) = success (pos taken ∷ pos reports ∷ pos (stopNumber why) ∷ [])
+blockResult (BlockAnswer.Refused x) = refusalResult x
 
 -- the reader after the symbols taken, and the answer
 unfoldable pub feedBlockOf : Reader → List ℕ → Lists → FedBlock

@@ -5,16 +5,16 @@ use Prim.Native.Nat.{ℕ}
 use lib.Dec.{ltb, eqb}
 use lib.IntN.{ℤ}
 use lib.ListN.{getD}
-use Rattle.timecode.specs.Answers.{Said, writtenSaid, readingSaid, steppedSaid, subtractedSaid, classifiedSaid, scannedSaid, answerSaid}
+use Rattle.timecode.specs.Answers.{Result, writtenResult, readingResult, steppedResult, subtractedResult, classifiedResult, scannedResult, answerResult}
 use Rattle.timecode.specs.Calls.{classifyOf, classifyListOf, differenceOf, scanOf}
 use Rattle.timecode.specs.Frames.{stepOf, stepBackOf, writeOf, readOf}
 use Rattle.timecode.specs.declared.Answer.{Answer}
 use Rattle.timecode.specs.declared.Format.{Format}
 use Rattle.timecode.specs.declared.Time.{Time}
-use Rattle.stream.specs.Feeding.{freshReader, madeOf, madeSaid, feedOf}
+use Rattle.stream.specs.Feeding.{freshReader, madeOf, madeResult, feedOf}
 use Rattle.stream.specs.declared.Fed.{Fed}
 use Rattle.stream.specs.declared.Reader.{Reader}
-use Rattle.block.specs.Blocks.{Lists, blockSaid, feedBlockOf}
+use Rattle.block.specs.Blocks.{Lists, blockResult, feedBlockOf}
 use Rattle.block.specs.declared.FedBlock.{FedBlock}
 use Rattle.pulse_feed.specs.Pulses.{feedPulseOf}
 
@@ -26,35 +26,35 @@ formatOf letter expression = record { letter = letter; expression = expression }
 abbrev pub timeOf : ℕ → ℕ → Time
 timeOf day hundredths = record { day = day; hundredths = hundredths }
 
-abbrev pub writeSaid : ℕ → ℕ → ℕ → ℕ → ℕ → List ℕ → Said
-writeSaid letter expression day hundredths control frame = writtenSaid (writeOf (formatOf letter expression) (timeOf day hundredths) control frame)
+abbrev pub writeResult : ℕ → ℕ → ℕ → ℕ → ℕ → List ℕ → Result
+writeResult letter expression day hundredths control frame = writtenResult (writeOf (formatOf letter expression) (timeOf day hundredths) control frame)
 
-abbrev pub readSaid : ℕ → ℕ → List ℕ → Said
-readSaid letter expression frame = readingSaid (readOf (formatOf letter expression) frame)
+abbrev pub readResult : ℕ → ℕ → List ℕ → Result
+readResult letter expression frame = readingResult (readOf (formatOf letter expression) frame)
 
-abbrev pub stepSaid : ℕ → ℕ → ℕ → ℕ → ℕ → ℕ → Said
-stepSaid letter expression day hundredths year kind = steppedSaid (stepOf (formatOf letter expression) (timeOf day hundredths) year kind)
+abbrev pub stepResult : ℕ → ℕ → ℕ → ℕ → ℕ → ℕ → Result
+stepResult letter expression day hundredths year kind = steppedResult (stepOf (formatOf letter expression) (timeOf day hundredths) year kind)
 
-abbrev pub stepBackSaid : ℕ → ℕ → ℕ → ℕ → ℕ → ℕ → Said
-stepBackSaid letter expression day hundredths year kind = steppedSaid (stepBackOf (formatOf letter expression) (timeOf day hundredths) year kind)
+abbrev pub stepBackResult : ℕ → ℕ → ℕ → ℕ → ℕ → ℕ → Result
+stepBackResult letter expression day hundredths year kind = steppedResult (stepBackOf (formatOf letter expression) (timeOf day hundredths) year kind)
 
-abbrev pub differenceSaid : ℕ → ℕ → ℕ → ℕ → Said
-differenceSaid firstDay firstHundredths secondDay secondHundredths = subtractedSaid (differenceOf (timeOf firstDay firstHundredths) (timeOf secondDay secondHundredths))
+abbrev pub differenceResult : ℕ → ℕ → ℕ → ℕ → Result
+differenceResult firstDay firstHundredths secondDay secondHundredths = subtractedResult (differenceOf (timeOf firstDay firstHundredths) (timeOf secondDay secondHundredths))
 
-abbrev pub classifySaid : ℕ → ℕ → ℕ → Said
-classifySaid interval width period = classifiedSaid (classifyOf interval width period)
+abbrev pub classifyResult : ℕ → ℕ → ℕ → Result
+classifyResult interval width period = classifiedResult (classifyOf interval width period)
 
-abbrev pub classifyListSaid : ℕ → List ℕ → List ℕ → List ℕ → Said
-classifyListSaid interval widths periods symbols = writtenSaid (classifyListOf interval widths periods symbols)
+abbrev pub classifyListResult : ℕ → List ℕ → List ℕ → List ℕ → Result
+classifyListResult interval widths periods symbols = writtenResult (classifyListOf interval widths periods symbols)
 
-abbrev pub scanSaid : ℕ → ℕ → List ℕ → ℕ → Said
-scanSaid letter expression recording start = scannedSaid (scanOf (formatOf letter expression) recording start)
+abbrev pub scanResult : ℕ → ℕ → List ℕ → ℕ → Result
+scanResult letter expression recording start = scannedResult (scanOf (formatOf letter expression) recording start)
 
-abbrev pub freshSaid : ℕ → ℕ → Said
-freshSaid letter expression = madeSaid (madeOf (formatOf letter expression))
+abbrev pub freshResult : ℕ → ℕ → Result
+freshResult letter expression = madeResult (madeOf (formatOf letter expression))
 
-abbrev pub fedSaid : Fed → Said
-fedSaid fed = answerSaid (fed .answer)
+abbrev pub fedResult : Fed → Result
+fedResult fed = answerResult (fed .answer)
 
 -- a Feed's reader and its answer
 abbrev pub fedWith : Reader → Answer → Fed
@@ -63,7 +63,7 @@ fedWith next answer = record { reader = next; answer = answer }
 -- ---- What a call leaves in the caller's memory
 
 -- the new contents, or after a refusal the old
-abbrev pub unlessRefused : {Any : Type 0} → Said → Any → Any → Any
+abbrev pub unlessRefused : {Any : Type 0} → Result → Any → Any → Any
 unlessRefused s new old = cond (eqb (s .number) 0) new old
 
 -- the values, or where there are none what was there
@@ -72,7 +72,7 @@ orElse [] old = old
 orElse (v ∷ vs) old = v ∷ vs
 
 -- the out-parameters for the values of an answer
-abbrev pub valuesLeft : Said → List ℤ → List ℤ
+abbrev pub valuesLeft : Result → List ℤ → List ℤ
 valuesLeft s old = unlessRefused s (orElse (s .values) old) old
 
 -- 1 where there are values, 0 where there are none
@@ -81,11 +81,11 @@ some [] = 0
 some (v ∷ vs) = 1
 
 -- the out-parameter that tells Report from Quiet, and a frame found from None
-abbrev pub flagLeft : Said → ℕ → ℕ
+abbrev pub flagLeft : Result → ℕ → ℕ
 flagLeft s old = unlessRefused s (some (s .values)) old
 
 -- the out-parameter for the index, which a refusal has with 5 and 6 alone
-abbrev pub indexLeft : Said → ℤ → ℤ
+abbrev pub indexLeft : Result → ℤ → ℤ
 indexLeft s old = unlessRefused s old (getD (s .values) 0 old)
 
 -- ---- The reader as ten words: the letter, the expression, the place, and the seven of the register
@@ -119,7 +119,7 @@ readerIn words =
 
 -- the words after a fresh reader is made
 abbrev pub freshLeft : ℕ → ℕ → List ℕ → List ℕ
-freshLeft letter expression old = unlessRefused (freshSaid letter expression) (wordsFor (freshReader (formatOf letter expression))) old
+freshLeft letter expression old = unlessRefused (freshResult letter expression) (wordsFor (freshReader (formatOf letter expression))) old
 
 -- one Feed of the caller's words, by a symbol and by a pulse
 abbrev pub feedWords : List ℕ → ℕ → Fed
@@ -130,11 +130,11 @@ feedPulseWords words interval width period = feedPulseOf (readerIn words) interv
 
 -- the words after a Feed
 abbrev pub wordsLeft : Fed → List ℕ → List ℕ
-wordsLeft fed old = unlessRefused (fedSaid fed) (wordsFor (fed .reader)) old
+wordsLeft fed old = unlessRefused (fedResult fed) (wordsFor (fed .reader)) old
 
 -- a block of symbols fed to the caller's words, and the words after it
 abbrev pub feedBlockWords : List ℕ → List ℕ → Lists → FedBlock
 feedBlockWords words symbols l = feedBlockOf (readerIn words) symbols l
 
 abbrev pub blockWordsLeft : FedBlock → List ℕ → List ℕ
-blockWordsLeft fed old = unlessRefused (blockSaid (fed .answer)) (wordsFor (fed .reader)) old
+blockWordsLeft fed old = unlessRefused (blockResult (fed .answer)) (wordsFor (fed .reader)) old

@@ -6,7 +6,7 @@ use Prim.Native.Nat.{ℕ, _<_, _≤_}
 use borrow.Author.Tests.{lt-ltb, le-ltb, ltb-true, ne-eqb}
 use lib.Dec.{ltb}
 use lib.ListN.{getD}
-use Rattle.timecode.specs.Answers.{answerSaid}
+use Rattle.timecode.specs.Answers.{answerResult}
 use Rattle.timecode.specs.Demand3.{Demand3, SameAnswers, demand-3, two-readers}
 use Rattle.timecode.specs.Formats.{isSymbol, known, lookUp, rowOf, table}
 use Rattle.timecode.specs.Laws.Table.{everyFormat, of-every}
@@ -20,13 +20,13 @@ use Rattle.stream.specs.FeedLists.{refused-feed-same-reader}
 use Rattle.stream.specs.Feeding.{freshReader, madeOf, isValid, nextOf, answerOf, feedOf}
 use Rattle.stream.specs.Refinement.{readerAfter}
 use Rattle.stream.specs.declared.Reader.{Reader}
-use Rattle.block.specs.Blocks.{Lists, listsLeft, blockSaid, blockFor, feedBlockOf}
+use Rattle.block.specs.Blocks.{Lists, listsLeft, blockResult, blockFor, feedBlockOf}
 use Rattle.block.specs.Folds.{refused-block-leaves}
 use Rattle.block.specs.declared.BlockAnswer.{BlockAnswer}
 use Rattle.pulse_feed.specs.Pulses.{feedPulseOf, refused-pulse-same-reader}
 use Rattle.reader_calls.specs.MixedCalls.{call-reader, calls-are-plain}
 use Rattle.reader_calls.specs.ReaderCalls.{ReaderCall, symbol, symbolInPlace, pulse, block, CallResult, symbolCallResult, inPlaceCallResult, pulseCallResult, blockCallResult, symbolsFed, allFed, allAnswers, callResult, readerOf, callResults, readerAfterCalls, plainCallResults}
-use Rattle.border.specs.Border.{unlessRefused, formatOf, fedSaid, fedWith, wordsFor, byteIn, readerIn, freshLeft, feedWords, feedPulseWords, wordsLeft, feedBlockWords, blockWordsLeft}
+use Rattle.border.specs.Border.{unlessRefused, formatOf, fedResult, fedWith, wordsFor, byteIn, readerIn, freshLeft, feedWords, feedPulseWords, wordsLeft, feedBlockWords, blockWordsLeft}
 use Rattle.border.specs.Laws.{refusal-numbered}
 
 -- ---- packed and unpacked
@@ -55,11 +55,11 @@ no-expression : (l : ℕ) → known (formatOf l 255) ≡ false
 unfolding everyFormat table
 no-expression l = by-test (known (formatOf l 255)) (λ y. clash (of-every (λ f. ltb (f .expression) 255) refl (formatOf l 255) y) refl) (λ n. n)
 
-pub letter-above-255 : (words : List ℕ) (s : ℕ) → 256 ≤ getD words 0 0 → fedSaid (feedWords words s) .number ≡ 13
+pub letter-above-255 : (words : List ℕ) (s : ℕ) → 256 ≤ getD words 0 0 → fedResult (feedWords words s) .number ≡ 13
 unfolding feedOf answerOf isValid readerIn byteIn
 letter-above-255 words s h = rw (le-ltb (getD words 0 0) 256 h, no-letter (byteIn (getD words 1 0)))
 
-pub expression-above-255 : (words : List ℕ) (s : ℕ) → 256 ≤ getD words 1 0 → fedSaid (feedWords words s) .number ≡ 13
+pub expression-above-255 : (words : List ℕ) (s : ℕ) → 256 ≤ getD words 1 0 → fedResult (feedWords words s) .number ≡ 13
 unfolding feedOf answerOf isValid readerIn byteIn
 expression-above-255 words s h = rw (le-ltb (getD words 1 0) 256 h, no-expression (byteIn (getD words 0 0)))
 
@@ -87,17 +87,17 @@ wordsAfterCalls words (c ∷ cs) = wordsAfterCalls (wordsAfter words c) cs
 
 -- the number that a call returns
 abbrev pub numberGiven : CallResult → ℕ
-numberGiven (symbolCallResult s a) = answerSaid a .number
-numberGiven (inPlaceCallResult s a) = answerSaid a .number
-numberGiven (pulseCallResult T width period a) = answerSaid a .number
-numberGiven (blockCallResult ss l a left) = blockSaid a .number
+numberGiven (symbolCallResult s a) = answerResult a .number
+numberGiven (inPlaceCallResult s a) = answerResult a .number
+numberGiven (pulseCallResult T width period a) = answerResult a .number
+numberGiven (blockCallResult ss l a left) = blockResult a .number
 
 -- Demand 1: a call that refuses, on any words, leaves the words as they were,
 pub refused-call-leaves-words : (words : List ℕ) (c : ReaderCall) → (numberGiven (wordsResult words c) ≡ 0 → ⊥) → wordsAfter words c ≡ words
-refused-call-leaves-words words (symbol s) h = rw (ne-eqb (fedSaid (feedWords words s) .number) 0 h)
-refused-call-leaves-words words (symbolInPlace s) h = rw (ne-eqb (fedSaid (feedWords words s) .number) 0 h)
-refused-call-leaves-words words (pulse T width period) h = rw (ne-eqb (fedSaid (feedPulseWords words T width period) .number) 0 h)
-refused-call-leaves-words words (block ss l) h = rw (ne-eqb (blockSaid (feedBlockWords words ss l .answer) .number) 0 h)
+refused-call-leaves-words words (symbol s) h = rw (ne-eqb (fedResult (feedWords words s) .number) 0 h)
+refused-call-leaves-words words (symbolInPlace s) h = rw (ne-eqb (fedResult (feedWords words s) .number) 0 h)
+refused-call-leaves-words words (pulse T width period) h = rw (ne-eqb (fedResult (feedPulseWords words T width period) .number) 0 h)
+refused-call-leaves-words words (block ss l) h = rw (ne-eqb (blockResult (feedBlockWords words ss l .answer) .number) 0 h)
 
 -- and a block the lists too.
 pub refused-block-leaves-lists : (words ss : List ℕ) (l : Lists) (x : Refusal) → feedBlockWords words ss l .answer ≡ BlockAnswer.Refused x → listsLeft (blockFor (readerIn words) ss l) l ≡ l
@@ -110,7 +110,7 @@ left-fed r next Quiet h = refl
 left-fed r next (Report t w) h = refl
 left-fed r next (Answer.Refused x) h = rw (refusal-numbered x) (ap wordsFor (sym (h x refl)))
 
-left-block : (r next : Reader) (a : BlockAnswer) → ((x : Refusal) → a ≡ BlockAnswer.Refused x → next ≡ r) → unlessRefused (blockSaid a) (wordsFor next) (wordsFor r) ≡ wordsFor next
+left-block : (r next : Reader) (a : BlockAnswer) → ((x : Refusal) → a ≡ BlockAnswer.Refused x → next ≡ r) → unlessRefused (blockResult a) (wordsFor next) (wordsFor r) ≡ wordsFor next
 left-block r next (BlockAnswer.Taken taken reports why) h = refl
 left-block r next (BlockAnswer.Refused x) h = rw (refusal-numbered x) (ap wordsFor (sym (h x refl)))
 

@@ -6,7 +6,7 @@ use Prim.Native.Nat.{ℕ, _<_}
 use borrow.Author.Tests.{lt-leb}
 use lib.Dec.{eqb}
 use lib.IntN.{ℤ}
-use Rattle.timecode.specs.Answers.{Said, number}
+use Rattle.timecode.specs.Answers.{Result, number}
 use Rattle.timecode.specs.Formats.{known}
 use Rattle.timecode.specs.Laws.Tests.{by-test}
 use Rattle.timecode.specs.declared.Answer.{Answer}
@@ -71,5 +71,5 @@ unfolding answerOf
 unknown-answer r s v b = rw (v, lt-leb s 3 b)
 
 -- where an answer has no values, the out-parameters keep theirs
-pub no-values-left : (s : Said) (old : List ℤ) → s .values ≡ [] → old ≡ valuesLeft s old
+pub no-values-left : (s : Result) (old : List ℤ) → s .values ≡ [] → old ≡ valuesLeft s old
 no-values-left s old e = by-test (eqb (s .number) 0) (λ y. rw (y, e)) (λ n. rw n)

@@ -4,9 +4,9 @@ ghost use mathlib.Core.Path.{_≡_};
 ghost use mathlib.Core.List.{[], _∷_};
 ghost use lib.IntN.{pos};
 ghost use lib.ListN.{getD};
-ghost use Rattle.timecode.specs.Answers.{refused, writtenSaid, steppedSaid};
-ghost use Rattle.block.specs.Blocks.{stopNumber, blockSaid};
-ghost use Rattle.border.specs.Border.{unlessRefused, formatOf, timeOf, fedSaid, fedWith, valuesLeft, flagLeft, wordsFor, byteIn, readerIn, wordsLeft};
+ghost use Rattle.timecode.specs.Answers.{refusalResult, writtenResult, steppedResult};
+ghost use Rattle.block.specs.Blocks.{stopNumber, blockResult};
+ghost use Rattle.border.specs.Border.{unlessRefused, formatOf, timeOf, fedResult, fedWith, valuesLeft, flagLeft, wordsFor, byteIn, readerIn, wordsLeft};
 use block::BlockAnswer;
 use block::Stop;
 use refusals::number_of;
@@ -39,7 +39,7 @@ pub fn time_of(day: u16, hundredths: u32) -> Time
 
 // The index of a refusal that has one, with 5 and 6; the other numbers leave it.
 pub fn put_index(refusal: Refusal, index: &mut usize)
-    ensures { λ _. ⌜ pos (now (index .exit)) ≡ getD (refused refusal .values) 0 (pos (now (index .entry))) ⌝ }
+    ensures { λ _. ⌜ pos (now (index .exit)) ≡ getD (refusalResult refusal .values) 0 (pos (now (index .entry))) ⌝ }
 {
     match refusal {
         Refusal::UnknownFormat => {}
@@ -77,7 +77,7 @@ pub fn put_values(time: Time, word: u64, day: &mut u16, hundredths: &mut u32, co
 
 // 0, or the number of the refusal.
 pub fn number_of_written(written: Written) -> u8
-    ensures { λ r. ⌜ r ≡ writtenSaid written .number ⌝ }
+    ensures { λ r. ⌜ r ≡ writtenResult written .number ⌝ }
 {
     match written {
         Written::Done => 0,
@@ -138,8 +138,8 @@ pub fn words_for(reader: Reader) -> [u64; 10]
 
 // What a step brought: the time, into the caller's memory, or its refusal and nothing written.
 pub fn put_stepped(stepped: Stepped, to_day: &mut u16, to_hundredths: &mut u32) -> u8
-    ensures { λ r. ⌜ r ≡ steppedSaid stepped .number ⌝ }
-    ensures { λ _. ⌜ pos (now («to_day» .exit)) ∷ pos (now («to_hundredths» .exit)) ∷ [] ≡ valuesLeft (steppedSaid stepped) (pos (now («to_day» .entry)) ∷ pos (now («to_hundredths» .entry)) ∷ []) ⌝ }
+    ensures { λ r. ⌜ r ≡ steppedResult stepped .number ⌝ }
+    ensures { λ _. ⌜ pos (now («to_day» .exit)) ∷ pos (now («to_hundredths» .exit)) ∷ [] ≡ valuesLeft (steppedResult stepped) (pos (now («to_day» .entry)) ∷ pos (now («to_hundredths» .entry)) ∷ []) ⌝ }
 {
     match stepped {
         Stepped::Next(time) => {
@@ -161,10 +161,10 @@ pub fn put_fed(
     hundredths: &mut u32,
     control: &mut u64,
 ) -> u8
-    ensures { λ r. ⌜ r ≡ fedSaid (fedWith next answer) .number ⌝ }
+    ensures { λ r. ⌜ r ≡ fedResult (fedWith next answer) .number ⌝ }
     ensures { λ _. ⌜ now (reader .exit) ≡ wordsLeft (fedWith next answer) (now (reader .entry)) ⌝ }
-    ensures { λ _. ⌜ now (reported .exit) ≡ flagLeft (fedSaid (fedWith next answer)) (now (reported .entry)) ⌝ }
-    ensures { λ _. ⌜ pos (now (day .exit)) ∷ pos (now (hundredths .exit)) ∷ pos (now (control .exit)) ∷ [] ≡ valuesLeft (fedSaid (fedWith next answer)) (pos (now (day .entry)) ∷ pos (now (hundredths .entry)) ∷ pos (now (control .entry)) ∷ []) ⌝ }
+    ensures { λ _. ⌜ now (reported .exit) ≡ flagLeft (fedResult (fedWith next answer)) (now (reported .entry)) ⌝ }
+    ensures { λ _. ⌜ pos (now (day .exit)) ∷ pos (now (hundredths .exit)) ∷ pos (now (control .exit)) ∷ [] ≡ valuesLeft (fedResult (fedWith next answer)) (pos (now (day .entry)) ∷ pos (now (hundredths .entry)) ∷ pos (now (control .entry)) ∷ []) ⌝ }
 {
     match answer {
         Answer::Quiet => {
@@ -205,9 +205,9 @@ pub fn put_block(
     reports: &mut usize,
     stop: &mut u8,
 ) -> u8
-    ensures { λ r. ⌜ r ≡ blockSaid answer .number ⌝ }
-    ensures { λ _. ⌜ now (reader .exit) ≡ unlessRefused (blockSaid answer) (wordsFor next) (now (reader .entry)) ⌝ }
-    ensures { λ _. ⌜ pos (now (taken .exit)) ∷ pos (now (reports .exit)) ∷ pos (now (stop .exit)) ∷ [] ≡ valuesLeft (blockSaid answer) (pos (now (taken .entry)) ∷ pos (now (reports .entry)) ∷ pos (now (stop .entry)) ∷ []) ⌝ }
+    ensures { λ r. ⌜ r ≡ blockResult answer .number ⌝ }
+    ensures { λ _. ⌜ now (reader .exit) ≡ unlessRefused (blockResult answer) (wordsFor next) (now (reader .entry)) ⌝ }
+    ensures { λ _. ⌜ pos (now (taken .exit)) ∷ pos (now (reports .exit)) ∷ pos (now (stop .exit)) ∷ [] ≡ valuesLeft (blockResult answer) (pos (now (taken .entry)) ∷ pos (now (reports .entry)) ∷ pos (now (stop .entry)) ∷ []) ⌝ }
 {
     match answer {
         BlockAnswer::Taken {

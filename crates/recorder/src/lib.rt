@@ -5,8 +5,8 @@ ghost use mathlib.Core.List.{[], _∷_};
 ghost use lib.IntN.{pos};
 ghost use Rattle.timecode.specs.Calls.{classifyListLeaves};
 ghost use Rattle.timecode.specs.Frames.{writeLeaves};
-ghost use Rattle.block.specs.Blocks.{lists, listsLeft, blockSaid, blockFor};
-ghost use Rattle.border.specs.Border.{feedBlockWords, blockWordsLeft, readerIn, formatOf, timeOf, writeSaid, readSaid, stepSaid, stepBackSaid, differenceSaid, classifySaid, classifyListSaid, scanSaid, freshSaid, fedSaid, valuesLeft, flagLeft, indexLeft, freshLeft, feedWords, feedPulseWords, wordsLeft};
+ghost use Rattle.block.specs.Blocks.{lists, listsLeft, blockResult, blockFor};
+ghost use Rattle.border.specs.Border.{feedBlockWords, blockWordsLeft, readerIn, formatOf, timeOf, writeResult, readResult, stepResult, stepBackResult, differenceResult, classifyResult, classifyListResult, scanResult, freshResult, fedResult, valuesLeft, flagLeft, indexLeft, freshLeft, feedWords, feedPulseWords, wordsLeft};
 use block_feed::feed_block;
 use border::format_of;
 use border::number_of_written;
@@ -51,7 +51,7 @@ pub extern "C" fn duskveyra_write(
     control: u64,
     frame: &mut [u8],
 ) -> u8
-    ensures { λ r. ⌜ r ≡ writeSaid letter expression day hundredths control (now (frame .entry)) .number ⌝ }
+    ensures { λ r. ⌜ r ≡ writeResult letter expression day hundredths control (now (frame .entry)) .number ⌝ }
     ensures { λ _. ⌜ now (frame .exit) ≡ writeLeaves (formatOf letter expression) (timeOf day hundredths) control (now (frame .entry)) ⌝ }
 {
     let written = write(
@@ -74,9 +74,9 @@ pub extern "C" fn duskveyra_read(
     control: &mut u64,
     index: &mut usize,
 ) -> u8
-    ensures { λ r. ⌜ r ≡ readSaid letter expression (now (frame .entry)) .number ⌝ }
-    ensures { λ _. ⌜ pos (now (day .exit)) ∷ pos (now (hundredths .exit)) ∷ pos (now (control .exit)) ∷ [] ≡ valuesLeft (readSaid letter expression (now (frame .entry))) (pos (now (day .entry)) ∷ pos (now (hundredths .entry)) ∷ pos (now (control .entry)) ∷ []) ⌝ }
-    ensures { λ _. ⌜ pos (now (index .exit)) ≡ indexLeft (readSaid letter expression (now (frame .entry))) (pos (now (index .entry))) ⌝ }
+    ensures { λ r. ⌜ r ≡ readResult letter expression (now (frame .entry)) .number ⌝ }
+    ensures { λ _. ⌜ pos (now (day .exit)) ∷ pos (now (hundredths .exit)) ∷ pos (now (control .exit)) ∷ [] ≡ valuesLeft (readResult letter expression (now (frame .entry))) (pos (now (day .entry)) ∷ pos (now (hundredths .entry)) ∷ pos (now (control .entry)) ∷ []) ⌝ }
+    ensures { λ _. ⌜ pos (now (index .exit)) ≡ indexLeft (readResult letter expression (now (frame .entry))) (pos (now (index .entry))) ⌝ }
 {
     let reading = read(format_of(letter, expression), frame);
     match reading {
@@ -106,8 +106,8 @@ pub extern "C" fn duskveyra_step(
     next_day: &mut u16,
     next_hundredths: &mut u32,
 ) -> u8
-    ensures { λ r. ⌜ r ≡ stepSaid letter expression day hundredths «year_length» kind .number ⌝ }
-    ensures { λ _. ⌜ pos (now («next_day» .exit)) ∷ pos (now («next_hundredths» .exit)) ∷ [] ≡ valuesLeft (stepSaid letter expression day hundredths «year_length» kind) (pos (now («next_day» .entry)) ∷ pos (now («next_hundredths» .entry)) ∷ []) ⌝ }
+    ensures { λ r. ⌜ r ≡ stepResult letter expression day hundredths «year_length» kind .number ⌝ }
+    ensures { λ _. ⌜ pos (now («next_day» .exit)) ∷ pos (now («next_hundredths» .exit)) ∷ [] ≡ valuesLeft (stepResult letter expression day hundredths «year_length» kind) (pos (now («next_day» .entry)) ∷ pos (now («next_hundredths» .entry)) ∷ []) ⌝ }
 {
     let format = format_of(letter, expression);
     let stepped = step(format, time_of(day, hundredths), year_length, kind);
@@ -126,8 +126,8 @@ pub extern "C" fn duskveyra_step_back(
     earlier_day: &mut u16,
     earlier_hundredths: &mut u32,
 ) -> u8
-    ensures { λ r. ⌜ r ≡ stepBackSaid letter expression day hundredths «year_length» kind .number ⌝ }
-    ensures { λ _. ⌜ pos (now («earlier_day» .exit)) ∷ pos (now («earlier_hundredths» .exit)) ∷ [] ≡ valuesLeft (stepBackSaid letter expression day hundredths «year_length» kind) (pos (now («earlier_day» .entry)) ∷ pos (now («earlier_hundredths» .entry)) ∷ []) ⌝ }
+    ensures { λ r. ⌜ r ≡ stepBackResult letter expression day hundredths «year_length» kind .number ⌝ }
+    ensures { λ _. ⌜ pos (now («earlier_day» .exit)) ∷ pos (now («earlier_hundredths» .exit)) ∷ [] ≡ valuesLeft (stepBackResult letter expression day hundredths «year_length» kind) (pos (now («earlier_day» .entry)) ∷ pos (now («earlier_hundredths» .entry)) ∷ []) ⌝ }
 {
     let format = format_of(letter, expression);
     let stepped = step_back(format, time_of(day, hundredths), year_length, kind);
@@ -143,8 +143,8 @@ pub extern "C" fn duskveyra_difference(
     second_hundredths: u32,
     difference: &mut i64,
 ) -> u8
-    ensures { λ r. ⌜ r ≡ differenceSaid «first_day» «first_hundredths» «second_day» «second_hundredths» .number ⌝ }
-    ensures { λ _. ⌜ now (difference .exit) ∷ [] ≡ valuesLeft (differenceSaid «first_day» «first_hundredths» «second_day» «second_hundredths») (now (difference .entry) ∷ []) ⌝ }
+    ensures { λ r. ⌜ r ≡ differenceResult «first_day» «first_hundredths» «second_day» «second_hundredths» .number ⌝ }
+    ensures { λ _. ⌜ now (difference .exit) ∷ [] ≡ valuesLeft (differenceResult «first_day» «first_hundredths» «second_day» «second_hundredths») (now (difference .entry) ∷ []) ⌝ }
 {
     let subtracted = clock::difference(
         time_of(first_day, first_hundredths),
@@ -162,7 +162,7 @@ pub extern "C" fn duskveyra_difference(
 // A fresh reader.
 #[no_mangle]
 pub extern "C" fn duskveyra_fresh(letter: u8, expression: u8, reader: &mut [u64; 10]) -> u8
-    ensures { λ r. ⌜ r ≡ freshSaid letter expression .number ⌝ }
+    ensures { λ r. ⌜ r ≡ freshResult letter expression .number ⌝ }
     ensures { λ _. ⌜ now (reader .exit) ≡ freshLeft letter expression (now (reader .entry)) ⌝ }
 {
     let made = Reader::fresh(format_of(letter, expression));
@@ -178,10 +178,10 @@ pub extern "C" fn duskveyra_fresh(letter: u8, expression: u8, reader: &mut [u64;
 // One Feed of a symbol that is no mark, which brings no report. Most symbols are none, and no reader is copied for them.
 fn feed_other(reader: &mut [u64; 10], symbol: u8, reported: &mut u8) -> u8
     requires { ⌜ ¬ (symbol ≡ 2) ⌝ }
-    ensures { λ r. ⌜ r ≡ fedSaid (feedWords (now (reader .entry)) symbol) .number ⌝ }
+    ensures { λ r. ⌜ r ≡ fedResult (feedWords (now (reader .entry)) symbol) .number ⌝ }
     ensures { λ _. ⌜ now (reader .exit) ≡ wordsLeft (feedWords (now (reader .entry)) symbol) (now (reader .entry)) ⌝ }
-    ensures { λ _. ⌜ now (reported .exit) ≡ flagLeft (fedSaid (feedWords (now (reader .entry)) symbol)) (now (reported .entry)) ⌝ }
-    ensures { λ _. ⌜ fedSaid (feedWords (now (reader .entry)) symbol) .values ≡ [] ⌝ }
+    ensures { λ _. ⌜ now (reported .exit) ≡ flagLeft (fedResult (feedWords (now (reader .entry)) symbol)) (now (reported .entry)) ⌝ }
+    ensures { λ _. ⌜ fedResult (feedWords (now (reader .entry)) symbol) .values ≡ [] ⌝ }
 {
     let held = reader_in(*reader);
     if let Passed::Next(next) = pass(held, symbol) {
@@ -205,10 +205,10 @@ pub extern "C" fn duskveyra_feed(
     hundredths: &mut u32,
     control: &mut u64,
 ) -> u8
-    ensures { λ r. ⌜ r ≡ fedSaid (feedWords (now (reader .entry)) symbol) .number ⌝ }
+    ensures { λ r. ⌜ r ≡ fedResult (feedWords (now (reader .entry)) symbol) .number ⌝ }
     ensures { λ _. ⌜ now (reader .exit) ≡ wordsLeft (feedWords (now (reader .entry)) symbol) (now (reader .entry)) ⌝ }
-    ensures { λ _. ⌜ now (reported .exit) ≡ flagLeft (fedSaid (feedWords (now (reader .entry)) symbol)) (now (reported .entry)) ⌝ }
-    ensures { λ _. ⌜ pos (now (day .exit)) ∷ pos (now (hundredths .exit)) ∷ pos (now (control .exit)) ∷ [] ≡ valuesLeft (fedSaid (feedWords (now (reader .entry)) symbol)) (pos (now (day .entry)) ∷ pos (now (hundredths .entry)) ∷ pos (now (control .entry)) ∷ []) ⌝ }
+    ensures { λ _. ⌜ now (reported .exit) ≡ flagLeft (fedResult (feedWords (now (reader .entry)) symbol)) (now (reported .entry)) ⌝ }
+    ensures { λ _. ⌜ pos (now (day .exit)) ∷ pos (now (hundredths .exit)) ∷ pos (now (control .exit)) ∷ [] ≡ valuesLeft (fedResult (feedWords (now (reader .entry)) symbol)) (pos (now (day .entry)) ∷ pos (now (hundredths .entry)) ∷ pos (now (control .entry)) ∷ []) ⌝ }
 {
     if symbol == MARK {
         let held = reader_in(*reader);
@@ -222,8 +222,8 @@ pub extern "C" fn duskveyra_feed(
 // The classifier: the symbol of one pulse.
 #[no_mangle]
 pub extern "C" fn duskveyra_classify(interval: u32, width: u32, period: u32, symbol: &mut u8) -> u8
-    ensures { λ r. ⌜ r ≡ classifySaid interval width period .number ⌝ }
-    ensures { λ _. ⌜ pos (now (symbol .exit)) ∷ [] ≡ valuesLeft (classifySaid interval width period) (pos (now (symbol .entry)) ∷ []) ⌝ }
+    ensures { λ r. ⌜ r ≡ classifyResult interval width period .number ⌝ }
+    ensures { λ _. ⌜ pos (now (symbol .exit)) ∷ [] ≡ valuesLeft (classifyResult interval width period) (pos (now (symbol .entry)) ∷ []) ⌝ }
 {
     let classified = classify(interval, width, period);
     match classified {
@@ -243,7 +243,7 @@ pub extern "C" fn duskveyra_classify_list(
     periods: &[u32],
     symbols: &mut [u8],
 ) -> u8
-    ensures { λ r. ⌜ r ≡ classifyListSaid interval (now (widths .entry)) (now (periods .entry)) (now (symbols .entry)) .number ⌝ }
+    ensures { λ r. ⌜ r ≡ classifyListResult interval (now (widths .entry)) (now (periods .entry)) (now (symbols .entry)) .number ⌝ }
     ensures { λ _. ⌜ now (symbols .exit) ≡ classifyListLeaves interval (now (widths .entry)) (now (periods .entry)) (now (symbols .entry)) ⌝ }
 {
     let classified = classify_list(interval, widths, periods, symbols);
@@ -262,10 +262,10 @@ pub extern "C" fn duskveyra_feed_pulse(
     hundredths: &mut u32,
     control: &mut u64,
 ) -> u8
-    ensures { λ r. ⌜ r ≡ fedSaid (feedPulseWords (now (reader .entry)) interval width period) .number ⌝ }
+    ensures { λ r. ⌜ r ≡ fedResult (feedPulseWords (now (reader .entry)) interval width period) .number ⌝ }
     ensures { λ _. ⌜ now (reader .exit) ≡ wordsLeft (feedPulseWords (now (reader .entry)) interval width period) (now (reader .entry)) ⌝ }
-    ensures { λ _. ⌜ now (reported .exit) ≡ flagLeft (fedSaid (feedPulseWords (now (reader .entry)) interval width period)) (now (reported .entry)) ⌝ }
-    ensures { λ _. ⌜ pos (now (day .exit)) ∷ pos (now (hundredths .exit)) ∷ pos (now (control .exit)) ∷ [] ≡ valuesLeft (fedSaid (feedPulseWords (now (reader .entry)) interval width period)) (pos (now (day .entry)) ∷ pos (now (hundredths .entry)) ∷ pos (now (control .entry)) ∷ []) ⌝ }
+    ensures { λ _. ⌜ now (reported .exit) ≡ flagLeft (fedResult (feedPulseWords (now (reader .entry)) interval width period)) (now (reported .entry)) ⌝ }
+    ensures { λ _. ⌜ pos (now (day .exit)) ∷ pos (now (hundredths .exit)) ∷ pos (now (control .exit)) ∷ [] ≡ valuesLeft (fedResult (feedPulseWords (now (reader .entry)) interval width period)) (pos (now (day .entry)) ∷ pos (now (hundredths .entry)) ∷ pos (now (control .entry)) ∷ []) ⌝ }
 {
     let fed = feed_pulse(reader_in(*reader), interval, width, period);
     let next = fed.reader;
@@ -286,9 +286,9 @@ pub extern "C" fn duskveyra_scan(
     hundredths: &mut u32,
     control: &mut u64,
 ) -> u8
-    ensures { λ r. ⌜ r ≡ scanSaid letter expression (now (recording .entry)) start .number ⌝ }
-    ensures { λ _. ⌜ now (found .exit) ≡ flagLeft (scanSaid letter expression (now (recording .entry)) start) (now (found .entry)) ⌝ }
-    ensures { λ _. ⌜ pos (now (at .exit)) ∷ pos (now (day .exit)) ∷ pos (now (hundredths .exit)) ∷ pos (now (control .exit)) ∷ [] ≡ valuesLeft (scanSaid letter expression (now (recording .entry)) start) (pos (now (at .entry)) ∷ pos (now (day .entry)) ∷ pos (now (hundredths .entry)) ∷ pos (now (control .entry)) ∷ []) ⌝ }
+    ensures { λ r. ⌜ r ≡ scanResult letter expression (now (recording .entry)) start .number ⌝ }
+    ensures { λ _. ⌜ now (found .exit) ≡ flagLeft (scanResult letter expression (now (recording .entry)) start) (now (found .entry)) ⌝ }
+    ensures { λ _. ⌜ pos (now (at .exit)) ∷ pos (now (day .exit)) ∷ pos (now (hundredths .exit)) ∷ pos (now (control .exit)) ∷ [] ≡ valuesLeft (scanResult letter expression (now (recording .entry)) start) (pos (now (at .entry)) ∷ pos (now (day .entry)) ∷ pos (now (hundredths .entry)) ∷ pos (now (control .entry)) ∷ []) ⌝ }
 {
     let scanned = scan(format_of(letter, expression), recording, start);
     match scanned {
@@ -323,10 +323,10 @@ pub extern "C" fn duskveyra_feed_block(
     reports: &mut usize,
     stop: &mut u8,
 ) -> u8
-    ensures { λ r. ⌜ r ≡ blockSaid (feedBlockWords (now (reader .entry)) (now (symbols .entry)) (lists (now (indexes .entry)) (now (days .entry)) (now (hundredths .entry)) (now (controls .entry))) .answer) .number ⌝ }
+    ensures { λ r. ⌜ r ≡ blockResult (feedBlockWords (now (reader .entry)) (now (symbols .entry)) (lists (now (indexes .entry)) (now (days .entry)) (now (hundredths .entry)) (now (controls .entry))) .answer) .number ⌝ }
     ensures { λ _. ⌜ now (reader .exit) ≡ blockWordsLeft (feedBlockWords (now (reader .entry)) (now (symbols .entry)) (lists (now (indexes .entry)) (now (days .entry)) (now (hundredths .entry)) (now (controls .entry)))) (now (reader .entry)) ⌝ }
     ensures { λ _. ⌜ lists (now (indexes .exit)) (now (days .exit)) (now (hundredths .exit)) (now (controls .exit)) ≡ listsLeft (blockFor (readerIn (now (reader .entry))) (now (symbols .entry)) (lists (now (indexes .entry)) (now (days .entry)) (now (hundredths .entry)) (now (controls .entry)))) (lists (now (indexes .entry)) (now (days .entry)) (now (hundredths .entry)) (now (controls .entry))) ⌝ }
-    ensures { λ _. ⌜ pos (now (taken .exit)) ∷ pos (now (reports .exit)) ∷ pos (now (stop .exit)) ∷ [] ≡ valuesLeft (blockSaid (feedBlockWords (now (reader .entry)) (now (symbols .entry)) (lists (now (indexes .entry)) (now (days .entry)) (now (hundredths .entry)) (now (controls .entry))) .answer)) (pos (now (taken .entry)) ∷ pos (now (reports .entry)) ∷ pos (now (stop .entry)) ∷ []) ⌝ }
+    ensures { λ _. ⌜ pos (now (taken .exit)) ∷ pos (now (reports .exit)) ∷ pos (now (stop .exit)) ∷ [] ≡ valuesLeft (blockResult (feedBlockWords (now (reader .entry)) (now (symbols .entry)) (lists (now (indexes .entry)) (now (days .entry)) (now (hundredths .entry)) (now (controls .entry))) .answer)) (pos (now (taken .entry)) ∷ pos (now (reports .entry)) ∷ pos (now (stop .entry)) ∷ []) ⌝ }
 {
     let fed = feed_block(
         reader_in(*reader),

@@ -5,7 +5,7 @@ use mathlib.Core.List.{List, []}
 use Prim.Native.Nat.{ℕ, _+_, _%_, _<_}
 use borrow.Author.Tests.{ltb-true}
 use lib.Dec.{eqb, ltb}
-use Rattle.timecode.specs.Answers.{check, Said, said, refused}
+use Rattle.timecode.specs.Answers.{check, Result, success, refusalResult}
 use Rattle.timecode.specs.Formats.{isSymbol, known, size}
 use Rattle.timecode.specs.Laws.Tests.{and-right}
 use Rattle.timecode.specs.Stream.{windowLength, windowAnswer}
@@ -41,9 +41,9 @@ unfoldable pub madeOf : Format → Made
 madeOf f = check Made.Refused UnknownFormat (known f) (Made.Fresh (freshReader f))
 
 -- what making a reader says: document 01 gives no value with it
-abbrev pub madeSaid : Made → Said
-madeSaid (Made.Fresh r) = said []
-madeSaid (Made.Refused x) = refused x
+abbrev pub madeResult : Made → Result
+madeResult (Made.Fresh r) = success []
+madeResult (Made.Refused x) = refusalResult x
 
 -- number 13: letter and expression are known, the place is below n
 unfoldable pub isValid : Reader → Bool

@@ -59,8 +59,8 @@ abbrev pub check : {Any : Type 0} → (Refusal → Any) → Refusal → Bool →
 check refused r true answer = answer
 check refused r false answer = refused r
 
--- What an answer says: 0 and its values, or the number of a refusal and the value beside it.
-pub record Said : Type 0 where
+-- The result of an answer: 0 and its values, or the number of a refusal and the value beside it.
+pub record Result : Type 0 where
   pub number : ℕ
   pub values : List ℤ
 
@@ -83,38 +83,38 @@ index SecondNotCarried = []
 index InvalidKind = []
 
 -- a refusal carries its number, with 5 and 6 the index, and no value beside
-abbrev pub refused : Refusal → Said
-refused r = record { number = number r; values = index r }
+abbrev pub refusalResult : Refusal → Result
+refusalResult r = record { number = number r; values = index r }
 
-abbrev pub said : List ℤ → Said
-said vs = record { number = 0; values = vs }
+abbrev pub success : List ℤ → Result
+success vs = record { number = 0; values = vs }
 
-abbrev pub writtenSaid : Written → Said
-writtenSaid Done = said []
-writtenSaid (Written.Refused r) = refused r
+abbrev pub writtenResult : Written → Result
+writtenResult Done = success []
+writtenResult (Written.Refused r) = refusalResult r
 
-abbrev pub readingSaid : Reading → Said
-readingSaid (Accepted t w) = said (pos (t .day) ∷ pos (t .hundredths) ∷ pos w ∷ [])
-readingSaid (Reading.Refused r) = refused r
+abbrev pub readingResult : Reading → Result
+readingResult (Accepted t w) = success (pos (t .day) ∷ pos (t .hundredths) ∷ pos w ∷ [])
+readingResult (Reading.Refused r) = refusalResult r
 
-abbrev pub steppedSaid : Stepped → Said
-steppedSaid (Next t) = said (pos (t .day) ∷ pos (t .hundredths) ∷ [])
-steppedSaid (Stepped.Refused r) = refused r
+abbrev pub steppedResult : Stepped → Result
+steppedResult (Next t) = success (pos (t .day) ∷ pos (t .hundredths) ∷ [])
+steppedResult (Stepped.Refused r) = refusalResult r
 
-abbrev pub subtractedSaid : Subtracted → Said
-subtractedSaid (Hundredths d) = said (d ∷ [])
-subtractedSaid (Subtracted.Refused r) = refused r
+abbrev pub subtractedResult : Subtracted → Result
+subtractedResult (Hundredths d) = success (d ∷ [])
+subtractedResult (Subtracted.Refused r) = refusalResult r
 
-abbrev pub classifiedSaid : Classified → Said
-classifiedSaid (Symbol s) = said (pos s ∷ [])
-classifiedSaid (Classified.Refused r) = refused r
+abbrev pub classifiedResult : Classified → Result
+classifiedResult (Symbol s) = success (pos s ∷ [])
+classifiedResult (Classified.Refused r) = refusalResult r
 
-abbrev pub scannedSaid : Scanned → Said
-scannedSaid (Found a t w) = said (pos a ∷ pos (t .day) ∷ pos (t .hundredths) ∷ pos w ∷ [])
-scannedSaid None = said []
-scannedSaid (Scanned.Refused r) = refused r
+abbrev pub scannedResult : Scanned → Result
+scannedResult (Found a t w) = success (pos a ∷ pos (t .day) ∷ pos (t .hundredths) ∷ pos w ∷ [])
+scannedResult None = success []
+scannedResult (Scanned.Refused r) = refusalResult r
 
-abbrev pub answerSaid : Answer → Said
-answerSaid Quiet = said []
-answerSaid (Report t w) = said (pos (t .day) ∷ pos (t .hundredths) ∷ pos w ∷ [])
-answerSaid (Answer.Refused r) = refused r
+abbrev pub answerResult : Answer → Result
+answerResult Quiet = success []
+answerResult (Report t w) = success (pos (t .day) ∷ pos (t .hundredths) ∷ pos w ∷ [])
+answerResult (Answer.Refused r) = refusalResult r

@@ -6,7 +6,7 @@ use Prim.Native.Nat.{ℕ, zero, suc}
 use lib.Dec.{eqb}
 use lib.IntN.{ℤ, pos, negsuc}
 use lib.ListN.{length, drop, set, replicate}
-use Rattle.timecode.specs.Answers.{Said, writtenSaid, readingSaid, steppedSaid, subtractedSaid, classifiedSaid, scannedSaid, answerSaid}
+use Rattle.timecode.specs.Answers.{Result, writtenResult, readingResult, steppedResult, subtractedResult, classifiedResult, scannedResult, answerResult}
 use Rattle.timecode.specs.Calls.{symbolOf, isInterval, classifyOf, symbolsOf, classifyListOf, classifyListLeaves, differenceOf, partAt, lowestOf, scanOf}
 use Rattle.timecode.specs.Formats.{A, B, D, E, G, H, table, lookUp, rowOf, known, size, interval, carriesControl, carriesSeconds, inRange, onFormat, carriesLeap, secondCarried}
 use Rattle.timecode.specs.Frames.{inYear, dayAfter, usual, secondAdded, secondTaken, dayLengthOf, dayEnd, onDay, following, stepOf, nextAfter, written, controlFits, writeOf, writeLeaves, marksAgree, elementFits, checkElements, lastSecond, isTime, timeIn, secondsAgree, readOf}
@@ -45,7 +45,7 @@ format letter expression = record { letter = letter; expression = expression }
 abbrev expressionsFrom : ℕ → ℕ → ℕ → List ℤ
 expressionsFrom letter zero e = []
 expressionsFrom letter (suc k) e =
-    cond (eqb (writtenSaid (writeOf (format letter e) (record { day = 1; hundredths = 0 }) 0 (lent (format letter e))) .number) 0)
+    cond (eqb (writtenResult (writeOf (format letter e) (record { day = 1; hundredths = 0 }) 0 (lent (format letter e))) .number) 0)
     (pos letter ∷ (pos e ∷ expressionsFrom letter k (suc e)))
     (expressionsFrom letter k (suc e))
 
@@ -54,35 +54,35 @@ abbrev formatsFrom : ℕ → ℕ → List ℤ
 formatsFrom letter zero = []
 formatsFrom letter (suc k) = expressionsFrom letter 8 0 ++ formatsFrom (suc letter) k
 
-abbrev pub says : Call → Said
-says (step f t year kind) = steppedSaid (stepOf f t year kind)
-says (write f t w) = writtenSaid (writeOf f t w (lent f))
-says (writeInto k f t w) = writtenSaid (writeOf f t w (replicate k 0))
-says (frame f t w) = record { number = 0; values = map pos (writeLeaves f t w (lent f)) }
-says (ones k f t w) = record { number = 0; values = onesFrom k (drop k (writeLeaves f t w (lent f))) }
-says formats = record { number = 0; values = formatsFrom 64 27 }
-says (read f bytes) = readingSaid (readOf f bytes)
-says (feed f received) = answerSaid (plainAnswer f received)
-says (difference t u) = subtractedSaid (differenceOf t u)
-says (classify T width period) = classifiedSaid (classifyOf T width period)
-says (list T widths periods k) = writtenSaid (classifyListOf T widths periods (replicate k 0))
-says (symbols T widths periods) = record { number = 0; values = map pos (classifyListLeaves T widths periods (replicate (length widths) 0)) }
-says (scan f recording start) = scannedSaid (scanOf f recording start)
+abbrev pub resultOf : Call → Result
+resultOf (step f t year kind) = steppedResult (stepOf f t year kind)
+resultOf (write f t w) = writtenResult (writeOf f t w (lent f))
+resultOf (writeInto k f t w) = writtenResult (writeOf f t w (replicate k 0))
+resultOf (frame f t w) = record { number = 0; values = map pos (writeLeaves f t w (lent f)) }
+resultOf (ones k f t w) = record { number = 0; values = onesFrom k (drop k (writeLeaves f t w (lent f))) }
+resultOf formats = record { number = 0; values = formatsFrom 64 27 }
+resultOf (read f bytes) = readingResult (readOf f bytes)
+resultOf (feed f received) = answerResult (plainAnswer f received)
+resultOf (difference t u) = subtractedResult (differenceOf t u)
+resultOf (classify T width period) = classifiedResult (classifyOf T width period)
+resultOf (list T widths periods k) = writtenResult (classifyListOf T widths periods (replicate k 0))
+resultOf (symbols T widths periods) = record { number = 0; values = map pos (classifyListLeaves T widths periods (replicate (length widths) 0)) }
+resultOf (scan f recording start) = scannedResult (scanOf f recording start)
 
 pub record Line : Type 0 where
   pub call : Call
-  pub said : Said
+  pub result : Result
 
 -- the call gives numbers, or is refused with one
 abbrev _gives_ : Call → List ℤ → Line
-c gives vs = record { call = c; said = record { number = 0; values = vs } }
+c gives vs = record { call = c; result = record { number = 0; values = vs } }
 
 abbrev _refused_ : Call → ℕ → Line
-c refused k = record { call = c; said = record { number = k; values = [] } }
+c refused k = record { call = c; result = record { number = k; values = [] } }
 
 -- with 5 and 6 goes the index
 abbrev _refused_at_ : Call → ℕ → ℕ → Line
-c refused k at i = record { call = c; said = record { number = k; values = pos i ∷ [] } }
+c refused k at i = record { call = c; result = record { number = k; values = pos i ∷ [] } }
 
 abbrev time : ℕ → ℕ → Time
 time day hundredths = record { day = day; hundredths = hundredths }
@@ -183,6 +183,6 @@ lines =
     ∷ (difference (time 1 8640099) (time 2 0) gives (pos 99 ∷ []))
     ∷ []
 
-pub all-lines : map (λ l. says (l .call)) lines ≡ map (λ l. l .said) lines
+pub all-lines : map (λ l. resultOf (l .call)) lines ≡ map (λ l. l .result) lines
 unfolding lines readOf checkElements marksAgree elementFits lastSecond isTime timeIn secondsAgree value scanOf lowestOf partAt stepOf nextAfter known rowOf lookUp table size interval carriesControl carriesSeconds inRange onFormat carriesLeap secondCarried inYear dayAfter dayLengthOf dayEnd onDay following writeOf writeLeaves written controlFits encode symbolAt rest isMark runs fields timeFields numbers timeNumbers seconds minutes hours days tenths hundredths straightSeconds hasSeconds control differenceOf classifyOf isInterval symbolOf symbolsOf classifyListOf classifyListLeaves windowLength frameIn confirm windowAnswer lastOf plainAnswer
 all-lines = refl

@@ -1,7 +1,7 @@
 -- `duskveyra_feed` meets its contract: one Feed of the reader that the words are.
 use borrow.Author.Needs.{needs}
 use Rattle.stream.specs.Feeding.{feedOf}
-use Rattle.border.specs.Border.{fedSaid, feedWords}
+use Rattle.border.specs.Border.{fedResult, feedWords}
 use Rattle.border.specs.Laws.{no-values-left}
 use Rattle.recorder.proofs.duskveyra_feed.Statement.{statement}
 use Rattle.recorder.proofs.duskveyra_feed.Tie as tie
@@ -33,7 +33,7 @@ feed-other-requires : tie.Need-feed-other-requires
 feed-other-requires c κs = c .before .before .if1 .left
 
 returns-2 : tie.Need-returns-2
-returns-2 c = (c .feed-other .ensures .0, (c .feed-other .ensures .1 .0, (c .feed-other .ensures .1 .1 .0, no-values-left (fedSaid (feedWords (c .before .before .before .before .args .reader .now) (c .before .before .before .before .args .symbol))) _ (c .feed-other .ensures .1 .1 .1))))
+returns-2 c = (c .feed-other .ensures .0, (c .feed-other .ensures .1 .0, (c .feed-other .ensures .1 .1 .0, no-values-left (fedResult (feedWords (c .before .before .before .before .args .reader .now) (c .before .before .before .before .args .symbol))) _ (c .feed-other .ensures .1 .1 .1))))
 
 pub duskveyra-feed-spec : {M : Type 1} → statement M
 duskveyra-feed-spec =
