@@ -16,13 +16,13 @@ use Rattle.timecode.specs.Laws.Bits.{value-of-bits}
 use Rattle.timecode.specs.Laws.Runs.{in-run, proper, covered-once, later-proper, covered-inside, symbol-free, place-in, length-tabulate, getD-tabulate, tabulate-same}
 use Rattle.timecode.specs.Laws.Table.{everyFormat, of-every}
 use Rattle.timecode.specs.Laws.Tests.{by-test, clash, and-left, and-right}
-use Rattle.timecode.specs.Layout.{Run, seconds, minutes, hours, days, tenths, hundredths, hasSeconds, straightSeconds, timeFields, inRun, bitOf, placeOf, isMark, rest, symbolAt, tabulate, encode, value, Small}
+use Rattle.timecode.specs.Layout.{Run, seconds, minutes, hours, days, tenths, hundredths, hasSeconds, straightSeconds, timeFields, inRun, bitOf, placeOf, isMark, filler, symbolAt, tabulate, encode, value, Small}
 use Rattle.timecode.specs.declared.Format.{Format}
 use Rattle.layout.specs.Tables.{startsOf}
 use Rattle.layout.specs.Runs.{codeRange, codeControl, codeFields, codeRuns, code-proper}
 use Rattle.elements.specs.Turns.{Narrow, runs-narrow}
 
--- what rests where a mark counts as 0
+-- the filler where a mark counts as 0
 abbrev zeros : ℕ → ℕ
 zeros i = 0
 
@@ -93,15 +93,15 @@ module _ (n x t w : ℕ) (s : x < 2 ^ w) (free : n / 2 ^ t % 2 ^ w ≡ 0) where
 
   above-sum : (b : ℕ) → t + w ≤ b → (x * 2 ^ t + n) / 2 ^ b % 2 ≡ n / 2 ^ b % 2
   above-sum b h =
-      let rest : w + (b - t - w) ≡ b - t = omega arith in
+      let filler : w + (b - t - w) ≡ b - t = omega arith in
       let all : t + (b - t) ≡ b = omega arith in
       ap (λ (m : ℕ). m % 2)
       (shifted b (omega arith)
-      ∙ ap (λ (m : ℕ). (n / 2 ^ t / 2 ^ w * 2 ^ w + x) / 2 ^ m) (sym rest)
+      ∙ ap (λ (m : ℕ). (n / 2 ^ t / 2 ^ w * 2 ^ w + x) / 2 ^ m) (sym filler)
       ∙ sym (shr-shr (n / 2 ^ t / 2 ^ w * 2 ^ w + x) w (b - t - w))
       ∙ ap (λ (m : ℕ). m / 2 ^ (b - t - w)) (high (n / 2 ^ t / 2 ^ w) w s)
       ∙ shr-shr (n / 2 ^ t) w (b - t - w)
-      ∙ ap (λ (m : ℕ). n / 2 ^ t / 2 ^ m) rest
+      ∙ ap (λ (m : ℕ). n / 2 ^ t / 2 ^ m) filler
       ∙ shr-shr n t (b - t)
       ∙ ap (λ (m : ℕ). n / 2 ^ m) all)
 
@@ -134,8 +134,8 @@ sum-bit r from m x b symbol l s free q =
     (λ z. let behind = ltb-false (from + b) (r .start + r .width) z in rw (y, z) (above-sum m x t (r .width) s free b (omega arith) ∙ q)))
     (λ y. let before = leb-false (r .start) (from + b) y in rw y (below-sum m x t (r .width) s free b (omega arith) ∙ q))
 
-module _ (n : ℕ) (rests : ℕ → ℕ) (from to : ℕ) where
-  pub packed-bit : (rs : List Run) (xs : List ℕ) → proper n rests rs ≡ true → Narrow rs → Small rs xs → allApart from to rs ≡ true → (b : ℕ) → from + b < to
+module _ (n : ℕ) (fillers : ℕ → ℕ) (from to : ℕ) where
+  pub packed-bit : (rs : List Run) (xs : List ℕ) → proper n fillers rs ≡ true → Narrow rs → Small rs xs → allApart from to rs ≡ true → (b : ℕ) → from + b < to
       → packed from to (map (λ (r : Run). r .start) rs) xs / 2 ^ b % 2 ≡ symbolAt zeros rs xs (from + b)
   unfolding packed symbolAt
   packed-bit [] xs p w s a b h = rw (div-eq-of-lt (pow-pos b))
@@ -143,7 +143,7 @@ module _ (n : ℕ) (rests : ℕ → ℕ) (from to : ℕ) where
   packed-bit (r ∷ rs) (x ∷ xs) p w s a b h =
       let m = packed from to (map (λ (r : Run). r .start) rs) xs in
       let here = and-left (apart from to r) (allApart from to rs) a in
-      let later = packed-bit rs xs (later-proper n rests rs r p) (w .1) (s .1) (and-right (apart from to r) (allApart from to rs) a) in
+      let later = packed-bit rs xs (later-proper n fillers rs r p) (w .1) (s .1) (and-right (apart from to r) (allApart from to rs) a) in
       by-test (ltb (r .start) from)
       (λ y.
       let ends : r .start + r .width ≤ from = leb-true (r .start + r .width) from (rw y at here) in
@@ -159,7 +159,7 @@ module _ (n : ℕ) (rests : ℕ → ℕ) (from to : ℕ) where
       let fits : x < 512 = omega (arith, s .0, pow-mono {i = r .width} {j = 9} (w .0)) in
       rw (y, z, mod-eq-of-lt fits) (sum-bit r from m x b (symbolAt zeros rs xs (from + b)) begins (s .0) (free r rs xs p m begins ends later) (later b h))))
     where
-      free : (r : Run) (rs : List Run) (xs : List ℕ) → proper n rests (r ∷ rs) ≡ true → (m : ℕ) → from ≤ r .start → r .start + r .width ≤ to
+      free : (r : Run) (rs : List Run) (xs : List ℕ) → proper n fillers (r ∷ rs) ≡ true → (m : ℕ) → from ≤ r .start → r .start + r .width ≤ to
           → ((b : ℕ) → from + b < to → m / 2 ^ b % 2 ≡ symbolAt zeros rs xs (from + b)) → m / 2 ^ (r .start - from) % 2 ^ r .width ≡ 0
       free r rs xs p m begins ends later =
           let t = r .start - from in
@@ -168,27 +168,27 @@ module _ (n : ℕ) (rests : ℕ → ℕ) (from to : ℕ) where
           (λ c l.
           let place : from + (t + c) ≡ placeOf r c = omega arith in
           ap (λ (k : ℕ). k % 2) (shr-shr m t c) ∙ later (t + c) (omega arith) ∙ ap (symbolAt zeros rs xs) place
-          ∙ symbol-free n zeros rs xs (placeOf r c) (covered-once n rests rs r p (placeOf r c) (place-in r c l)))
+          ∙ symbol-free n zeros rs xs (placeOf r c) (covered-once n fillers rs r p (placeOf r c) (place-in r c l)))
 
 -- ---- the elements of the frame
 
-symbol-rests : (rests others : ℕ → ℕ) (rs : List Run) (xs : List ℕ) (i : ℕ) → rests i ≡ others i → symbolAt rests rs xs i ≡ symbolAt others rs xs i
+symbol-fillers : (fillers others : ℕ → ℕ) (rs : List Run) (xs : List ℕ) (i : ℕ) → fillers i ≡ others i → symbolAt fillers rs xs i ≡ symbolAt others rs xs i
 unfolding symbolAt
-symbol-rests rests others [] xs i h = h
-symbol-rests rests others (r ∷ rs) [] i h = h
-symbol-rests rests others (r ∷ rs) (x ∷ xs) i h = ap (cond (inRun r i) (x / 2 ^ bitOf r i % 2)) (symbol-rests rests others rs xs i h)
+symbol-fillers fillers others [] xs i h = h
+symbol-fillers fillers others (r ∷ rs) [] i h = h
+symbol-fillers fillers others (r ∷ rs) (x ∷ xs) i h = ap (cond (inRun r i) (x / 2 ^ bitOf r i % 2)) (symbol-fillers fillers others rs xs i h)
 
 -- a mark is in no run
 mark-free : (f : Format) → known f ≡ true → (i : ℕ) → isMark i ≡ true → covered (codeRuns f) i ≡ false
-unfolding rest
-mark-free f k i y = by-test (covered (codeRuns f) i) (λ h. clash {b = true} refl (rw y at (covered-inside (size f) (rest f) (codeRuns f) (code-proper f k) i h .1))) (λ m. m)
+unfolding filler
+mark-free f k i y = by-test (covered (codeRuns f) i) (λ h. clash {b = true} refl (rw y at (covered-inside (size f) (filler f) (codeRuns f) (code-proper f k) i h .1))) (λ m. m)
 
-symbol-marks : (f : Format) → known f ≡ true → (xs : List ℕ) (i : ℕ) → symbolAt (rest f) (codeRuns f) xs i ≡ cond (isMark i) 2 (symbolAt zeros (codeRuns f) xs i)
-unfolding rest
+symbol-marks : (f : Format) → known f ≡ true → (xs : List ℕ) (i : ℕ) → symbolAt (filler f) (codeRuns f) xs i ≡ cond (isMark i) 2 (symbolAt zeros (codeRuns f) xs i)
+unfolding filler
 symbol-marks f k xs i =
     by-test (isMark i)
-    (λ y. symbol-free (size f) (rest f) (codeRuns f) xs i (mark-free f k i y) ∙ rw y)
-    (λ m. rw m (symbol-rests (rest f) zeros (codeRuns f) xs i (rw m)))
+    (λ y. symbol-free (size f) (filler f) (codeRuns f) xs i (mark-free f k i y) ∙ rw y)
+    (λ m. rw m (symbol-fillers (filler f) zeros (codeRuns f) xs i (rw m)))
 
 parts-apart : everyFormat (λ f. allApart 0 60 (codeRuns f) && allApart 60 100 (codeRuns f)) ≡ true
 unfolding everyFormat table codeRuns codeFields timeFields seconds minutes hours days tenths hundredths straightSeconds hasSeconds carriesSeconds codeControl codeRange carriesControl rowOf lookUp
@@ -200,23 +200,23 @@ module _ (f : Format) (k : known f ≡ true) (xs : List ℕ) where
   put = elementAt (packed 0 60 (startsOf f) xs) (packed 60 100 (startsOf f) xs)
 
   -- where the digits fit their runs, these are the symbols in which they stand
-  put-right : Small (codeRuns f) xs → (n : ℕ) → n ≤ 100 → tabulate n 0 put ≡ encode n (rest f) (codeRuns f) xs
+  put-right : Small (codeRuns f) xs → (n : ℕ) → n ≤ 100 → tabulate n 0 put ≡ encode n (filler f) (codeRuns f) xs
   unfolding elementAt encode startsOf
   put-right s n l =
       let both = of-every (λ f. allApart 0 60 (codeRuns f) && allApart 60 100 (codeRuns f)) parts-apart f k in
       let first = and-left (allApart 0 60 (codeRuns f)) (allApart 60 100 (codeRuns f)) both in
       let last = and-right (allApart 0 60 (codeRuns f)) (allApart 60 100 (codeRuns f)) both in
-      tabulate-same n put (symbolAt (rest f) (codeRuns f) xs)
+      tabulate-same n put (symbolAt (filler f) (codeRuns f) xs)
       (λ i h.
       ap (cond (isMark i) 2)
       (by-test (ltb i 60)
       (λ y.
       let below = ltb-true i 60 y in
-      rw y (packed-bit (size f) (rest f) 0 60 (codeRuns f) xs (code-proper f k) (runs-narrow f k) s first i (omega arith) ∙ ap (symbolAt zeros (codeRuns f) xs) (zero-add i)))
+      rw y (packed-bit (size f) (filler f) 0 60 (codeRuns f) xs (code-proper f k) (runs-narrow f k) s first i (omega arith) ∙ ap (symbolAt zeros (codeRuns f) xs) (zero-add i)))
       (λ y.
       let from = ltb-false i 60 y in
       let at : 60 + (i - 60) ≡ i = omega arith in
-      rw y (packed-bit (size f) (rest f) 60 100 (codeRuns f) xs (code-proper f k) (runs-narrow f k) s last (i - 60) (omega arith) ∙ ap (symbolAt zeros (codeRuns f) xs) at)))
+      rw y (packed-bit (size f) (filler f) 60 100 (codeRuns f) xs (code-proper f k) (runs-narrow f k) s last (i - 60) (omega arith) ∙ ap (symbolAt zeros (codeRuns f) xs) at)))
       ∙ sym (symbol-marks f k xs i))
 
   put-binary : (i : ℕ) → isMark i ≡ false → put i < 2
@@ -224,6 +224,6 @@ module _ (f : Format) (k : known f ≡ true) (xs : List ℕ) where
   put-binary i m = rw m (by-test (ltb i 60) (λ y. rw y (omega arith)) (λ y. rw y (omega arith)))
 
   pub digits-put : (n : ℕ) (frame : List ℕ) → n ≤ 100 → frame ≡ tabulate n 0 put
-      → (Small (codeRuns f) xs → frame ≡ encode n (rest f) (codeRuns f) xs) × ((i : ℕ) → i < n → isMark i ≡ false → getD frame i 0 < 2) × (length frame ≡ n)
+      → (Small (codeRuns f) xs → frame ≡ encode n (filler f) (codeRuns f) xs) × ((i : ℕ) → i < n → isMark i ≡ false → getD frame i 0 < 2) × (length frame ≡ n)
   digits-put n frame l e =
       (λ s. e ∙ put-right s n l, λ i h m. rw (e, getD-tabulate n 0 put 0 i h, zero-add i) (put-binary i m), ap length e ∙ length-tabulate n 0 put)

@@ -12,7 +12,7 @@ use Rattle.timecode.specs.Formats.{table, lookUp, rowOf, known, size, carriesCo
 use Rattle.timecode.specs.Laws.Runs.{place-in, covered-inside, covered-at}
 use Rattle.timecode.specs.Laws.Table.{everyFormat, of-every}
 use Rattle.timecode.specs.Laws.Tests.{and-left, and-right}
-use Rattle.timecode.specs.Layout.{Run, seconds, minutes, hours, days, tenths, hundredths, hasSeconds, straightSeconds, timeFields, rest, tabulate, value, Small, decode}
+use Rattle.timecode.specs.Layout.{Run, seconds, minutes, hours, days, tenths, hundredths, hasSeconds, straightSeconds, timeFields, filler, tabulate, value, Small, decode}
 use Rattle.timecode.specs.declared.Format.{Format}
 use Rattle.layout.specs.Tables.{startsOf, widthsOf}
 use Rattle.layout.specs.Runs.{codeRange, codeControl, codeFields, codeRuns, code-proper}
@@ -87,7 +87,7 @@ pub run-inside : (f : Format) → known f ≡ true → (j k : ℕ) → j < 18 �
 run-inside f h j k b l =
     let w : k < runAt f j .width = rw (width-at f j) at l in
     rw (start-at f j)
-    (covered-inside (size f) (rest f) (codeRuns f) (code-proper f h) (runAt f j .start + k) (covered-at (codeRuns f) noRun j (runAt f j .start + k) (omega (arith, length-runs f)) (place-in (runAt f j) k w)) .0)
+    (covered-inside (size f) (filler f) (codeRuns f) (code-proper f h) (runAt f j .start + k) (covered-at (codeRuns f) noRun j (runAt f j .start + k) (omega (arith, length-runs f)) (place-in (runAt f j) k w)) .0)
 
 -- ---- runs that begin before 60 begin by 50: nine bits that are moved there lose none
 

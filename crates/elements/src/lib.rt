@@ -5,7 +5,7 @@ ghost use mathlib.Core.Bool.{true, false};
 ghost use Prim.Native.Nat.{ℕ, _+_, _*_, _-_, _/_, _%_, _^_, _≤_, _<_};
 ghost use lib.ListN.{getD, length};
 ghost use Rattle.timecode.specs.Formats.{known, size};
-ghost use Rattle.timecode.specs.Layout.{isMark, rest, encode, value, Small, decode};
+ghost use Rattle.timecode.specs.Layout.{isMark, filler, encode, value, Small, decode};
 ghost use Rattle.timecode.specs.declared.Format.{Format};
 ghost use Rattle.layout.specs.Tables.{startsOf, widthsOf, markPlaces};
 ghost use Rattle.layout.specs.Runs.{codeRuns};
@@ -115,7 +115,7 @@ fn put_tens(fours: &[u32], places: &[u8], frame: &mut [u8], from: usize, to: usi
 // it fits its run, and in any case zeros, ones and marks.
 pub fn put_digits(format: Format, digits: &[u64], frame: &mut [u8])
     requires { ⌜ (known format ≡ true) × (length (now digits) ≡ 18) × IsFrame (length (now frame)) ⌝ }
-    ensures { λ _. ⌜ (Small (codeRuns format) (now (digits .entry)) → now (frame .exit) ≡ encode (length (now (frame .entry))) (rest format) (codeRuns format) (now (digits .entry))) × ((i : ℕ) → i < length (now (frame .entry)) → isMark i ≡ false → getD (now (frame .exit)) i 0 < 2) × (length (now (frame .exit)) ≡ length (now (frame .entry))) ⌝ }
+    ensures { λ _. ⌜ (Small (codeRuns format) (now (digits .entry)) → now (frame .exit) ≡ encode (length (now (frame .entry))) (filler format) (codeRuns format) (now (digits .entry))) × ((i : ℕ) → i < length (now (frame .entry)) → isMark i ≡ false → getD (now (frame .exit)) i 0 < 2) × (length (now (frame .exit)) ≡ length (now (frame .entry))) ⌝ }
 {
     let fours = FOURS;
     let places = mark_places();

@@ -15,7 +15,7 @@ use Rattle.timecode.specs.Formats.{size}
 use Rattle.timecode.specs.Frames.{areSymbols, covered, marksAgree, elementFits, checkElements}
 use Rattle.timecode.specs.Laws.Runs.{in-run, Clean, fits-agree, getD-encode, length-encode}
 use Rattle.timecode.specs.Laws.Tests.{by-test}
-use Rattle.timecode.specs.Layout.{Run, seconds, minutes, hours, days, tenths, hundredths, straightSeconds, timeFields, inRun, bitOf, isMark, rest, runs, symbolAt, tabulate, encode, Small}
+use Rattle.timecode.specs.Layout.{Run, seconds, minutes, hours, days, tenths, hundredths, straightSeconds, timeFields, inRun, bitOf, isMark, filler, runs, symbolAt, tabulate, encode, Small}
 use Rattle.timecode.specs.declared.Format.{Format}
 use Rattle.timecode.specs.declared.Reading.{Reading}
 use Rattle.timecode.specs.declared.Refusal.{Refusal}
@@ -31,7 +31,7 @@ greatestDigits rs = map (λ (r : Run). 2 ^ r .width - 1) rs
 
 -- 1 where a digit or bit stands, 2 at a mark, 0 at an index marker
 unfoldable pub shape : Format → List ℕ
-shape f = encode 100 (rest f) (codeRuns f) (greatestDigits (codeRuns f))
+shape f = encode 100 (filler f) (codeRuns f) (greatestDigits (codeRuns f))
 
 -- the symbol s is a mark exactly where the shape has one
 unfoldable pub agreesWith : ℕ → ℕ → Bool
@@ -86,13 +86,13 @@ full-bit w k h =
     let above : (2 ^ (suc m + k) - 1) / 2 ^ k ≡ 2 ^ suc m - 1 = ap (λ (n : ℕ). n / 2 ^ k) (ones-split (suc m) k) ∙ high (2 ^ suc m - 1) k (ones-lt k) in
     ap (λ (n : ℕ). (2 ^ n - 1) / 2 ^ k % 2) (sym all) ∙ ap (λ (n : ℕ). n % 2) above ∙ omega (arith, two-pow-succ m, pow-pos m)
 
-ones : (rests : ℕ → ℕ) (rs : List Run) (i : ℕ) → symbolAt rests rs (greatestDigits rs) i ≡ cond (covered rs i) 1 (rests i)
+ones : (fillers : ℕ → ℕ) (rs : List Run) (i : ℕ) → symbolAt fillers rs (greatestDigits rs) i ≡ cond (covered rs i) 1 (fillers i)
 unfolding symbolAt
-ones rests [] i = refl
-ones rests (r ∷ rs) i =
+ones fillers [] i = refl
+ones fillers (r ∷ rs) i =
     by-test (inRun r i)
     (λ h. rw (h, full-bit (r .width) (bitOf r i) (omega (arith, in-run r i h))))
-    (λ m. rw m (ones rests rs i))
+    (λ m. rw m (ones fillers rs i))
 
 -- a one moved by at most nine bits
 pub one-moved : (w : ℕ) → w ≤ 9 → 1 * 2 ^ w % 18446744073709551616 ≡ 2 ^ w
@@ -108,45 +108,45 @@ greatest-tabulate f = refl
 
 pub length-shape : (f : Format) → length (shape f) ≡ 100
 unfolding shape
-length-shape f = length-encode 100 (rest f) (codeRuns f) (greatestDigits (codeRuns f))
+length-shape f = length-encode 100 (filler f) (codeRuns f) (greatestDigits (codeRuns f))
 
-shape-at : (f : Format) (i : ℕ) → i < 100 → getD (shape f) i 0 ≡ cond (covered (codeRuns f) i) 1 (rest f i)
+shape-at : (f : Format) (i : ℕ) → i < 100 → getD (shape f) i 0 ≡ cond (covered (codeRuns f) i) 1 (filler f i)
 unfolding shape
-shape-at f i h = getD-encode 100 (rest f) (codeRuns f) (greatestDigits (codeRuns f)) i h ∙ ones (rest f) (codeRuns f) i
+shape-at f i h = getD-encode 100 (filler f) (codeRuns f) (greatestDigits (codeRuns f)) i h ∙ ones (filler f) (codeRuns f) i
 
-rest-not-1 : (f : Format) (i : ℕ) → rest f i ≡ 1 → ⊥
-unfolding rest
-rest-not-1 f i h = by-test (isMark i) (λ y. let z : _≡_ {A = ℕ} 2 1 = rw y at h in omega arith) (λ m. let z : _≡_ {A = ℕ} 0 1 = rw m at h in omega arith)
+filler-not-1 : (f : Format) (i : ℕ) → filler f i ≡ 1 → ⊥
+unfolding filler
+filler-not-1 f i h = by-test (isMark i) (λ y. let z : _≡_ {A = ℕ} 2 1 = rw y at h in omega arith) (λ m. let z : _≡_ {A = ℕ} 0 1 = rw m at h in omega arith)
 
-shape-agrees : (f : Format) (i s : ℕ) → i < 100 → agreesWith (getD (shape f) i 0) s ≡ marksAgree (rest f) (codeRuns f) i s
+shape-agrees : (f : Format) (i s : ℕ) → i < 100 → agreesWith (getD (shape f) i 0) s ≡ marksAgree (filler f) (codeRuns f) i s
 unfolding agreesWith marksAgree
 shape-agrees f i s h = rw (shape-at f i h) (by-test (covered (codeRuns f) i) (λ y. rw y) (λ m. rw m))
 
-shape-fits : (f : Format) (i s : ℕ) → i < 100 → fitsIn (getD (shape f) i 0) s ≡ elementFits (rest f) (codeRuns f) i s
+shape-fits : (f : Format) (i s : ℕ) → i < 100 → fitsIn (getD (shape f) i 0) s ≡ elementFits (filler f) (codeRuns f) i s
 unfolding fitsIn elementFits
-shape-fits f i s h = rw (shape-at f i h) (by-test (covered (codeRuns f) i) (λ y. rw y) (λ m. rw (m, ne-eqb (rest f i) 1 (rest-not-1 f i))))
+shape-fits f i s h = rw (shape-at f i h) (by-test (covered (codeRuns f) i) (λ y. rw y) (λ m. rw (m, ne-eqb (filler f i) 1 (filler-not-1 f i))))
 
 -- ---- what the search finds is what the definition refuses
 
-found-elements : (rests : ℕ → ℕ) (rs : List Run) (i : ℕ) (form frame : List ℕ) (a : Reading) → length frame ≤ length form
-    → ((k s : ℕ) → k < length frame → (agreesWith (getD form k 0) s ≡ marksAgree rests rs (i + k) s) × (fitsIn (getD form k 0) s ≡ elementFits rests rs (i + k) s))
-    → checkElements rests rs i frame a ≡ settled (offendedFrom i form frame) a
+found-elements : (fillers : ℕ → ℕ) (rs : List Run) (i : ℕ) (form frame : List ℕ) (a : Reading) → length frame ≤ length form
+    → ((k s : ℕ) → k < length frame → (agreesWith (getD form k 0) s ≡ marksAgree fillers rs (i + k) s) × (fitsIn (getD form k 0) s ≡ elementFits fillers rs (i + k) s))
+    → checkElements fillers rs i frame a ≡ settled (offendedFrom i form frame) a
 unfolding checkElements offendedFrom
-found-elements rests rs i form [] a l same = refl
-found-elements rests rs i [] (s ∷ ss) a l same = absurd (not-suc-le-zero l)
-found-elements rests rs i (m ∷ ms) (s ∷ ss) a l same =
-    let later : checkElements rests rs (suc i) ss a ≡ settled (offendedFrom (suc i) ms ss) a =
-    found-elements rests rs (suc i) ms ss a (omega arith) (λ k x b. rw (suc-add i k, ← add-suc i k) (same (suc k) x (omega arith))) in
-    let here : (agreesWith m s ≡ marksAgree rests rs i s) × (fitsIn m s ≡ elementFits rests rs i s) = rw (add-zero i) at (same 0 s (omega arith)) in
+found-elements fillers rs i form [] a l same = refl
+found-elements fillers rs i [] (s ∷ ss) a l same = absurd (not-suc-le-zero l)
+found-elements fillers rs i (m ∷ ms) (s ∷ ss) a l same =
+    let later : checkElements fillers rs (suc i) ss a ≡ settled (offendedFrom (suc i) ms ss) a =
+    found-elements fillers rs (suc i) ms ss a (omega arith) (λ k x b. rw (suc-add i k, ← add-suc i k) (same (suc k) x (omega arith))) in
+    let here : (agreesWith m s ≡ marksAgree fillers rs i s) × (fitsIn m s ≡ elementFits fillers rs i s) = rw (add-zero i) at (same 0 s (omega arith)) in
     rw (← here .0, ← here .1)
     (by-test (agreesWith m s)
     (λ y. rw y (by-test (fitsIn m s) (λ z. rw z later) (λ z. rw z)))
     (λ n. rw n))
 
-pub offended-refuses : (f : Format) (frame : List ℕ) → length frame ≤ 100 → (a : Reading) → checkElements (rest f) (runs f) 0 frame a ≡ settled (offendedOf (shape f) frame) a
+pub offended-refuses : (f : Format) (frame : List ℕ) → length frame ≤ 100 → (a : Reading) → checkElements (filler f) (runs f) 0 frame a ≡ settled (offendedOf (shape f) frame) a
 offended-refuses f frame h a =
     sym (code-elements f 0 frame a)
-    ∙ found-elements (rest f) (codeRuns f) 0 (shape f) frame a (omega (arith, length-shape f)) (λ i s l. rw (zero-add i) (shape-agrees f i s (omega arith), shape-fits f i s (omega arith)))
+    ∙ found-elements (filler f) (codeRuns f) 0 (shape f) frame a (omega (arith, length-shape f)) (λ i s l. rw (zero-add i) (shape-agrees f i s (omega arith), shape-fits f i s (omega arith)))
 
 -- ---- where the search finds nothing, the frame is clean
 
@@ -169,7 +169,7 @@ clean-from i (m ∷ ms) (s ∷ ss) l h k b =
     by-index zero b here later = here
     by-index (suc k) b here later = later k (omega arith)
 
-pub offended-clean : (f : Format) (frame : List ℕ) → length frame ≡ size f → size f ≤ 100 → offendedOf (shape f) frame ≡ Nothing → Clean (size f) (rest f) (codeRuns f) frame
+pub offended-clean : (f : Format) (frame : List ℕ) → length frame ≡ size f → size f ≤ 100 → offendedOf (shape f) frame ≡ Nothing → Clean (size f) (filler f) (codeRuns f) frame
 offended-clean f frame n small h i l =
     sym (shape-fits f i (getD frame i 0) (omega arith)) ∙ clean-from 0 (shape f) frame (omega (arith, length-shape f)) h i (omega arith)
 
@@ -180,10 +180,10 @@ nothing-from i form [] l h = refl
 nothing-from i [] (s ∷ ss) l h = absurd (not-suc-le-zero l)
 nothing-from i (m ∷ ms) (s ∷ ss) l h = rw (h 0 (omega arith) .0, h 0 (omega arith) .1) (nothing-from (suc i) ms ss (omega arith) (λ k b. h (suc k) (omega arith)))
 
-pub clean-offended : (f : Format) (frame : List ℕ) → length frame ≡ size f → size f ≤ 100 → Clean (size f) (rest f) (codeRuns f) frame → offendedOf (shape f) frame ≡ Nothing
+pub clean-offended : (f : Format) (frame : List ℕ) → length frame ≡ size f → size f ≤ 100 → Clean (size f) (filler f) (codeRuns f) frame → offendedOf (shape f) frame ≡ Nothing
 clean-offended f frame n small c =
     nothing-from 0 (shape f) frame (omega (arith, length-shape f))
     (λ i l.
     let s = getD frame i 0 in
     let fits = c i (omega arith) in
-    (shape-agrees f i s (omega arith) ∙ fits-agree (size f) (rest f) (codeRuns f) i s fits, shape-fits f i s (omega arith) ∙ fits))
+    (shape-agrees f i s (omega arith) ∙ fits-agree (size f) (filler f) (codeRuns f) i s fits, shape-fits f i s (omega arith) ∙ fits))

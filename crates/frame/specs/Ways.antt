@@ -15,7 +15,7 @@ use Rattle.timecode.specs.Laws.Runs.{getD-encode, length-encode, Clean, clean-b
 use Rattle.timecode.specs.Laws.Table.{size-range, two-sizes}
 use Rattle.timecode.specs.Laws.Tests.{by-test, clash}
 use Rattle.timecode.specs.Laws.Writing.{symbol-small, symbols-tabulate}
-use Rattle.timecode.specs.Layout.{isMark, rest, encode, Small, decode}
+use Rattle.timecode.specs.Layout.{isMark, filler, encode, Small, decode}
 use Rattle.timecode.specs.declared.Format.{Format}
 use Rattle.timecode.specs.declared.Refusal.the-variants.{UnknownSymbol}
 use Rattle.layout.specs.Tables.{widthsOf}
@@ -36,9 +36,9 @@ is-frame f n e = rw e (two-sizes IsFrame (inl refl) (inr refl) f)
 module _ (f : Format) (frame : List ℕ) (k : known f ≡ true) (n : length frame ≡ size f) where
   -- ---- a frame that nothing offends has small digits
 
-  pub are-digits : Clean (size f) (rest f) (codeRuns f) frame → Digits (decode (codeRuns f) frame)
+  pub are-digits : Clean (size f) (filler f) (codeRuns f) frame → Digits (decode (codeRuns f) frame)
   are-digits clean =
-      let small = small-decoded frame (codeRuns f) (clean-bits (size f) (rest f) (codeRuns f) frame (code-proper f k) clean) in
+      let small = small-decoded frame (codeRuns f) (clean-bits (size f) (filler f) (codeRuns f) frame (code-proper f k) clean) in
       record { long = small-length (codeRuns f) (decode (codeRuns f) frame) small ∙ length-runs f; small = small-digit (codeRuns f) (decode (codeRuns f) frame) (runs-narrow f k) small }
 
   -- ---- Read is what offends, or what the digits say
@@ -51,7 +51,7 @@ module _ (f : Format) (frame : List ℕ) (k : known f ≡ true) (n : length fram
       (λ y. rw (y, meaning-is f frame) (offended-refuses f frame (omega (arith, size-range f)) _))
       (λ m. rw m))
 
-  pub finds-nothing : offenceIn f frame ≡ Nothing → Clean (size f) (rest f) (codeRuns f) frame
+  pub finds-nothing : offenceIn f frame ≡ Nothing → Clean (size f) (filler f) (codeRuns f) frame
   unfolding offenceIn
   finds-nothing h =
       by-test (areSymbols frame)
@@ -62,29 +62,29 @@ module _ (f : Format) (frame : List ℕ) (k : known f ≡ true) (n : length fram
 
   -- off the marks of the other frame stand zeros and ones, so digits that stand in both fit their runs
   small-digits : (form : List ℕ) → ((i : ℕ) → i < 100 → isMark i ≡ false → getD form i 0 < 2) → ((i : ℕ) → i < length frame → getD frame i 0 ≡ getD form i 0) → Small (codeRuns f) (decode (codeRuns f) frame)
-  unfolding rest
+  unfolding filler
   small-digits form binary same =
       small-decoded frame (codeRuns f)
       (λ i h.
-      let inside = covered-inside (size f) (rest f) (codeRuns f) (code-proper f k) i h in
+      let inside = covered-inside (size f) (filler f) (codeRuns f) (code-proper f k) i h in
       by-test (isMark i)
       (λ y. clash {b = true} refl (rw y at (inside .1)))
       (λ m. rw (same i (omega (arith, inside .0))) (binary i (omega (arith, inside .0, size-range f)) m)))
 
-  pub as-written : (form xs : List ℕ) → xs ≡ decode (codeRuns f) frame → (Small (codeRuns f) xs → form ≡ encode 100 (rest f) (codeRuns f) xs) → ((i : ℕ) → i < 100 → isMark i ≡ false → getD form i 0 < 2)
-      → ((i : ℕ) → i < length frame → getD frame i 0 ≡ getD form i 0) → frame ≡ encode (size f) (rest f) (codeRuns f) (decode (codeRuns f) frame)
+  pub as-written : (form xs : List ℕ) → xs ≡ decode (codeRuns f) frame → (Small (codeRuns f) xs → form ≡ encode 100 (filler f) (codeRuns f) xs) → ((i : ℕ) → i < 100 → isMark i ≡ false → getD form i 0 < 2)
+      → ((i : ℕ) → i < length frame → getD frame i 0 ≡ getD form i 0) → frame ≡ encode (size f) (filler f) (codeRuns f) (decode (codeRuns f) frame)
   as-written form xs e right binary same =
       rw (← e)
-      (ext-getD 0 frame (encode (size f) (rest f) (codeRuns f) xs) (n ∙ sym (length-encode (size f) (rest f) (codeRuns f) xs))
+      (ext-getD 0 frame (encode (size f) (filler f) (codeRuns f) xs) (n ∙ sym (length-encode (size f) (filler f) (codeRuns f) xs))
       (λ i l.
       same i l ∙ ap (λ (ss : List ℕ). getD ss i 0) (right (rw e (small-digits form binary same)))
-      ∙ getD-encode 100 (rest f) (codeRuns f) xs i (omega (arith, size-range f)) ∙ sym (getD-encode (size f) (rest f) (codeRuns f) xs i (omega arith))))
+      ∙ getD-encode 100 (filler f) (codeRuns f) xs i (omega (arith, size-range f)) ∙ sym (getD-encode (size f) (filler f) (codeRuns f) xs i (omega arith))))
 
-  pub written-nothing : frame ≡ encode (size f) (rest f) (codeRuns f) (decode (codeRuns f) frame) → offenceIn f frame ≡ Nothing
+  pub written-nothing : frame ≡ encode (size f) (filler f) (codeRuns f) (decode (codeRuns f) frame) → offenceIn f frame ≡ Nothing
   unfolding offenceIn encode
   written-nothing e =
-      let clean : Clean (size f) (rest f) (codeRuns f) frame =
-      λ i l. ap (λ (ss : List ℕ). elementFits (rest f) (codeRuns f) i (getD ss i 0)) e ∙ encode-clean (size f) (rest f) (codeRuns f) (decode (codeRuns f) frame) (length-map (codeRuns f) _) i l in
+      let clean : Clean (size f) (filler f) (codeRuns f) frame =
+      λ i l. ap (λ (ss : List ℕ). elementFits (filler f) (codeRuns f) i (getD ss i 0)) e ∙ encode-clean (size f) (filler f) (codeRuns f) (decode (codeRuns f) frame) (length-map (codeRuns f) _) i l in
       rw (ap areSymbols e ∙ symbols-tabulate (size f) 0 _ (symbol-small f (codeRuns f) (decode (codeRuns f) frame))) (clean-offended f frame n (size-range f .1) clean)
 
 -- two lists that agree below i and at i

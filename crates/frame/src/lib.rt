@@ -8,7 +8,7 @@ ghost use Prim.Native.Nat.{ℕ, _≤_, _<_};
 ghost use lib.ListN.{getD, length};
 ghost use Rattle.timecode.specs.Formats.{known, size};
 ghost use Rattle.timecode.specs.Frames.{written, writeOf, writeLeaves, areSymbols, readOf, Valid};
-ghost use Rattle.timecode.specs.Layout.{rest, encode, decode};
+ghost use Rattle.timecode.specs.Layout.{filler, encode, decode};
 ghost use Rattle.layout.specs.Tables.{widthsOf};
 ghost use Rattle.layout.specs.Runs.{codeRuns};
 ghost use Rattle.digits.specs.Splitting.{Widths};
@@ -187,7 +187,7 @@ fn agree(form: &[u8], frame: &[u8]) -> bool
 // element by element, with the same reading in the end, only later.
 fn is_written(format: Format, digits: &[u64], frame: &[u8]) -> bool
     requires { ⌜ (known format ≡ true) × (length (now frame) ≡ size format) × (now digits ≡ decode (codeRuns format) (now frame)) ⌝ }
-    ensures { λ r. ⌜ (r ≡ true → now (frame .entry) ≡ encode (size format) (rest format) (codeRuns format) (decode (codeRuns format) (now (frame .entry)))) ⌝ }
+    ensures { λ r. ⌜ (r ≡ true → now (frame .entry) ≡ encode (size format) (filler format) (codeRuns format) (decode (codeRuns format) (now (frame .entry)))) ⌝ }
 {
     let mut form = [0u8; 100];
     put_digits(format, digits, &mut form);

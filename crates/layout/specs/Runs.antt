@@ -43,7 +43,7 @@ use Rattle.timecode.specs.Layout.{
   bitOf,
   placeOf,
   isMark,
-  rest,
+  filler,
   symbolAt,
   tabulate,
   encode,
@@ -108,15 +108,15 @@ number-carried frame (r ∷ rs) b =
     rw (y, digit-none frame r z, radix-one r (b .0) z) (number-carried frame rs (b .1) ∙ sym (zero-add (1 * numberIn frame rs) ∙ one-mul (numberIn frame rs))))
     (λ n. rw n (ap (λ (k : ℕ). digitIn frame r + r .radix * k) (number-carried frame rs (b .1))))
 
-symbol-carried : (rests : ℕ → ℕ) (rs : Field) (x i : ℕ) → Binary rs → symbolAt rests (carriedRuns rs) (digitsOf (carriedRuns rs) x) i ≡ symbolAt rests rs (digitsOf rs x) i
+symbol-carried : (fillers : ℕ → ℕ) (rs : Field) (x i : ℕ) → Binary rs → symbolAt fillers (carriedRuns rs) (digitsOf (carriedRuns rs) x) i ≡ symbolAt fillers rs (digitsOf rs x) i
 unfolding symbolAt
-symbol-carried rests [] x i b = refl
-symbol-carried rests (r ∷ rs) x i b =
+symbol-carried fillers [] x i b = refl
+symbol-carried fillers (r ∷ rs) x i b =
     by-test (eqb (r .width) 0)
     (λ y.
     let z = eqb-true (r .width) 0 y in
-    rw (y, none-in r i z, radix-one r (b .0) z, div-one x) (symbol-carried rests rs x i (b .1)))
-    (λ n. rw n (ap (λ (k : ℕ). cond (inRun r i) (x % r .radix / 2 ^ bitOf r i % 2) k) (symbol-carried rests rs (x / r .radix) i (b .1))))
+    rw (y, none-in r i z, radix-one r (b .0) z, div-one x) (symbol-carried fillers rs x i (b .1)))
+    (λ n. rw n (ap (λ (k : ℕ). cond (inRun r i) (x % r .radix / 2 ^ bitOf r i % 2) k) (symbol-carried fillers rs (x / r .radix) i (b .1))))
 
 -- ---- the control ranges that have elements are the table's
 
@@ -156,11 +156,11 @@ code-width f = sym (width-carried (codeControl f)) ∙ ap totalWidth (same-carri
 pub code-number : (f : Format) (frame : List ℕ) → numberIn frame (codeControl f) ≡ numberIn frame (control f)
 code-number f frame = sym (number-carried frame (codeControl f) (code-binary f)) ∙ ap (numberIn frame) (same-carried f) ∙ number-carried frame (control f) (control-binary f)
 
-control-symbol : (f : Format) (w i : ℕ) → symbolAt (rest f) (codeControl f) (digitsOf (codeControl f) w) i ≡ symbolAt (rest f) (control f) (digitsOf (control f) w) i
+control-symbol : (f : Format) (w i : ℕ) → symbolAt (filler f) (codeControl f) (digitsOf (codeControl f) w) i ≡ symbolAt (filler f) (control f) (digitsOf (control f) w) i
 control-symbol f w i =
-    sym (symbol-carried (rest f) (codeControl f) w i (code-binary f))
-    ∙ ap (λ (rs : Field). symbolAt (rest f) rs (digitsOf rs w) i) (same-carried f)
-    ∙ symbol-carried (rest f) (control f) w i (control-binary f)
+    sym (symbol-carried (filler f) (codeControl f) w i (code-binary f))
+    ∙ ap (λ (rs : Field). symbolAt (filler f) rs (digitsOf rs w) i) (same-carried f)
+    ∙ symbol-carried (filler f) (control f) w i (control-binary f)
 
 -- ---- behind the same runs
 
@@ -168,13 +168,13 @@ held-front : (ps rs qs : List Run) (i : ℕ) → covered rs i ≡ covered qs i �
 held-front [] rs qs i h = h
 held-front (p ∷ ps) rs qs i h = ap (λ (b : Bool). inRun p i || b) (held-front ps rs qs i h)
 
-symbol-front : (rests : ℕ → ℕ) (ps rs qs : List Run) (xs ys zs : List ℕ) (i : ℕ) → length xs ≡ length ps → symbolAt rests rs ys i ≡ symbolAt rests qs zs i
-    → symbolAt rests (ps ++ rs) (xs ++ ys) i ≡ symbolAt rests (ps ++ qs) (xs ++ zs) i
+symbol-front : (fillers : ℕ → ℕ) (ps rs qs : List Run) (xs ys zs : List ℕ) (i : ℕ) → length xs ≡ length ps → symbolAt fillers rs ys i ≡ symbolAt fillers qs zs i
+    → symbolAt fillers (ps ++ rs) (xs ++ ys) i ≡ symbolAt fillers (ps ++ qs) (xs ++ zs) i
 unfolding symbolAt
-symbol-front rests [] rs qs [] ys zs i l h = h
-symbol-front rests [] rs qs (x ∷ xs) ys zs i l h = let z : ⊥ = omega arith in absurd z
-symbol-front rests (p ∷ ps) rs qs [] ys zs i l h = let z : ⊥ = omega arith in absurd z
-symbol-front rests (p ∷ ps) rs qs (x ∷ xs) ys zs i l h = ap (λ (k : ℕ). cond (inRun p i) (x / 2 ^ bitOf p i % 2) k) (symbol-front rests ps rs qs xs ys zs i (omega arith) h)
+symbol-front fillers [] rs qs [] ys zs i l h = h
+symbol-front fillers [] rs qs (x ∷ xs) ys zs i l h = let z : ⊥ = omega arith in absurd z
+symbol-front fillers (p ∷ ps) rs qs [] ys zs i l h = let z : ⊥ = omega arith in absurd z
+symbol-front fillers (p ∷ ps) rs qs (x ∷ xs) ys zs i l h = ap (λ (k : ℕ). cond (inRun p i) (x / 2 ^ bitOf p i % 2) k) (symbol-front fillers ps rs qs xs ys zs i (omega arith) h)
 
 pub code-held : (f : Format) (i : ℕ) → covered (codeRuns f) i ≡ covered (runs f) i
 unfolding codeRuns codeFields runs fields timeFields seconds minutes hours days tenths hundredths straightSeconds
@@ -184,14 +184,14 @@ code-held f i =
     held-front (flatten (timeFields f)) (straightSeconds f ++ (codeControl f ++ [])) (straightSeconds f ++ (control f ++ [])) i
     (held-front (straightSeconds f) (codeControl f ++ []) (control f ++ []) i last)
 
-code-symbol : (f : Format) (t : Time) (w i : ℕ) → symbolAt (rest f) (codeRuns f) (spread (codeFields f) (numbers t w)) i ≡ symbolAt (rest f) (runs f) (spread (fields f) (numbers t w)) i
+code-symbol : (f : Format) (t : Time) (w i : ℕ) → symbolAt (filler f) (codeRuns f) (spread (codeFields f) (numbers t w)) i ≡ symbolAt (filler f) (runs f) (spread (fields f) (numbers t w)) i
 unfolding codeRuns codeFields runs fields timeFields seconds minutes hours days tenths hundredths straightSeconds numbers timeNumbers
 code-symbol f t w i =
-    let last : symbolAt (rest f) (codeControl f ++ []) (digitsOf (codeControl f) w ++ []) i ≡ symbolAt (rest f) (control f ++ []) (digitsOf (control f) w ++ []) i =
+    let last : symbolAt (filler f) (codeControl f ++ []) (digitsOf (codeControl f) w ++ []) i ≡ symbolAt (filler f) (control f ++ []) (digitsOf (control f) w ++ []) i =
     rw (append-nil (codeControl f), append-nil (control f), append-nil (digitsOf (codeControl f) w), append-nil (digitsOf (control f) w)) (control-symbol f w i) in
-    symbol-front (rest f) (flatten (timeFields f)) (straightSeconds f ++ (codeControl f ++ [])) (straightSeconds f ++ (control f ++ [])) (spread (timeFields f) (timeNumbers t))
+    symbol-front (filler f) (flatten (timeFields f)) (straightSeconds f ++ (codeControl f ++ [])) (straightSeconds f ++ (control f ++ [])) (spread (timeFields f) (timeNumbers t))
     (digitsOf (straightSeconds f) (t .hundredths / 100) ++ (digitsOf (codeControl f) w ++ [])) (digitsOf (straightSeconds f) (t .hundredths / 100) ++ (digitsOf (control f) w ++ [])) i refl
-    (symbol-front (rest f) (straightSeconds f) (codeControl f ++ []) (control f ++ []) (digitsOf (straightSeconds f) (t .hundredths / 100)) (digitsOf (codeControl f) w ++ []) (digitsOf (control f) w ++ []) i refl last)
+    (symbol-front (filler f) (straightSeconds f) (codeControl f ++ []) (control f ++ []) (digitsOf (straightSeconds f) (t .hundredths / 100)) (digitsOf (codeControl f) w ++ []) (digitsOf (control f) w ++ []) i refl last)
 
 same-tabulate : (n i : ℕ) (g h : ℕ → ℕ) → ((k : ℕ) → g k ≡ h k) → tabulate n i g ≡ tabulate n i h
 same-tabulate zero i g h e = refl
@@ -199,11 +199,11 @@ same-tabulate (suc n) i g h e = rw (e i) (ap (λ (xs : List ℕ). h i ∷ xs) (s
 
 -- ---- what the code's functions are proved by
 
-pub code-written : (f : Format) (t : Time) (w : ℕ) → encode (size f) (rest f) (codeRuns f) (spread (codeFields f) (numbers t w)) ≡ written f t w
+pub code-written : (f : Format) (t : Time) (w : ℕ) → encode (size f) (filler f) (codeRuns f) (spread (codeFields f) (numbers t w)) ≡ written f t w
 unfolding written encode
 code-written f t w = same-tabulate (size f) 0 _ _ (code-symbol f t w)
 
-pub code-elements : (f : Format) (i : ℕ) (ss : List ℕ) (a : Reading) → checkElements (rest f) (codeRuns f) i ss a ≡ checkElements (rest f) (runs f) i ss a
+pub code-elements : (f : Format) (i : ℕ) (ss : List ℕ) (a : Reading) → checkElements (filler f) (codeRuns f) i ss a ≡ checkElements (filler f) (runs f) i ss a
 unfolding checkElements marksAgree elementFits
 code-elements f i [] a = refl
 code-elements f i (s ∷ ss) a = rw (code-held f i, code-elements f (suc i) ss a)
@@ -216,9 +216,9 @@ code-small f t w v =
     (small-append (straightSeconds f) (codeControl f ++ []) (digitsOf (straightSeconds f) (t .hundredths / 100)) (digitsOf (codeControl f) w ++ []) (binary-small (straightSeconds f) (t .hundredths / 100) (straight-binary f))
     (small-append (codeControl f) [] (digitsOf (codeControl f) w) [] (binary-small (codeControl f) w (code-binary f)) tt))
 
-all-proper : everyFormat (λ f. proper (size f) (rest f) (codeRuns f)) ≡ true
-unfolding everyFormat table proper clear size rowOf lookUp rest isMark codeRuns codeFields timeFields seconds minutes hours days tenths hundredths straightSeconds hasSeconds carriesSeconds codeControl codeRange carriesControl
+all-proper : everyFormat (λ f. proper (size f) (filler f) (codeRuns f)) ≡ true
+unfolding everyFormat table proper clear size rowOf lookUp filler isMark codeRuns codeFields timeFields seconds minutes hours days tenths hundredths straightSeconds hasSeconds carriesSeconds codeControl codeRange carriesControl
 all-proper = refl
 
-pub code-proper : (f : Format) → known f ≡ true → proper (size f) (rest f) (codeRuns f) ≡ true
-code-proper = of-every (λ f. proper (size f) (rest f) (codeRuns f)) all-proper
+pub code-proper : (f : Format) → known f ≡ true → proper (size f) (filler f) (codeRuns f) ≡ true
+code-proper = of-every (λ f. proper (size f) (filler f) (codeRuns f)) all-proper

@@ -19,7 +19,7 @@ use Rattle.timecode.specs.Laws.Reading.{accepted-was-written, elements-u
 use Rattle.timecode.specs.Laws.Stepping.{step-on-format, next-follows, follows-next, usual-end, answers, year-range, day-end-range, refuses-alike, Went, went, Lands, lands, year-is}
 use Rattle.timecode.specs.Laws.Times.{is-on-format, is-carried, none-added, one-added}
 use Rattle.timecode.specs.Laws.Writing.{written-is-accepted, taken, takes, leaves}
-use Rattle.timecode.specs.Layout.{second, minute, hour, rest, runs, control, numberIn}
+use Rattle.timecode.specs.Layout.{second, minute, hour, filler, runs, control, numberIn}
 use Rattle.timecode.specs.declared.Format.{Format}
 use Rattle.timecode.specs.declared.Reading.{Reading}
 use Rattle.timecode.specs.declared.Reading.the-variants.{Accepted}
@@ -81,7 +81,7 @@ read-refuses-up-to-8 f frame r =
     refused-up-to 8 UnknownFormat (known f) _ r (omega arith)
     (refused-up-to 8 WrongLength (eqb (length frame) (size f)) _ r (omega arith)
     (refused-up-to 8 UnknownSymbol (areSymbols frame) _ r (omega arith)
-    (elements-up-to (rest f) (runs f) frame 0 _ r
+    (elements-up-to (filler f) (runs f) frame 0 _ r
     (refused-up-to 8 InvalidDigit (isTime f frame) _ r (omega arith)
     (refused-up-to 8 SecondsDiffer (secondsAgree f frame) _ r (omega arith)
     (λ h. absurd (accepted (timeIn f frame) (numberIn frame (control f)) r (sym h))))))))

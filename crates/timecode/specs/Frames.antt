@@ -9,7 +9,7 @@ use lib.Dec.{leb, ltb, eqb}
 use lib.ListN.{getD, length}
 use Rattle.timecode.specs.Answers.{check}
 use Rattle.timecode.specs.Formats.{member, isSymbol, known, size, interval, lastDay, dayLength, onFormat, carriesLeap, secondCarried, OnFormat}
-use Rattle.timecode.specs.Layout.{Run, Field, seconds, minutes, hours, days, tenths, hundredths, hasSeconds, straightSeconds, control, timeFields, fields, flatten, runs, numbers, spread, inRun, rest, encode, digitIn, numberIn}
+use Rattle.timecode.specs.Layout.{Run, Field, seconds, minutes, hours, days, tenths, hundredths, hasSeconds, straightSeconds, control, timeFields, fields, flatten, runs, numbers, spread, inRun, filler, encode, digitIn, numberIn}
 use Rattle.timecode.specs.declared.Format.{Format}
 use Rattle.timecode.specs.declared.Reading.{Reading}
 use Rattle.timecode.specs.declared.Reading.the-variants.{Accepted}
@@ -148,7 +148,7 @@ Precedes f t u = (year : ℕ) × (kind : ℕ) × (stepBackOf f u year kind ≡ N
 
 -- the bytes as which a time and a control word are written
 unfoldable pub written : Format → Time → ℕ → List ℕ
-written f t w = encode (size f) (rest f) (runs f) (spread (fields f) (numbers t w))
+written f t w = encode (size f) (filler f) (runs f) (spread (fields f) (numbers t w))
 
 -- how many control bits the format carries
 abbrev pub totalWidth : Field → ℕ
@@ -203,23 +203,23 @@ covered (r ∷ rs) i = inRun r i || covered rs i
 
 -- a mark belongs at index i: no run holds it, and a mark is what rests there
 abbrev pub markBelongs : (ℕ → ℕ) → List Run → ℕ → Bool
-markBelongs rests rs i = not (covered rs i) && eqb (rests i) 2
+markBelongs fillers rs i = not (covered rs i) && eqb (fillers i) 2
 
 -- number 5: symbol s at index i is a mark exactly where one belongs
 unfoldable pub marksAgree : (ℕ → ℕ) → List Run → ℕ → ℕ → Bool
-marksAgree rests rs i s = cond (markBelongs rests rs i) (eqb s 2) (not (eqb s 2))
+marksAgree fillers rs i s = cond (markBelongs fillers rs i) (eqb s 2) (not (eqb s 2))
 
 -- number 6: 0 or 1 in the place of a digit, SBS or control bit, and elsewhere what rests there
 unfoldable pub elementFits : (ℕ → ℕ) → List Run → ℕ → ℕ → Bool
-elementFits rests rs i s = cond (covered rs i) (ltb s 2) (eqb s (rests i))
+elementFits fillers rs i s = cond (covered rs i) (ltb s 2) (eqb s (fillers i))
 
 -- The lowest index that offends, counted from i on, decides.
 unfoldable pub checkElements : (ℕ → ℕ) → List Run → ℕ → List ℕ → Reading → Reading
-checkElements rests rs i [] answer = answer
-checkElements rests rs i (s ∷ ss) answer =
-    check Reading.Refused (MisplacedMark i) (marksAgree rests rs i s)  -- 5
-    (check Reading.Refused (InvalidElement i) (elementFits rests rs i s)  -- 6
-    (checkElements rests rs (suc i) ss answer))
+checkElements fillers rs i [] answer = answer
+checkElements fillers rs i (s ∷ ss) answer =
+    check Reading.Refused (MisplacedMark i) (marksAgree fillers rs i s)  -- 5
+    (check Reading.Refused (InvalidElement i) (elementFits fillers rs i s)  -- 6
+    (checkElements fillers rs (suc i) ss answer))
 
 -- every digit is at most 9
 abbrev pub areDigits : List ℕ → List Run → Bool
@@ -257,7 +257,7 @@ readOf f frame =
     check Reading.Refused UnknownFormat (known f)  -- 1
     (check Reading.Refused WrongLength (eqb (length frame) (size f))  -- 3
     (check Reading.Refused UnknownSymbol (areSymbols frame)  -- 4
-    (checkElements (rest f) (runs f) 0 frame
+    (checkElements (filler f) (runs f) 0 frame
     (check Reading.Refused InvalidDigit (isTime f frame)  -- 7
     (check Reading.Refused SecondsDiffer (secondsAgree f frame)  -- 8
     (Accepted (timeIn f frame) (numberIn frame (control f))))))))

@@ -138,14 +138,14 @@ unfoldable pub isMark : ℕ → Bool
 isMark i = eqb i 0 || eqb (i % 10) 9
 
 -- what stands where no digit or bit does: a mark, or an index marker, symbol 0
-unfoldable pub rest : Format → ℕ → ℕ
-rest f i = cond (isMark i) 2 0
+unfoldable pub filler : Format → ℕ → ℕ
+filler f i = cond (isMark i) 2 0
 
--- the symbol at index i: the bit of the digit whose run covers i, else what rests
+-- the symbol at index i: the bit of the digit whose run covers i, else the filler
 unfoldable pub symbolAt : (ℕ → ℕ) → List Run → List ℕ → ℕ → ℕ
-symbolAt rests [] xs i = rests i
-symbolAt rests (r ∷ rs) [] i = rests i
-symbolAt rests (r ∷ rs) (x ∷ xs) i = cond (inRun r i) (x / 2 ^ bitOf r i % 2) (symbolAt rests rs xs i)
+symbolAt fillers [] xs i = fillers i
+symbolAt fillers (r ∷ rs) [] i = fillers i
+symbolAt fillers (r ∷ rs) (x ∷ xs) i = cond (inRun r i) (x / 2 ^ bitOf r i % 2) (symbolAt fillers rs xs i)
 
 -- g i, g (i + 1), .., n of them
 abbrev pub tabulate {ℓ} : {Any : Type ℓ} → ℕ → ℕ → (ℕ → Any) → List Any
@@ -154,7 +154,7 @@ tabulate (suc n) i g = g i ∷ tabulate n (suc i) g
 
 -- the n symbols in which the digits xs stand at the runs rs
 unfoldable pub encode : ℕ → (ℕ → ℕ) → List Run → List ℕ → List ℕ
-encode n rests rs xs = tabulate n 0 (symbolAt rests rs xs)
+encode n fillers rs xs = tabulate n 0 (symbolAt fillers rs xs)
 
 -- ---- what the symbols of a frame say
 

@@ -2,7 +2,7 @@
 use borrow.Author.Needs.{needs}
 use mathlib.Core.Path.{_≡_, sym, ap₂, subst, _∙_}
 use lib.ListN.{length}
-use Rattle.timecode.specs.Layout.{rest, encode, Small}
+use Rattle.timecode.specs.Layout.{filler, encode, Small}
 use Rattle.layout.specs.Runs.{codeRuns, code-small, code-written}
 use Rattle.frame.specs.Ways.{are-widths, is-frame}
 use Rattle.frame.proofs.put_frame.Statement.{statement}
@@ -38,7 +38,7 @@ returns c =
     let f = start .args .format in
     let digits = c .before .before .before .before .before .digits-of in
     c .before .before .put-digits .ensures .0 (subst (Small (codeRuns f)) (sym (digits .ensures)) (code-small f (start .args .time) (start .args .control) (start .pre .0)))
-    ∙ ap₂ (λ n xs. encode n (rest f) (codeRuns f) xs) (start .pre .1) (digits .ensures)
+    ∙ ap₂ (λ n xs. encode n (filler f) (codeRuns f) xs) (start .pre .1) (digits .ensures)
     ∙ code-written f (start .args .time) (start .args .control)
 
 pub put-frame-spec : {M : Type 1} → statement M

@@ -3,7 +3,7 @@ use borrow.Author.Needs.{needs}
 use mathlib.Core.Logic.{inr}
 use mathlib.Core.Path.{_≡_, refl, sym, ap, subst, _∙_}
 use lib.ListN.{length}
-use Rattle.timecode.specs.Layout.{rest, encode, Small}
+use Rattle.timecode.specs.Layout.{filler, encode, Small}
 use Rattle.layout.specs.Runs.{codeRuns}
 use Rattle.frame.specs.Offences.{shape, greatest-small}
 use Rattle.frame.specs.Ways.{are-widths}
@@ -30,7 +30,7 @@ returns c =
     let start = c .before .before .before .before .before .before in
     let f = start .args .format in
     let full = c .before .before .before .before .greatest-digits .ensures f (start .pre .1) in
-    c .before .put-digits .ensures .0 (subst (Small (codeRuns f)) (sym full) (greatest-small (codeRuns f))) ∙ ap (encode 100 (rest f) (codeRuns f)) full
+    c .before .put-digits .ensures .0 (subst (Small (codeRuns f)) (sym full) (greatest-small (codeRuns f))) ∙ ap (encode 100 (filler f) (codeRuns f)) full
 
 pub shape-of-spec : {M : Type 1} → statement M
 shape-of-spec =

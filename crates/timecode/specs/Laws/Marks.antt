@@ -15,7 +15,7 @@ use Rattle.timecode.specs.Laws.Runs.{getD-encode, covered-inside, small-
 use Rattle.timecode.specs.Laws.Table.{two-sizes, layout-proper}
 use Rattle.timecode.specs.Laws.Tests.{by-test, clash, or-other}
 use Rattle.timecode.specs.Laws.Writing.{length-written, written-small}
-use Rattle.timecode.specs.Layout.{fields, runs, numbers, spread, isMark, rest, symbolAt}
+use Rattle.timecode.specs.Layout.{fields, runs, numbers, spread, isMark, filler, symbolAt}
 use Rattle.timecode.specs.declared.Format.{Format}
 use Rattle.timecode.specs.declared.Reading.the-variants.{Accepted}
 use Rattle.timecode.specs.declared.Time.{Time}
@@ -27,33 +27,33 @@ pub size-large : (f : Format) → 1 < size f
 size-large f = two-sizes (λ n. 1 < n) (omega arith) (omega arith) f
 
 -- an element of a written frame
-pub at-written : (f : Format) (t : Time) (w i : ℕ) → i < size f → getD (written f t w) i 0 ≡ symbolAt (rest f) (runs f) (spread (fields f) (numbers t w)) i
+pub at-written : (f : Format) (t : Time) (w i : ℕ) → i < size f → getD (written f t w) i 0 ≡ symbolAt (filler f) (runs f) (spread (fields f) (numbers t w)) i
 unfolding written
-at-written f t w i h = getD-encode (size f) (rest f) (runs f) (spread (fields f) (numbers t w)) i h
+at-written f t w i h = getD-encode (size f) (filler f) (runs f) (spread (fields f) (numbers t w)) i h
 
-rest-mark : (f : Format) (i : ℕ) → isMark i ≡ true → rest f i ≡ 2
-unfolding rest
-rest-mark f i h = rw h
+filler-mark : (f : Format) (i : ℕ) → isMark i ≡ true → filler f i ≡ 2
+unfolding filler
+filler-mark f i h = rw h
 
-mark-rest : (f : Format) (i : ℕ) → rest f i ≡ 2 → isMark i ≡ true
-unfolding rest
-mark-rest f i h = by-test (isMark i) (λ y. y) (λ m. let z : _≡_ {A = ℕ} 0 2 = rw m at h in let n : ⊥ = omega arith in absurd n)
+mark-filler : (f : Format) (i : ℕ) → filler f i ≡ 2 → isMark i ≡ true
+unfolding filler
+mark-filler f i h = by-test (isMark i) (λ y. y) (λ m. let z : _≡_ {A = ℕ} 0 2 = rw m at h in let n : ⊥ = omega arith in absurd n)
 
 pub mark-there : (f : Format) (t : Time) (w : ℕ) → Valid f t w → (i : ℕ) → i < size f → isMark i ≡ true → getD (written f t w) i 0 ≡ 2
 mark-there f t w v i h m =
     let xs = spread (fields f) (numbers t w) in
     at-written f t w i h
     ∙ by-test (covered (runs f) i)
-    (λ y. clash (eq-eqb (rest f i) 2 (rest-mark f i m)) (covered-inside (size f) (rest f) (runs f) (layout-proper f (v .format)) i y .1))
-    (λ n. symbol-free (size f) (rest f) (runs f) xs i n ∙ rest-mark f i m)
+    (λ y. clash (eq-eqb (filler f i) 2 (filler-mark f i m)) (covered-inside (size f) (filler f) (runs f) (layout-proper f (v .format)) i y .1))
+    (λ n. symbol-free (size f) (filler f) (runs f) xs i n ∙ filler-mark f i m)
 
 pub mark-only : (f : Format) (t : Time) (w : ℕ) → Valid f t w → (i : ℕ) → i < size f → getD (written f t w) i 0 ≡ 2 → isMark i ≡ true
 mark-only f t w v i h k =
     let xs = spread (fields f) (numbers t w) in
-    let s : symbolAt (rest f) (runs f) xs i ≡ 2 = sym (at-written f t w i h) ∙ k in
+    let s : symbolAt (filler f) (runs f) xs i ≡ 2 = sym (at-written f t w i h) ∙ k in
     by-test (covered (runs f) i)
-    (λ y. let n : ⊥ = omega (arith, s, symbol-covered (size f) (rest f) (runs f) xs (small-length (runs f) xs (written-small f t w v)) i y) in absurd n)
-    (λ n. mark-rest f i (sym (symbol-free (size f) (rest f) (runs f) xs i n) ∙ s))
+    (λ y. let n : ⊥ = omega (arith, s, symbol-covered (size f) (filler f) (runs f) xs (small-length (runs f) xs (written-small f t w v)) i y) in absurd n)
+    (λ n. mark-filler f i (sym (symbol-free (size f) (filler f) (runs f) xs i n) ∙ s))
 
 pub mark-index : (i : ℕ) → isMark i ≡ true → (i ≡ 0) ⊎ (i % 10 ≡ 9)
 unfolding isMark

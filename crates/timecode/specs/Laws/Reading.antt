@@ -19,7 +19,7 @@ use Rattle.timecode.specs.Laws.Runs.{Clean, fits-agree, clean-bits, enco
 use Rattle.timecode.specs.Laws.Table.{layout-proper}
 use Rattle.timecode.specs.Laws.Tests.{by-test, clash, and-left, and-right}
 use Rattle.timecode.specs.Laws.Times.{none-added, one-added, time-grid}
-use Rattle.timecode.specs.Layout.{Run, binaryIf, seconds, minutes, hours, days, tenths, hundredths, hasSeconds, straightSeconds, control, timeFields, fields, flatten, runs, second, minute, hour, timeNumbers, numbers, digitsOf, spread, rest, encode, numberIn, Small, decode}
+use Rattle.timecode.specs.Layout.{Run, binaryIf, seconds, minutes, hours, days, tenths, hundredths, hasSeconds, straightSeconds, control, timeFields, fields, flatten, runs, second, minute, hour, timeNumbers, numbers, digitsOf, spread, filler, encode, numberIn, Small, decode}
 use Rattle.timecode.specs.declared.Format.{Format}
 use Rattle.timecode.specs.declared.Reading.{Reading}
 use Rattle.timecode.specs.declared.Reading.the-variants.{Accepted}
@@ -29,26 +29,26 @@ use Rattle.timecode.specs.declared.Time.{Time}
 
 -- ---- elements that offend
 
-elements-passed : (rests : ℕ → ℕ) (rs : List Run) (ss : List ℕ) (i : ℕ) (a : Reading) (t : Time) (w : ℕ) → checkElements rests rs i ss a ≡ Accepted t w
-    → ((k : ℕ) → k < length ss → elementFits rests rs (i + k) (getD ss k 0) ≡ true) × (a ≡ Accepted t w)
+elements-passed : (fillers : ℕ → ℕ) (rs : List Run) (ss : List ℕ) (i : ℕ) (a : Reading) (t : Time) (w : ℕ) → checkElements fillers rs i ss a ≡ Accepted t w
+    → ((k : ℕ) → k < length ss → elementFits fillers rs (i + k) (getD ss k 0) ≡ true) × (a ≡ Accepted t w)
 unfolding checkElements
-elements-passed rests rs [] i a t w h = (λ k l. absurd (not-suc-le-zero l), h)
-elements-passed rests rs (s ∷ ss) i a t w h =
-    let marks = passed Reading.Refused (MisplacedMark i) (marksAgree rests rs i s) _ (Accepted t w) (accepted t w) h in
-    let here = passed Reading.Refused (InvalidElement i) (elementFits rests rs i s) _ (Accepted t w) (accepted t w) (marks .1) in
-    let later = elements-passed rests rs ss (suc i) a t w (here .1) in
+elements-passed fillers rs [] i a t w h = (λ k l. absurd (not-suc-le-zero l), h)
+elements-passed fillers rs (s ∷ ss) i a t w h =
+    let marks = passed Reading.Refused (MisplacedMark i) (marksAgree fillers rs i s) _ (Accepted t w) (accepted t w) h in
+    let here = passed Reading.Refused (InvalidElement i) (elementFits fillers rs i s) _ (Accepted t w) (accepted t w) (marks .1) in
+    let later = elements-passed fillers rs ss (suc i) a t w (here .1) in
     (clean (here .0) (later .0), later .1)
   where
-    clean : elementFits rests rs i s ≡ true → ((k : ℕ) → k < length ss → elementFits rests rs (suc i + k) (getD ss k 0) ≡ true) → (k : ℕ) → k < suc (length ss) → elementFits rests rs (i + k) (getD (s ∷ ss) k 0) ≡ true
+    clean : elementFits fillers rs i s ≡ true → ((k : ℕ) → k < length ss → elementFits fillers rs (suc i + k) (getD ss k 0) ≡ true) → (k : ℕ) → k < suc (length ss) → elementFits fillers rs (i + k) (getD (s ∷ ss) k 0) ≡ true
     clean z c zero l = rw (add-zero i) z
     clean z c (suc k) l = rw (add-suc i k, ← suc-add i k) (c k (omega arith))
 
-pub elements-pass : (rests : ℕ → ℕ) (rs : List Run) (ss : List ℕ) (i : ℕ) (a : Reading) → ((k : ℕ) → k < length ss → elementFits rests rs (i + k) (getD ss k 0) ≡ true) → checkElements rests rs i ss a ≡ a
+pub elements-pass : (fillers : ℕ → ℕ) (rs : List Run) (ss : List ℕ) (i : ℕ) (a : Reading) → ((k : ℕ) → k < length ss → elementFits fillers rs (i + k) (getD ss k 0) ≡ true) → checkElements fillers rs i ss a ≡ a
 unfolding checkElements
-elements-pass rests rs [] i a c = refl
-elements-pass rests rs (s ∷ ss) i a c =
-    let z : elementFits rests rs i s ≡ true = rw (add-zero i) at (c 0 (omega arith)) in
-    rw (fits-agree 0 rests rs i s z, z) (elements-pass rests rs ss (suc i) a (λ k l. rw (suc-add i k, ← add-suc i k) (c (suc k) (omega arith))))
+elements-pass fillers rs [] i a c = refl
+elements-pass fillers rs (s ∷ ss) i a c =
+    let z : elementFits fillers rs i s ≡ true = rw (add-zero i) at (c 0 (omega arith)) in
+    rw (fits-agree 0 fillers rs i s z, z) (elements-pass fillers rs ss (suc i) a (λ k l. rw (suc-add i k, ← add-suc i k) (c (suc k) (omega arith))))
 
 -- ---- what Read accepts was written
 
@@ -131,9 +131,9 @@ seconds-agree : (f : Format) (frame : List ℕ) → secondsAgree f frame ≡ tru
 unfolding secondsAgree
 seconds-agree f frame h y = eqb-true (numberIn frame (straightSeconds f)) (timeIn f frame .hundredths / 100) (rw y at h)
 
-module _ (f : Format) (frame : List ℕ) (k : known f ≡ true) (n : length frame ≡ size f) (clean : Clean (size f) (rest f) (runs f) frame) (time : IsTime f frame) (agree : secondsAgree f frame ≡ true) where
+module _ (f : Format) (frame : List ℕ) (k : known f ≡ true) (n : length frame ≡ size f) (clean : Clean (size f) (filler f) (runs f) frame) (time : IsTime f frame) (agree : secondsAgree f frame ≡ true) where
   small : Small (runs f) (decode (runs f) frame)
-  small = small-decoded frame (runs f) (clean-bits (size f) (rest f) (runs f) frame (layout-proper f k) clean)
+  small = small-decoded frame (runs f) (clean-bits (size f) (filler f) (runs f) frame (layout-proper f k) clean)
 
   time-part : Small (flatten (timeFields f)) (decode (flatten (timeFields f)) frame)
   unfolding runs fields timeFields seconds minutes hours days tenths hundredths
@@ -215,7 +215,7 @@ module _ (f : Format) (frame : List ℕ) (k : known f ≡ true) (n : length fram
 
   read-written : written f read-time read-control ≡ frame
   unfolding written
-  read-written = ap (encode (size f) (rest f) (runs f)) digits-same ∙ encode-decode (size f) (rest f) (runs f) frame (layout-proper f k) n clean
+  read-written = ap (encode (size f) (filler f) (runs f)) digits-same ∙ encode-decode (size f) (filler f) (runs f) frame (layout-proper f k) n clean
 
 pub accepted-was-written : (f : Format) (frame : List ℕ) (t : Time) (w : ℕ) → readOf f frame ≡ Accepted t w → Valid f t w × (written f t w ≡ frame)
 unfolding readOf
@@ -223,23 +223,23 @@ accepted-was-written f frame t w h =
     let a = passed Reading.Refused UnknownFormat (known f) _ (Accepted t w) (accepted t w) h in
     let b = passed Reading.Refused WrongLength (eqb (length frame) (size f)) _ (Accepted t w) (accepted t w) (a .1) in
     let c = passed Reading.Refused UnknownSymbol (areSymbols frame) _ (Accepted t w) (accepted t w) (b .1) in
-    let d = elements-passed (rest f) (runs f) frame 0 _ t w (c .1) in
+    let d = elements-passed (filler f) (runs f) frame 0 _ t w (c .1) in
     let e = passed Reading.Refused InvalidDigit (isTime f frame) _ (Accepted t w) (accepted t w) (d .1) in
     let g = passed Reading.Refused SecondsDiffer (secondsAgree f frame) _ (Accepted t w) (accepted t w) (e .1) in
     let last = g .1 in
     let same-time : timeIn f frame ≡ t = cc in
     let same-control : numberIn frame (control f) ≡ w = cc in
     let n = eqb-true (length frame) (size f) (b .0) in
-    let clean : Clean (size f) (rest f) (runs f) frame = λ i l. rw (zero-add i) at (d .0 i (omega arith)) in
+    let clean : Clean (size f) (filler f) (runs f) frame = λ i l. rw (zero-add i) at (d .0 i (omega arith)) in
     subst₂ (λ (x : Time) (y : ℕ). Valid f x y × (written f x y ≡ frame)) same-time same-control
     (read-valid f frame (a .0) n clean (is-time f frame (e .0)) (g .0), read-written f frame (a .0) n clean (is-time f frame (e .0)) (g .0))
 
 -- ---- the numbers that Read refuses with
 
-pub elements-up-to : (rests : ℕ → ℕ) (rs : List Run) (ss : List ℕ) (i : ℕ) (a : Reading) (r : Refusal) → (a ≡ Reading.Refused r → number r ≤ 8) → checkElements rests rs i ss a ≡ Reading.Refused r → number r ≤ 8
+pub elements-up-to : (fillers : ℕ → ℕ) (rs : List Run) (ss : List ℕ) (i : ℕ) (a : Reading) (r : Refusal) → (a ≡ Reading.Refused r → number r ≤ 8) → checkElements fillers rs i ss a ≡ Reading.Refused r → number r ≤ 8
 unfolding checkElements
-elements-up-to rests rs [] i a r later = later
-elements-up-to rests rs (s ∷ ss) i a r later =
-    refused-up-to 8 (MisplacedMark i) (marksAgree rests rs i s) _ r (omega arith)
-    (refused-up-to 8 (InvalidElement i) (elementFits rests rs i s) _ r (omega arith)
-    (elements-up-to rests rs ss (suc i) a r later))
+elements-up-to fillers rs [] i a r later = later
+elements-up-to fillers rs (s ∷ ss) i a r later =
+    refused-up-to 8 (MisplacedMark i) (marksAgree fillers rs i s) _ r (omega arith)
+    (refused-up-to 8 (InvalidElement i) (elementFits fillers rs i s) _ r (omega arith)
+    (elements-up-to fillers rs ss (suc i) a r later))

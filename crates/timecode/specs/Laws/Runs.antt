@@ -55,13 +55,13 @@ fill-end xs g n l p = sym (take-length xs) ∙ ap (λ (k : ℕ). take k xs) l �
 
 -- ---- the symbols of a frame by their index
 
-pub getD-encode : (n : ℕ) (rests : ℕ → ℕ) (rs : List Run) (xs : List ℕ) (i : ℕ) → i < n → getD (encode n rests rs xs) i 0 ≡ symbolAt rests rs xs i
+pub getD-encode : (n : ℕ) (fillers : ℕ → ℕ) (rs : List Run) (xs : List ℕ) (i : ℕ) → i < n → getD (encode n fillers rs xs) i 0 ≡ symbolAt fillers rs xs i
 unfolding encode
-getD-encode n rests rs xs i h = getD-tabulate n 0 (symbolAt rests rs xs) 0 i h ∙ ap (symbolAt rests rs xs) (zero-add i)
+getD-encode n fillers rs xs i h = getD-tabulate n 0 (symbolAt fillers rs xs) 0 i h ∙ ap (symbolAt fillers rs xs) (zero-add i)
 
-pub length-encode : (n : ℕ) (rests : ℕ → ℕ) (rs : List Run) (xs : List ℕ) → length (encode n rests rs xs) ≡ n
+pub length-encode : (n : ℕ) (fillers : ℕ → ℕ) (rs : List Run) (xs : List ℕ) → length (encode n fillers rs xs) ≡ n
 unfolding encode
-length-encode n rests rs xs = length-tabulate n 0 (symbolAt rests rs xs)
+length-encode n fillers rs xs = length-tabulate n 0 (symbolAt fillers rs xs)
 
 -- ---- one run
 
@@ -83,12 +83,12 @@ place-of-bit r i h = let p = in-run r i h in omega arith
 -- ---- the test of a layout: each element of a run lies in the frame, is no mark and is in no later run
 
 unfoldable pub clear : ℕ → (ℕ → ℕ) → List Run → ℕ → ℕ → Bool
-clear n rests rs i zero = true
-clear n rests rs i (suc w) = (ltb i n && (not (eqb (rests i) 2) && not (covered rs i))) && clear n rests rs (suc i) w
+clear n fillers rs i zero = true
+clear n fillers rs i (suc w) = (ltb i n && (not (eqb (fillers i) 2) && not (covered rs i))) && clear n fillers rs (suc i) w
 
 unfoldable pub proper : ℕ → (ℕ → ℕ) → List Run → Bool
-proper n rests [] = true
-proper n rests (r ∷ rs) = clear n rests rs (r .start) (r .width) && proper n rests rs
+proper n fillers [] = true
+proper n fillers (r ∷ rs) = clear n fillers rs (r .start) (r .width) && proper n fillers rs
 
 pub small-length : (rs : List Run) (xs : List ℕ) → Small rs xs → length xs ≡ length rs
 small-length [] [] s = refl
@@ -102,40 +102,40 @@ small-append [] qs (x ∷ xs) ys a b = absurd a
 small-append (r ∷ rs) qs [] ys a b = absurd a
 small-append (r ∷ rs) qs (x ∷ xs) ys a b = (a .0, small-append rs qs xs ys (a .1) b)
 
-module _ (n : ℕ) (rests : ℕ → ℕ) where
+module _ (n : ℕ) (fillers : ℕ → ℕ) where
   Clear : List Run → ℕ → Type 0
-  Clear rs i = (i < n) × (eqb (rests i) 2 ≡ false) × (covered rs i ≡ false)
+  Clear rs i = (i < n) × (eqb (fillers i) 2 ≡ false) × (covered rs i ≡ false)
 
-  clear-at : (rs : List Run) (s w : ℕ) → clear n rests rs s w ≡ true → (b : ℕ) → b < w → Clear rs (s + b)
+  clear-at : (rs : List Run) (s w : ℕ) → clear n fillers rs s w ≡ true → (b : ℕ) → b < w → Clear rs (s + b)
   unfolding clear Clear
   clear-at rs s zero t b h = absurd (not-suc-le-zero h)
   clear-at rs s (suc w) t zero h =
-      let here = and-left (ltb s n && (not (eqb (rests s) 2) && not (covered rs s))) (clear n rests rs (suc s) w) t in
-      let free = and-right (ltb s n) (not (eqb (rests s) 2) && not (covered rs s)) here in
+      let here = and-left (ltb s n && (not (eqb (fillers s) 2) && not (covered rs s))) (clear n fillers rs (suc s) w) t in
+      let free = and-right (ltb s n) (not (eqb (fillers s) 2) && not (covered rs s)) here in
       rw (add-zero s) (
-        ltb-true s n (and-left (ltb s n) (not (eqb (rests s) 2) && not (covered rs s)) here),
-        not-true (eqb (rests s) 2) (and-left (not (eqb (rests s) 2)) (not (covered rs s)) free),
-        not-true (covered rs s) (and-right (not (eqb (rests s) 2)) (not (covered rs s)) free),
+        ltb-true s n (and-left (ltb s n) (not (eqb (fillers s) 2) && not (covered rs s)) here),
+        not-true (eqb (fillers s) 2) (and-left (not (eqb (fillers s) 2)) (not (covered rs s)) free),
+        not-true (covered rs s) (and-right (not (eqb (fillers s) 2)) (not (covered rs s)) free),
       )
   clear-at rs s (suc w) t (suc b) h =
-      rw (add-suc s b, ← suc-add s b) (clear-at rs (suc s) w (and-right (ltb s n && (not (eqb (rests s) 2) && not (covered rs s))) (clear n rests rs (suc s) w) t) b (omega arith))
+      rw (add-suc s b, ← suc-add s b) (clear-at rs (suc s) w (and-right (ltb s n && (not (eqb (fillers s) 2) && not (covered rs s))) (clear n fillers rs (suc s) w) t) b (omega arith))
 
-  clear-in : (rs : List Run) (r : Run) → proper n rests (r ∷ rs) ≡ true → (i : ℕ) → inRun r i ≡ true → Clear rs i
+  clear-in : (rs : List Run) (r : Run) → proper n fillers (r ∷ rs) ≡ true → (i : ℕ) → inRun r i ≡ true → Clear rs i
   unfolding proper
   clear-in rs r t i h =
       let p = place-of-bit r i h in
-      rw (p .0) at (clear-at rs (r .start) (r .width) (and-left (clear n rests rs (r .start) (r .width)) (proper n rests rs) t) (bitOf r i) (p .1))
+      rw (p .0) at (clear-at rs (r .start) (r .width) (and-left (clear n fillers rs (r .start) (r .width)) (proper n fillers rs) t) (bitOf r i) (p .1))
 
-  pub later-proper : (rs : List Run) (r : Run) → proper n rests (r ∷ rs) ≡ true → proper n rests rs ≡ true
+  pub later-proper : (rs : List Run) (r : Run) → proper n fillers (r ∷ rs) ≡ true → proper n fillers rs ≡ true
   unfolding proper
-  later-proper rs r t = and-right (clear n rests rs (r .start) (r .width)) (proper n rests rs) t
+  later-proper rs r t = and-right (clear n fillers rs (r .start) (r .width)) (proper n fillers rs) t
 
   -- no later run holds an element of this one
-  pub covered-once : (rs : List Run) (r : Run) → proper n rests (r ∷ rs) ≡ true → (i : ℕ) → inRun r i ≡ true → covered rs i ≡ false
+  pub covered-once : (rs : List Run) (r : Run) → proper n fillers (r ∷ rs) ≡ true → (i : ℕ) → inRun r i ≡ true → covered rs i ≡ false
   unfolding Clear
   covered-once rs r t i h = clear-in rs r t i h .2
 
-  pub covered-inside : (rs : List Run) → proper n rests rs ≡ true → (i : ℕ) → covered rs i ≡ true → (i < n) × (eqb (rests i) 2 ≡ false)
+  pub covered-inside : (rs : List Run) → proper n fillers rs ≡ true → (i : ℕ) → covered rs i ≡ true → (i < n) × (eqb (fillers i) 2 ≡ false)
   unfolding Clear
   covered-inside [] t i h = clash h refl
   covered-inside (r ∷ rs) t i h =
@@ -145,7 +145,7 @@ module _ (n : ℕ) (rests : ℕ → ℕ) where
 
   -- ---- digits to frame to digits
 
-  read-back : (frame : List ℕ) (rs : List Run) (xs : List ℕ) → proper n rests rs ≡ true → Small rs xs → ((i : ℕ) → covered rs i ≡ true → getD frame i 0 ≡ symbolAt rests rs xs i) → decode rs frame ≡ xs
+  read-back : (frame : List ℕ) (rs : List Run) (xs : List ℕ) → proper n fillers rs ≡ true → Small rs xs → ((i : ℕ) → covered rs i ≡ true → getD frame i 0 ≡ symbolAt fillers rs xs i) → decode rs frame ≡ xs
   unfolding symbolAt Clear
   read-back frame [] [] t s h = refl
   read-back frame [] (x ∷ xs) t s h = absurd s
@@ -162,18 +162,18 @@ module _ (n : ℕ) (rests : ℕ → ℕ) where
       let m : inRun r i ≡ false = by-test (inRun r i) (λ y. clash k (clear-in rs r t i y .2)) (λ m. m) in
       h i (or-second (inRun r i) (covered rs i) k) ∙ rw m))
 
-  pub decode-encode : (rs : List Run) (xs : List ℕ) → proper n rests rs ≡ true → Small rs xs → decode rs (encode n rests rs xs) ≡ xs
-  decode-encode rs xs t s = read-back (encode n rests rs xs) rs xs t s (λ i k. getD-encode n rests rs xs i (covered-inside rs t i k .0))
+  pub decode-encode : (rs : List Run) (xs : List ℕ) → proper n fillers rs ≡ true → Small rs xs → decode rs (encode n fillers rs xs) ≡ xs
+  decode-encode rs xs t s = read-back (encode n fillers rs xs) rs xs t s (λ i k. getD-encode n fillers rs xs i (covered-inside rs t i k .0))
 
   -- ---- frame to digits to frame
 
-  pub symbol-free : (rs : List Run) (xs : List ℕ) (i : ℕ) → covered rs i ≡ false → symbolAt rests rs xs i ≡ rests i
+  pub symbol-free : (rs : List Run) (xs : List ℕ) (i : ℕ) → covered rs i ≡ false → symbolAt fillers rs xs i ≡ fillers i
   unfolding symbolAt
   symbol-free [] xs i h = refl
   symbol-free (r ∷ rs) [] i h = refl
   symbol-free (r ∷ rs) (x ∷ xs) i h = rw (neither-first (inRun r i) (covered rs i) h) (symbol-free rs xs i (neither-second (inRun r i) (covered rs i) h))
 
-  pub symbol-covered : (rs : List Run) (xs : List ℕ) → length xs ≡ length rs → (i : ℕ) → covered rs i ≡ true → symbolAt rests rs xs i < 2
+  pub symbol-covered : (rs : List Run) (xs : List ℕ) → length xs ≡ length rs → (i : ℕ) → covered rs i ≡ true → symbolAt fillers rs xs i < 2
   unfolding symbolAt
   symbol-covered [] xs l i h = clash h refl
   symbol-covered (r ∷ rs) [] l i h = let n : ⊥ = omega arith in absurd n
@@ -181,18 +181,18 @@ module _ (n : ℕ) (rests : ℕ → ℕ) where
 
   -- every element of the frame fits its place, so that none offends
   abbrev pub Clean : List Run → List ℕ → Type 0
-  Clean rs frame = (i : ℕ) → i < n → elementFits rests rs i (getD frame i 0) ≡ true
+  Clean rs frame = (i : ℕ) → i < n → elementFits fillers rs i (getD frame i 0) ≡ true
 
-  clean-covered : (rs : List Run) (i s : ℕ) → elementFits rests rs i s ≡ true → covered rs i ≡ true → s < 2
+  clean-covered : (rs : List Run) (i s : ℕ) → elementFits fillers rs i s ≡ true → covered rs i ≡ true → s < 2
   unfolding elementFits
   clean-covered rs i s h y = ltb-true s 2 (rw y at h)
 
-  clean-free : (rs : List Run) (i s : ℕ) → elementFits rests rs i s ≡ true → covered rs i ≡ false → s ≡ rests i
+  clean-free : (rs : List Run) (i s : ℕ) → elementFits fillers rs i s ≡ true → covered rs i ≡ false → s ≡ fillers i
   unfolding elementFits
-  clean-free rs i s h y = eqb-true s (rests i) (rw y at h)
+  clean-free rs i s h y = eqb-true s (fillers i) (rw y at h)
 
   -- an element that fits its place is a mark exactly where one belongs
-  pub fits-agree : (rs : List Run) (i s : ℕ) → elementFits rests rs i s ≡ true → marksAgree rests rs i s ≡ true
+  pub fits-agree : (rs : List Run) (i s : ℕ) → elementFits fillers rs i s ≡ true → marksAgree fillers rs i s ≡ true
   unfolding marksAgree
   fits-agree rs i s h =
       by-test (covered rs i)
@@ -201,10 +201,10 @@ module _ (n : ℕ) (rests : ℕ → ℕ) where
       rw (m, ← clean-free rs i s h m)
       (by-test (eqb s 2) (λ u. rw u) (λ u. rw u)))
 
-  pub clean-bits : (rs : List Run) (frame : List ℕ) → proper n rests rs ≡ true → Clean rs frame → (i : ℕ) → covered rs i ≡ true → getD frame i 0 < 2
+  pub clean-bits : (rs : List Run) (frame : List ℕ) → proper n fillers rs ≡ true → Clean rs frame → (i : ℕ) → covered rs i ≡ true → getD frame i 0 < 2
   clean-bits rs frame t c i h = clean-covered rs i (getD frame i 0) (c i (covered-inside rs t i h .0)) h
 
-  symbol-decoded : (frame : List ℕ) (rs : List Run) → ((i : ℕ) → covered rs i ≡ true → getD frame i 0 < 2) → (i : ℕ) → covered rs i ≡ true → symbolAt rests rs (decode rs frame) i ≡ getD frame i 0
+  symbol-decoded : (frame : List ℕ) (rs : List Run) → ((i : ℕ) → covered rs i ≡ true → getD frame i 0 < 2) → (i : ℕ) → covered rs i ≡ true → symbolAt fillers rs (decode rs frame) i ≡ getD frame i 0
   unfolding symbolAt
   symbol-decoded frame [] b i h = clash h refl
   symbol-decoded frame (r ∷ rs) b i h =
@@ -216,23 +216,23 @@ module _ (n : ℕ) (rests : ℕ → ℕ) where
       ∙ ap (λ (k : ℕ). getD frame k 0) (p .0)))
       (λ m. rw m (symbol-decoded frame rs (λ k l. b k (or-second (inRun r k) (covered rs k) l)) i (or-other (inRun r i) (covered rs i) m h)))
 
-  pub encode-decode : (rs : List Run) (frame : List ℕ) → proper n rests rs ≡ true → length frame ≡ n → Clean rs frame → encode n rests rs (decode rs frame) ≡ frame
+  pub encode-decode : (rs : List Run) (frame : List ℕ) → proper n fillers rs ≡ true → length frame ≡ n → Clean rs frame → encode n fillers rs (decode rs frame) ≡ frame
   encode-decode rs frame t l c =
-      ext-getD 0 (encode n rests rs (decode rs frame)) frame (length-encode n rests rs (decode rs frame) ∙ sym l)
+      ext-getD 0 (encode n fillers rs (decode rs frame)) frame (length-encode n fillers rs (decode rs frame) ∙ sym l)
       (λ i h.
-      let k : i < n = rw (length-encode n rests rs (decode rs frame)) at h in
-      getD-encode n rests rs (decode rs frame) i k
+      let k : i < n = rw (length-encode n fillers rs (decode rs frame)) at h in
+      getD-encode n fillers rs (decode rs frame) i k
       ∙ by-test (covered rs i)
       (λ y. symbol-decoded frame rs (clean-bits rs frame t c) i y)
       (λ m. symbol-free rs (decode rs frame) i m ∙ sym (clean-free rs i (getD frame i 0) (c i k) m)))
 
-  pub encode-clean : (rs : List Run) (xs : List ℕ) → length xs ≡ length rs → Clean rs (encode n rests rs xs)
+  pub encode-clean : (rs : List Run) (xs : List ℕ) → length xs ≡ length rs → Clean rs (encode n fillers rs xs)
   unfolding elementFits
   encode-clean rs xs l i h =
-      rw (getD-encode n rests rs xs i h)
+      rw (getD-encode n fillers rs xs i h)
       (by-test (covered rs i)
-      (λ y. rw (y, lt-ltb (symbolAt rests rs xs i) 2 (symbol-covered rs xs l i y)))
-      (λ m. rw (m, eq-eqb (symbolAt rests rs xs i) (rests i) (symbol-free rs xs i m))))
+      (λ y. rw (y, lt-ltb (symbolAt fillers rs xs i) 2 (symbol-covered rs xs l i y)))
+      (λ m. rw (m, eq-eqb (symbolAt fillers rs xs i) (fillers i) (symbol-free rs xs i m))))
 
 pub small-decoded : (frame : List ℕ) (rs : List Run) → ((i : ℕ) → covered rs i ≡ true → getD frame i 0 < 2) → Small rs (decode rs frame)
 small-decoded frame [] b = tt

@@ -18,7 +18,7 @@ use Rattle.timecode.specs.Laws.Runs.{length-encode, small-length, small-
 use Rattle.timecode.specs.Laws.Table.{layout-proper}
 use Rattle.timecode.specs.Laws.Tests.{by-test}
 use Rattle.timecode.specs.Laws.Times.{on-format, is-on-format, is-carried, one-added, time-small}
-use Rattle.timecode.specs.Layout.{Run, seconds, minutes, hours, days, tenths, hundredths, hasSeconds, straightSeconds, control, timeFields, fields, flatten, runs, second, minute, hour, timeNumbers, numbers, digitsOf, spread, inRun, isMark, rest, symbolAt, tabulate, encode, numberIn, Small, decode}
+use Rattle.timecode.specs.Layout.{Run, seconds, minutes, hours, days, tenths, hundredths, hasSeconds, straightSeconds, control, timeFields, fields, flatten, runs, second, minute, hour, timeNumbers, numbers, digitsOf, spread, inRun, isMark, filler, symbolAt, tabulate, encode, numberIn, Small, decode}
 use Rattle.timecode.specs.declared.Format.{Format}
 use Rattle.timecode.specs.declared.Reading.{Reading}
 use Rattle.timecode.specs.declared.Reading.the-variants.{Accepted}
@@ -29,14 +29,14 @@ use Rattle.timecode.specs.declared.Written.the-variants.{Done}
 
 -- ---- each symbol of a written frame is at most 3
 
-rest-symbol : (f : Format) (i : ℕ) → rest f i ≤ 3
-unfolding rest
-rest-symbol f i = by-test (isMark i) (λ y. rw y (omega arith)) (λ m. rw m (omega arith))
+filler-symbol : (f : Format) (i : ℕ) → filler f i ≤ 3
+unfolding filler
+filler-symbol f i = by-test (isMark i) (λ y. rw y (omega arith)) (λ m. rw m (omega arith))
 
-pub symbol-small : (f : Format) (rs : List Run) (xs : List ℕ) (i : ℕ) → symbolAt (rest f) rs xs i ≤ 3
+pub symbol-small : (f : Format) (rs : List Run) (xs : List ℕ) (i : ℕ) → symbolAt (filler f) rs xs i ≤ 3
 unfolding symbolAt
-symbol-small f [] xs i = rest-symbol f i
-symbol-small f (r ∷ rs) [] i = rest-symbol f i
+symbol-small f [] xs i = filler-symbol f i
+symbol-small f (r ∷ rs) [] i = filler-symbol f i
 symbol-small f (r ∷ rs) (x ∷ xs) i = by-test (inRun r i) (λ y. rw y (omega arith)) (λ m. rw m (symbol-small f rs xs i))
 
 pub symbols-tabulate : (n i : ℕ) (g : ℕ → ℕ) → ((k : ℕ) → g k ≤ 3) → areSymbols (tabulate n i g) ≡ true
@@ -45,11 +45,11 @@ symbols-tabulate (suc n) i g h = rw (le-leb (g i) 3 (h i)) (symbols-tabulate n (
 
 pub length-written : (f : Format) (t : Time) (w : ℕ) → length (written f t w) ≡ size f
 unfolding written
-length-written f t w = length-encode (size f) (rest f) (runs f) (spread (fields f) (numbers t w))
+length-written f t w = length-encode (size f) (filler f) (runs f) (spread (fields f) (numbers t w))
 
 pub written-symbols : (f : Format) (t : Time) (w : ℕ) → areSymbols (written f t w) ≡ true
 unfolding written encode
-written-symbols f t w = symbols-tabulate (size f) 0 (symbolAt (rest f) (runs f) (spread (fields f) (numbers t w))) (symbol-small f (runs f) (spread (fields f) (numbers t w)))
+written-symbols f t w = symbols-tabulate (size f) 0 (symbolAt (filler f) (runs f) (spread (fields f) (numbers t w))) (symbol-small f (runs f) (spread (fields f) (numbers t w)))
 
 time-digits : (f : Format) (t : Time) → AreDigits (spread (timeFields f) (timeNumbers t))
 unfolding timeFields timeNumbers seconds minutes hours days tenths hundredths
@@ -85,7 +85,7 @@ module _ (f : Format) (t : Time) (w : ℕ) (v : Valid f t w) where
 
   decoded : Each (λ d x. decode d frame ≡ digitsOf d x) (fields f) (numbers t w)
   unfolding written fields timeFields numbers timeNumbers runs
-  decoded = fields-apart frame (fields f) (numbers t w) refl (decode-encode (size f) (rest f) (runs f) (spread (fields f) (numbers t w)) (layout-proper f (v .format)) written-small)
+  decoded = fields-apart frame (fields f) (numbers t w) refl (decode-encode (size f) (filler f) (runs f) (spread (fields f) (numbers t w)) (layout-proper f (v .format)) written-small)
 
   second-back : numberIn frame (seconds f) ≡ second (t .hundredths)
   unfolding fields timeFields numbers timeNumbers seconds
@@ -166,7 +166,7 @@ module _ (f : Format) (t : Time) (w : ℕ) (v : Valid f t w) where
       passes Reading.Refused UnknownFormat (known f) _ (v .format)
       ∙ passes Reading.Refused WrongLength (eqb (length frame) (size f)) _ (eq-eqb (length frame) (size f) (length-written f t w))
       ∙ passes Reading.Refused UnknownSymbol (areSymbols frame) _ (written-symbols f t w)
-      ∙ elements-pass (rest f) (runs f) frame 0 _ (λ i h. rw (zero-add i) (encode-clean (size f) (rest f) (runs f) (spread (fields f) (numbers t w)) (small-length (runs f) (spread (fields f) (numbers t w)) written-small) i (rw (length-written f t w) at h)))
+      ∙ elements-pass (filler f) (runs f) frame 0 _ (λ i h. rw (zero-add i) (encode-clean (size f) (filler f) (runs f) (spread (fields f) (numbers t w)) (small-length (runs f) (spread (fields f) (numbers t w)) written-small) i (rw (length-written f t w) at h)))
       ∙ passes Reading.Refused InvalidDigit (isTime f frame) _ time-said
       ∙ passes Reading.Refused SecondsDiffer (secondsAgree f frame) _ seconds-said
       ∙ ap₂ Accepted time-back control-back
