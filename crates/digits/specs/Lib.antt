@@ -1,2 +1,2 @@
 pub mod Splitting
-pub mod Saying
+pub mod Meaning

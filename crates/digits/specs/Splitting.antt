@@ -14,7 +14,7 @@ use Rattle.timecode.specs.Frames.{totalWidth, Valid}
 use Rattle.timecode.specs.Laws.Fields.{Binary}
 use Rattle.timecode.specs.Laws.Table.{everyFormat, of-every}
 use Rattle.timecode.specs.Laws.Tests.{by-test, and-left, and-right}
-use Rattle.timecode.specs.Layout.{Run, Field, seconds, minutes, hours, days, tenths, hundredths, hasSeconds, straightSeconds, control, timeFields, second, minute, hour, timeNumbers, numbers, digitsOf, spread}
+use Rattle.timecode.specs.Layout.{Run, Field, seconds, minutes, hours, days, tenths, hundredths, hasSeconds, straightSeconds, control, timeFields, second, minute, hour, timeNumbers, numbers, fieldDigits, allDigits}
 use Rattle.timecode.specs.declared.Format.{Format}
 use Rattle.timecode.specs.declared.Time.{Time}
 use Rattle.layout.specs.Tables.{widthsOf}
@@ -34,7 +34,7 @@ pub record Digits (ds : List ℕ) : Type 0 where
 time-part : (f : Format) (t : Time) → OnFormat f t
     → second (t .hundredths) % 10 ∷ second (t .hundredths) / 10 ∷ minute (t .hundredths) % 10 ∷ minute (t .hundredths) / 10 ∷ hour (t .hundredths) % 10 ∷ hour (t .hundredths) / 10
     ∷ t .day % 10 ∷ t .day / 10 % 10 ∷ t .day / 10 / 10 ∷ t .hundredths / 10 % 10 ∷ t .hundredths % 10 ∷ []
-    ≡ spread (timeFields f) (timeNumbers t)
+    ≡ allDigits (timeFields f) (timeNumbers t)
 unfolding timeFields timeNumbers seconds minutes hours days tenths hundredths
 time-part f t o =
     let c = t .hundredths in
@@ -53,7 +53,7 @@ pub straight-width : (f : Format) → getD (widthsOf f) 11 0 ≡ cond (hasSecond
 unfolding widthsOf codeRuns codeFields timeFields seconds minutes hours days tenths hundredths straightSeconds codeControl
 straight-width f = refl
 
-straight-part : (f : Format) (x straight : ℕ) → x < 131072 → straight ≡ cond (eqb (getD (widthsOf f) 11 0) 0) 0 x → straight % 512 ∷ straight / 512 ∷ [] ≡ digitsOf (straightSeconds f) x
+straight-part : (f : Format) (x straight : ℕ) → x < 131072 → straight ≡ cond (eqb (getD (widthsOf f) 11 0) 0) 0 x → straight % 512 ∷ straight / 512 ∷ [] ≡ fieldDigits (straightSeconds f) x
 unfolding straightSeconds
 straight-part f x straight l e =
     by-test (hasSeconds f)
@@ -78,14 +78,14 @@ carriedFirst [] = true
 carriedFirst (r ∷ rs) = cond (eqb (r .width) 9) (carriedFirst rs) (eqb (totalWidth (r ∷ rs)) 0)
 
 -- ranges that are not carried have the digits of 0
-none-carried : (d : Field) → Binary d → totalWidth d ≡ 0 → digitsOf d 0 ≡ ninesOf (length d) 0
+none-carried : (d : Field) → Binary d → totalWidth d ≡ 0 → fieldDigits d 0 ≡ ninesOf (length d) 0
 none-carried [] b h = refl
 none-carried (r ∷ rs) b h =
     let width : r .width ≡ 0 = omega arith in
     let radix : r .radix ≡ 1 = b .0 ∙ ap (λ (n : ℕ). 2 ^ n) width in
     rw radix (ap (λ (xs : List ℕ). 0 ∷ xs) (none-carried rs (b .1) (omega arith)))
 
-nines : (d : Field) → Binary d → carriedFirst d ≡ true → (x : ℕ) → x < 2 ^ totalWidth d → digitsOf d x ≡ ninesOf (length d) x
+nines : (d : Field) → Binary d → carriedFirst d ≡ true → (x : ℕ) → x < 2 ^ totalWidth d → fieldDigits d x ≡ ninesOf (length d) x
 nines [] b h x l = refl
 nines (r ∷ rs) b h x l =
     by-test (eqb (r .width) 9)
@@ -107,7 +107,7 @@ inRow (r ∷ rs) = cond (eqb (r .width) 9) (carriedFirst rs) (eqb (r .width) 0 &
 
 -- where the first is not carried, a word of nine more bits has the word's digits from the second on
 moved-nines : (r : Run) (rs : Field) → Binary (r ∷ rs) → inRow (r ∷ rs) ≡ true → (w word : ℕ) → w < 2 ^ totalWidth (r ∷ rs) → word ≡ w * 2 ^ (9 - r .width)
-    → word % 512 ∷ ninesOf (length rs) (word / 512) ≡ digitsOf (r ∷ rs) w
+    → word % 512 ∷ ninesOf (length rs) (word / 512) ≡ fieldDigits (r ∷ rs) w
 moved-nines r rs b h w word l e =
     by-test (eqb (r .width) 9)
     (λ y.
@@ -131,7 +131,7 @@ unfolding everyFormat table codeControl codeRange carriesControl rowOf lookUp
 all-in-row = refl
 
 control-part : (f : Format) → known f ≡ true → (w word : ℕ) → w < 2 ^ totalWidth (control f) → word ≡ w * 2 ^ (9 - getD (widthsOf f) 13 0)
-    → word % 512 ∷ word / 512 % 512 ∷ word / 512 / 512 % 512 ∷ word / 512 / 512 / 512 % 512 ∷ word / 512 / 512 / 512 / 512 % 512 ∷ [] ≡ digitsOf (codeControl f) w
+    → word % 512 ∷ word / 512 % 512 ∷ word / 512 / 512 % 512 ∷ word / 512 / 512 / 512 % 512 ∷ word / 512 / 512 / 512 / 512 % 512 ∷ [] ≡ fieldDigits (codeControl f) w
 unfolding widthsOf codeRuns codeFields timeFields seconds minutes hours days tenths hundredths straightSeconds codeControl
 control-part f k w word l e = moved-nines (codeRange f 50) (drop 1 (codeControl f)) (code-binary f) (of-every (λ f. inRow (codeControl f)) all-in-row f k) w word (rw (code-width f) l) e
 
@@ -146,7 +146,7 @@ splitDigits t straight word =
     ∷ word % 512 ∷ word / 512 % 512 ∷ word / 512 / 512 % 512 ∷ word / 512 / 512 / 512 % 512 ∷ word / 512 / 512 / 512 / 512 % 512 ∷ []
 
 pub split-digits : (f : Format) (t : Time) (w straight word : ℕ) → Valid f t w → straight ≡ cond (eqb (getD (widthsOf f) 11 0) 0) 0 (t .hundredths / 100) → word ≡ w * 2 ^ (9 - getD (widthsOf f) 13 0)
-    → splitDigits t straight word ≡ spread (codeFields f) (numbers t w)
+    → splitDigits t straight word ≡ allDigits (codeFields f) (numbers t w)
 unfolding splitDigits codeFields timeFields numbers timeNumbers seconds minutes hours days tenths hundredths codeControl
 split-digits f t w straight word v p q =
     λ i. time-part f t (v .time) i ++ (straight-part f (t .hundredths / 100) straight (omega (arith, v .time .below)) p i ++ control-part f (v .format) w word (v .room) q i)

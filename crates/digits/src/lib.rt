@@ -1,4 +1,4 @@
-// A time and a control word as the digits at a format's runs, and what digits say: numbers 7 and 8, the time and the control word.
+// A time and a control word as the digits at a format's runs, and what digits mean: numbers 7 and 8, the time and the control word.
 // Written digits are those of a time and a control word that Write takes; read ones come from a frame in which nothing offends.
 ghost use mathlib.Core.Path.{_≡_};
 ghost use mathlib.Core.Bool.{true, cond};
@@ -6,10 +6,10 @@ ghost use Prim.Native.Nat.{_+_, _*_, _^_, _≤_, _<_};
 ghost use lib.Dec.{eqb};
 ghost use lib.ListN.{getD, length};
 ghost use Rattle.timecode.specs.Frames.{controlFits, lastSecond, Valid};
-ghost use Rattle.timecode.specs.Layout.{numbers, spread};
+ghost use Rattle.timecode.specs.Layout.{numbers, allDigits};
 ghost use Rattle.layout.specs.Tables.{widthsOf};
 ghost use Rattle.layout.specs.Runs.{codeFields};
-ghost use Rattle.digits.specs.Saying.{two, dayOf, digitsFrom, isTimeOf, timeOf, agreeOf, controlOf, meaningOf, Bounds};
+ghost use Rattle.digits.specs.Meaning.{two, dayFrom, digitsFrom, isTimeOf, timeFrom, agreeOf, controlFrom, meaningOf, Bounds};
 ghost use Rattle.digits.specs.Splitting.{Widths, Digits};
 use layout::CONTROL_1;
 use layout::CONTROL_2;
@@ -70,7 +70,7 @@ fn carried(widths: &[u8], j: usize, x: u64) -> u64
 // ranges behind the last that is carried.
 pub fn digits_of(format: Format, widths: &[u8], time: Time, control: u64) -> [u64; 18]
     requires { ⌜ Widths (now widths) × (now widths ≡ widthsOf format) × Valid format time control ⌝ }
-    ensures { λ r. ⌜ r ≡ spread (codeFields format) (numbers time control) ⌝ }
+    ensures { λ r. ⌜ r ≡ allDigits (codeFields format) (numbers time control) ⌝ }
 {
     let day = time.day as u64;
     let c = time.hundredths as u64;
@@ -114,7 +114,7 @@ fn pair(digits: &[u64], at: usize) -> u64
 
 fn day_in(digits: &[u64]) -> u64
     requires { ⌜ Digits (now digits) ⌝ }
-    ensures { λ r. ⌜ r ≡ dayOf (now (digits .entry)) ⌝ }
+    ensures { λ r. ⌜ r ≡ dayFrom (now (digits .entry)) ⌝ }
 {
     digits[DAY_UNITS] + 10 * (digits[DAY_TENS] + 10 * digits[DAY_HUNDREDS])
 }
@@ -176,7 +176,7 @@ fn is_time(format: Format, digits: &[u64]) -> bool
 
 fn time_in(digits: &[u64]) -> Time
     requires { ⌜ Digits (now digits) × Bounds (now digits) ⌝ }
-    ensures { λ r. ⌜ r ≡ timeOf (now (digits .entry)) ⌝ }
+    ensures { λ r. ⌜ r ≡ timeFrom (now (digits .entry)) ⌝ }
 {
     let hundredths = ((pair(digits, HOUR) * 60 + pair(digits, MINUTE)) * 60 + pair(digits, SECOND))
         * 100
@@ -191,7 +191,7 @@ fn time_in(digits: &[u64]) -> Time
 
 // Number 8: where straight binary seconds are carried, they are the seconds that the digits say.
 fn seconds_agree(format: Format, widths: &[u8], digits: &[u64], time: Time) -> bool
-    requires { ⌜ Widths (now widths) × (now widths ≡ widthsOf format) × Digits (now digits) × (time ≡ timeOf (now digits)) ⌝ }
+    requires { ⌜ Widths (now widths) × (now widths ≡ widthsOf format) × Digits (now digits) × (time ≡ timeFrom (now digits)) ⌝ }
     ensures { λ r. ⌜ r ≡ agreeOf format (now (digits .entry)) ⌝ }
 {
     if width(widths, STRAIGHT_LOW) == 0 {
@@ -212,7 +212,7 @@ fn join(low: u64, width: usize, high: u64) -> u64
 // The control word.
 fn control_in(format: Format, widths: &[u8], digits: &[u64]) -> u64
     requires { ⌜ Widths (now widths) × (now widths ≡ widthsOf format) × Digits (now digits) ⌝ }
-    ensures { λ r. ⌜ r ≡ controlOf format (now (digits .entry)) ⌝ }
+    ensures { λ r. ⌜ r ≡ controlFrom format (now (digits .entry)) ⌝ }
 {
     let word4 = join(
         digits[CONTROL_4],

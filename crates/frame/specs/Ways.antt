@@ -22,7 +22,7 @@ use Rattle.layout.specs.Tables.{widthsOf}
 use Rattle.layout.specs.Runs.{codeRuns, code-proper}
 use Rattle.elements.specs.Tens.{IsFrame}
 use Rattle.elements.specs.Turns.{runs-narrow, length-runs, length-widths, width-small, small-digit}
-use Rattle.digits.specs.Saying.{meaningOf, meaning-is}
+use Rattle.digits.specs.Meaning.{meaningOf, meaning-is}
 use Rattle.digits.specs.Splitting.{Widths, Digits}
 use Rattle.frame.specs.Offences.{offenceIn, settled, some-offence, offended-refuses, offended-clean, clean-offended}
 use Rattle.frame.specs.declared.Offence.the-variants.{Nothing}

@@ -36,8 +36,8 @@ use Rattle.timecode.specs.Layout.{
   runs,
   timeNumbers,
   numbers,
-  digitsOf,
-  spread,
+  fieldDigits,
+  allDigits,
   Small,
   inRun,
   bitOf,
@@ -108,7 +108,7 @@ number-carried frame (r ∷ rs) b =
     rw (y, digit-none frame r z, radix-one r (b .0) z) (number-carried frame rs (b .1) ∙ sym (zero-add (1 * numberIn frame rs) ∙ one-mul (numberIn frame rs))))
     (λ n. rw n (ap (λ (k : ℕ). digitIn frame r + r .radix * k) (number-carried frame rs (b .1))))
 
-symbol-carried : (fillers : ℕ → ℕ) (rs : Field) (x i : ℕ) → Binary rs → symbolAt fillers (carriedRuns rs) (digitsOf (carriedRuns rs) x) i ≡ symbolAt fillers rs (digitsOf rs x) i
+symbol-carried : (fillers : ℕ → ℕ) (rs : Field) (x i : ℕ) → Binary rs → symbolAt fillers (carriedRuns rs) (fieldDigits (carriedRuns rs) x) i ≡ symbolAt fillers rs (fieldDigits rs x) i
 unfolding symbolAt
 symbol-carried fillers [] x i b = refl
 symbol-carried fillers (r ∷ rs) x i b =
@@ -156,10 +156,10 @@ code-width f = sym (width-carried (codeControl f)) ∙ ap totalWidth (same-carri
 pub code-number : (f : Format) (frame : List ℕ) → numberIn frame (codeControl f) ≡ numberIn frame (control f)
 code-number f frame = sym (number-carried frame (codeControl f) (code-binary f)) ∙ ap (numberIn frame) (same-carried f) ∙ number-carried frame (control f) (control-binary f)
 
-control-symbol : (f : Format) (w i : ℕ) → symbolAt (filler f) (codeControl f) (digitsOf (codeControl f) w) i ≡ symbolAt (filler f) (control f) (digitsOf (control f) w) i
+control-symbol : (f : Format) (w i : ℕ) → symbolAt (filler f) (codeControl f) (fieldDigits (codeControl f) w) i ≡ symbolAt (filler f) (control f) (fieldDigits (control f) w) i
 control-symbol f w i =
     sym (symbol-carried (filler f) (codeControl f) w i (code-binary f))
-    ∙ ap (λ (rs : Field). symbolAt (filler f) rs (digitsOf rs w) i) (same-carried f)
+    ∙ ap (λ (rs : Field). symbolAt (filler f) rs (fieldDigits rs w) i) (same-carried f)
     ∙ symbol-carried (filler f) (control f) w i (control-binary f)
 
 -- ---- behind the same runs
@@ -184,14 +184,14 @@ code-held f i =
     held-front (flatten (timeFields f)) (straightSeconds f ++ (codeControl f ++ [])) (straightSeconds f ++ (control f ++ [])) i
     (held-front (straightSeconds f) (codeControl f ++ []) (control f ++ []) i last)
 
-code-symbol : (f : Format) (t : Time) (w i : ℕ) → symbolAt (filler f) (codeRuns f) (spread (codeFields f) (numbers t w)) i ≡ symbolAt (filler f) (runs f) (spread (fields f) (numbers t w)) i
+code-symbol : (f : Format) (t : Time) (w i : ℕ) → symbolAt (filler f) (codeRuns f) (allDigits (codeFields f) (numbers t w)) i ≡ symbolAt (filler f) (runs f) (allDigits (fields f) (numbers t w)) i
 unfolding codeRuns codeFields runs fields timeFields seconds minutes hours days tenths hundredths straightSeconds numbers timeNumbers
 code-symbol f t w i =
-    let last : symbolAt (filler f) (codeControl f ++ []) (digitsOf (codeControl f) w ++ []) i ≡ symbolAt (filler f) (control f ++ []) (digitsOf (control f) w ++ []) i =
-    rw (append-nil (codeControl f), append-nil (control f), append-nil (digitsOf (codeControl f) w), append-nil (digitsOf (control f) w)) (control-symbol f w i) in
-    symbol-front (filler f) (flatten (timeFields f)) (straightSeconds f ++ (codeControl f ++ [])) (straightSeconds f ++ (control f ++ [])) (spread (timeFields f) (timeNumbers t))
-    (digitsOf (straightSeconds f) (t .hundredths / 100) ++ (digitsOf (codeControl f) w ++ [])) (digitsOf (straightSeconds f) (t .hundredths / 100) ++ (digitsOf (control f) w ++ [])) i refl
-    (symbol-front (filler f) (straightSeconds f) (codeControl f ++ []) (control f ++ []) (digitsOf (straightSeconds f) (t .hundredths / 100)) (digitsOf (codeControl f) w ++ []) (digitsOf (control f) w ++ []) i refl last)
+    let last : symbolAt (filler f) (codeControl f ++ []) (fieldDigits (codeControl f) w ++ []) i ≡ symbolAt (filler f) (control f ++ []) (fieldDigits (control f) w ++ []) i =
+    rw (append-nil (codeControl f), append-nil (control f), append-nil (fieldDigits (codeControl f) w), append-nil (fieldDigits (control f) w)) (control-symbol f w i) in
+    symbol-front (filler f) (flatten (timeFields f)) (straightSeconds f ++ (codeControl f ++ [])) (straightSeconds f ++ (control f ++ [])) (allDigits (timeFields f) (timeNumbers t))
+    (fieldDigits (straightSeconds f) (t .hundredths / 100) ++ (fieldDigits (codeControl f) w ++ [])) (fieldDigits (straightSeconds f) (t .hundredths / 100) ++ (fieldDigits (control f) w ++ [])) i refl
+    (symbol-front (filler f) (straightSeconds f) (codeControl f ++ []) (control f ++ []) (fieldDigits (straightSeconds f) (t .hundredths / 100)) (fieldDigits (codeControl f) w ++ []) (fieldDigits (control f) w ++ []) i refl last)
 
 same-tabulate : (n i : ℕ) (g h : ℕ → ℕ) → ((k : ℕ) → g k ≡ h k) → tabulate n i g ≡ tabulate n i h
 same-tabulate zero i g h e = refl
@@ -199,7 +199,7 @@ same-tabulate (suc n) i g h e = rw (e i) (ap (λ (xs : List ℕ). h i ∷ xs) (s
 
 -- ---- what the code's functions are proved by
 
-pub code-written : (f : Format) (t : Time) (w : ℕ) → encode (size f) (filler f) (codeRuns f) (spread (codeFields f) (numbers t w)) ≡ written f t w
+pub code-written : (f : Format) (t : Time) (w : ℕ) → encode (size f) (filler f) (codeRuns f) (allDigits (codeFields f) (numbers t w)) ≡ written f t w
 unfolding written encode
 code-written f t w = same-tabulate (size f) 0 _ _ (code-symbol f t w)
 
@@ -208,13 +208,13 @@ unfolding checkElements marksAgree elementFits
 code-elements f i [] a = refl
 code-elements f i (s ∷ ss) a = rw (code-held f i, code-elements f (suc i) ss a)
 
-pub code-small : (f : Format) (t : Time) (w : ℕ) → Valid f t w → Small (codeRuns f) (spread (codeFields f) (numbers t w))
+pub code-small : (f : Format) (t : Time) (w : ℕ) → Valid f t w → Small (codeRuns f) (allDigits (codeFields f) (numbers t w))
 unfolding codeRuns codeFields timeFields numbers timeNumbers seconds minutes hours days tenths hundredths
 code-small f t w v =
-    small-append (flatten (timeFields f)) (straightSeconds f ++ (codeControl f ++ [])) (spread (timeFields f) (timeNumbers t)) (digitsOf (straightSeconds f) (t .hundredths / 100) ++ (digitsOf (codeControl f) w ++ []))
+    small-append (flatten (timeFields f)) (straightSeconds f ++ (codeControl f ++ [])) (allDigits (timeFields f) (timeNumbers t)) (fieldDigits (straightSeconds f) (t .hundredths / 100) ++ (fieldDigits (codeControl f) w ++ []))
     (time-small f t (v .format) (v .time))
-    (small-append (straightSeconds f) (codeControl f ++ []) (digitsOf (straightSeconds f) (t .hundredths / 100)) (digitsOf (codeControl f) w ++ []) (binary-small (straightSeconds f) (t .hundredths / 100) (straight-binary f))
-    (small-append (codeControl f) [] (digitsOf (codeControl f) w) [] (binary-small (codeControl f) w (code-binary f)) tt))
+    (small-append (straightSeconds f) (codeControl f ++ []) (fieldDigits (straightSeconds f) (t .hundredths / 100)) (fieldDigits (codeControl f) w ++ []) (binary-small (straightSeconds f) (t .hundredths / 100) (straight-binary f))
+    (small-append (codeControl f) [] (fieldDigits (codeControl f) w) [] (binary-small (codeControl f) w (code-binary f)) tt))
 
 all-proper : everyFormat (λ f. proper (size f) (filler f) (codeRuns f)) ≡ true
 unfolding everyFormat table proper clear size rowOf lookUp filler isMark codeRuns codeFields timeFields seconds minutes hours days tenths hundredths straightSeconds hasSeconds carriesSeconds codeControl codeRange carriesControl

@@ -9,7 +9,7 @@ use lib.Dec.{leb, ltb, eqb}
 use lib.ListN.{getD, length}
 use Rattle.timecode.specs.Answers.{check}
 use Rattle.timecode.specs.Formats.{member, isSymbol, known, size, interval, lastDay, dayLength, onFormat, carriesLeap, secondCarried, OnFormat}
-use Rattle.timecode.specs.Layout.{Run, Field, seconds, minutes, hours, days, tenths, hundredths, hasSeconds, straightSeconds, control, timeFields, fields, flatten, runs, numbers, spread, inRun, filler, encode, digitIn, numberIn}
+use Rattle.timecode.specs.Layout.{Run, Field, seconds, minutes, hours, days, tenths, hundredths, hasSeconds, straightSeconds, control, timeFields, fields, flatten, runs, numbers, allDigits, inRun, filler, encode, digitIn, numberIn}
 use Rattle.timecode.specs.declared.Format.{Format}
 use Rattle.timecode.specs.declared.Reading.{Reading}
 use Rattle.timecode.specs.declared.Reading.the-variants.{Accepted}
@@ -148,7 +148,7 @@ Precedes f t u = (year : ℕ) × (kind : ℕ) × (stepBackOf f u year kind ≡ N
 
 -- the bytes as which a time and a control word are written
 unfoldable pub written : Format → Time → ℕ → List ℕ
-written f t w = encode (size f) (filler f) (runs f) (spread (fields f) (numbers t w))
+written f t w = encode (size f) (filler f) (runs f) (allDigits (fields f) (numbers t w))
 
 -- how many control bits the format carries
 abbrev pub totalWidth : Field → ℕ

@@ -21,12 +21,12 @@ Field = List Run
 -- ---- where the digits and bits of a format stand
 
 -- a decimal digit in the weights 1, 2, 4, 8
-abbrev pub decimal : ℕ → ℕ → Run
-decimal start width = record { start = start; width = width; radix = 10 }
+abbrev pub decimalRun : ℕ → ℕ → Run
+decimalRun start width = record { start = start; width = width; radix = 10 }
 
 -- the same, carried by these letters
 abbrev pub decimalIn : List ℕ → Format → ℕ → ℕ → Run
-decimalIn letters f start width = decimal start (cond (member (f .letter) letters) width 0)
+decimalIn letters f start width = decimalRun start (cond (member (f .letter) letters) width 0)
 
 -- bits of a binary number, where they are carried
 abbrev pub binaryIf : Bool → ℕ → ℕ → Run
@@ -42,11 +42,11 @@ minutes f = decimalIn (A ∷ B ∷ E ∷ G ∷ H ∷ []) f 10 4 ∷ decimalIn (A
 
 -- units 20-23, tens 25-26
 unfoldable pub hours : Format → Field
-hours f = decimal 20 4 ∷ decimal 25 2 ∷ []
+hours f = decimalRun 20 4 ∷ decimalRun 25 2 ∷ []
 
 -- units 30-33, tens 35-38, hundreds 40-41
 unfoldable pub days : Format → Field
-days f = decimal 30 4 ∷ decimal 35 4 ∷ decimal 40 2 ∷ []
+days f = decimalRun 30 4 ∷ decimalRun 35 4 ∷ decimalRun 40 2 ∷ []
 
 -- 45-48 (A, G)
 unfoldable pub tenths : Format → Field
@@ -104,15 +104,15 @@ unfoldable pub numbers : Time → ℕ → List ℕ
 numbers t w = timeNumbers t ++ (t .hundredths / 100 ∷ w ∷ [])
 
 -- the digits of a number in a field, lowest first
-abbrev pub digitsOf : Field → ℕ → List ℕ
-digitsOf [] x = []
-digitsOf (r ∷ rs) x = x % r .radix ∷ digitsOf rs (x / r .radix)
+abbrev pub fieldDigits : Field → ℕ → List ℕ
+fieldDigits [] x = []
+fieldDigits (r ∷ rs) x = x % r .radix ∷ fieldDigits rs (x / r .radix)
 
 -- the digits of all numbers
-abbrev pub spread : List Field → List ℕ → List ℕ
-spread [] xs = []
-spread (d ∷ ds) [] = []
-spread (d ∷ ds) (x ∷ xs) = digitsOf d x ++ spread ds xs
+abbrev pub allDigits : List Field → List ℕ → List ℕ
+allDigits [] xs = []
+allDigits (d ∷ ds) [] = []
+allDigits (d ∷ ds) (x ∷ xs) = fieldDigits d x ++ allDigits ds xs
 
 -- each digit fits the elements of its run
 abbrev pub Small : List Run → List ℕ → Type 0

@@ -3,7 +3,7 @@ use native.Mathlib.Omega.{arith}
 use mathlib.Core.Path.{_≡_, refl, sym, _∙_}
 use Prim.Native.Nat.{_-_, _≤_}
 use borrow.Author.Tests.{le-leb, lt-leb}
-use Rattle.digits.specs.Saying.{digitsFrom, digits-turn, digits-end}
+use Rattle.digits.specs.Meaning.{digitsFrom, digits-turn, digits-end}
 use Rattle.digits.proofs.are_digits.Statement.{statement}
 use Rattle.digits.proofs.are_digits.Tie as tie
 

@@ -1,7 +1,7 @@
 -- `control_in` meets its contract: the digits joined from the highest down.
 use borrow.Author.Needs.{needs}
 use native.Mathlib.Omega.{arith}
-use Rattle.digits.specs.Saying.{controlOf}
+use Rattle.digits.specs.Meaning.{controlFrom}
 use Rattle.digits.proofs.control_in.Statement.{statement}
 use Rattle.digits.proofs.control_in.Tie as tie
 
@@ -45,7 +45,7 @@ join-requires-4 : tie.Need-join-requires-4
 join-requires-4 c κs = (c .before .before .before .before .before .before .before .before .before .before .before .before .before .before .pre .2 .small 13, c .width4 .ensures .1, omega (arith, c .before .before .join3 .ensures .1, c .before .before .before .before .before .join2 .ensures .1, c .before .before .before .before .before .before .before .before .join .ensures .1, c .before .before .before .before .before .before .before .before .before .before .before .before .before .before .pre .2 .small 17))
 
 returns : tie.Need-returns
-unfolding controlOf
+unfolding controlFrom
 returns c = rw (← c .before .before .before .before .before .before .before .before .before .before .before .before .before .before .before .pre .1, c .join4 .ensures .0, c .before .before .before .join3 .ensures .0, c .before .before .before .before .before .before .join2 .ensures .0, c .before .before .before .before .before .before .before .before .before .join .ensures .0, c .before .width4 .ensures .0, c .before .before .before .before .width3 .ensures .0, c .before .before .before .before .before .before .before .width2 .ensures .0, c .before .before .before .before .before .before .before .before .before .before .before .width .ensures .0)
 
 pub control-in-spec : {M : Type 1} → statement M

@@ -1,7 +1,7 @@
 -- `is_time` meets its contract, test by test.
 use borrow.Author.Needs.{needs}
 use borrow.Author.Tests.{le-leb, lt-leb}
-use Rattle.digits.specs.Saying.{isTimeOf}
+use Rattle.digits.specs.Meaning.{isTimeOf}
 use Rattle.digits.proofs.is_time.Statement.{statement}
 use Rattle.digits.proofs.is_time.Tie as tie
 

@@ -3,7 +3,7 @@ use borrow.Author.Needs.{needs}
 use borrow.Author.Tests.{eq-eqb, ne-eqb}
 use mathlib.Core.Path.{sym}
 use Rattle.timecode.specs.Frames.{lastSecond}
-use Rattle.digits.specs.Saying.{other-minute}
+use Rattle.digits.specs.Meaning.{other-minute}
 use Rattle.digits.proofs.last_second.Statement.{statement}
 use Rattle.digits.proofs.last_second.Tie as tie
 

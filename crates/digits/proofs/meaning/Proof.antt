@@ -1,7 +1,7 @@
 -- `meaning` meets its contract: each way out is the definition's.
 use borrow.Author.Needs.{needs}
 use mathlib.Core.Path.{sym, _∙_}
-use Rattle.digits.specs.Saying.{meaningOf, time-bounds}
+use Rattle.digits.specs.Meaning.{meaningOf, time-bounds}
 use Rattle.digits.proofs.meaning.Statement.{statement}
 use Rattle.digits.proofs.meaning.Tie as tie
 

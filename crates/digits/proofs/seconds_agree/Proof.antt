@@ -3,7 +3,7 @@ use borrow.Author.Needs.{needs}
 use native.Mathlib.Omega.{arith}
 use mathlib.Core.Path.{ap, _∙_}
 use Prim.Native.Nat.{_+_, _*_, _/_}
-use Rattle.digits.specs.Saying.{agreeOf, no-width, some-width}
+use Rattle.digits.specs.Meaning.{agreeOf, no-width, some-width}
 use lib.Dec.{eqb}
 use lib.ListN.{getD}
 use Rattle.timecode.specs.declared.Time.{Time}

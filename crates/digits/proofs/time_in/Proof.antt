@@ -1,7 +1,7 @@
 -- `time_in` meets its contract: what is_time let pass fits.
 use borrow.Author.Needs.{needs}
 use native.Mathlib.Omega.{arith}
-use Rattle.digits.specs.Saying.{timeOf}
+use Rattle.digits.specs.Meaning.{timeFrom}
 use Rattle.digits.proofs.time_in.Statement.{statement}
 use Rattle.digits.proofs.time_in.Tie as tie
 
@@ -54,7 +54,7 @@ cast-t19 : tie.Need-cast-t19
 cast-t19 c = let b = c .before .before .before .before .before .before .before .pre .1 in omega (arith, b .hour, b .minute, b .second, b .tenth, b .hundredth, c .before .before .before .before .before .pair .ensures, c .before .before .before .before .pair2 .ensures, c .before .before .before .pair3 .ensures)
 
 returns : tie.Need-returns
-unfolding timeOf
+unfolding timeFrom
 returns c = rw (c .before .before .before .before .before .pair .ensures .0, c .before .before .before .before .pair2 .ensures .0, c .before .before .before .pair3 .ensures .0, c .day-in .ensures)
 
 pub time-in-spec : {M : Type 1} → statement M

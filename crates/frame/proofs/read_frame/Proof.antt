@@ -1,7 +1,7 @@
 -- `read_frame` meets its contract: what offends is refused, else the digits say it.
 use borrow.Author.Needs.{needs}
 use mathlib.Core.Path.{sym, ap, subst, _∙_}
-use Rattle.digits.specs.Saying.{meaningOf}
+use Rattle.digits.specs.Meaning.{meaningOf}
 use Rattle.digits.specs.Splitting.{Digits}
 use Rattle.frame.specs.Offences.{settled}
 use Rattle.frame.specs.Ways.{are-widths, are-digits, read-settled, finds-nothing}

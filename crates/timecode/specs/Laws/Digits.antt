@@ -6,7 +6,7 @@ use native.Mathlib.Nat.{add-mul-div-left, add-mul-mod-self-left, mod-eq-of-lt, d
 use native.Mathlib.Omega.{arith}
 use lib.Arith.{mod-mul, digits-lt}
 use lib.ListN.{length}
-use Rattle.timecode.specs.Layout.{Field, digitsOf, digitIn, numberIn, decode}
+use Rattle.timecode.specs.Layout.{Field, fieldDigits, digitIn, numberIn, decode}
 
 -- the number whose digits these are
 abbrev pub joined : Field → List ℕ → ℕ
@@ -34,11 +34,11 @@ capacity-positive : (d : Field) → Positive d → 0 < capacity d
 capacity-positive [] p = omega arith
 capacity-positive (r ∷ rs) p = mul-pos (p .0) (capacity-positive rs (p .1))
 
-pub digits-below : (d : Field) (x : ℕ) → Positive d → Below d (digitsOf d x)
+pub digits-below : (d : Field) (x : ℕ) → Positive d → Below d (fieldDigits d x)
 digits-below [] x p = tt
 digits-below (r ∷ rs) x p = (mod-lt x (p .0), digits-below rs (x / r .radix) (p .1))
 
-pub digits-of-joined : (d : Field) (xs : List ℕ) → Below d xs → digitsOf d (joined d xs) ≡ xs
+pub digits-of-joined : (d : Field) (xs : List ℕ) → Below d xs → fieldDigits d (joined d xs) ≡ xs
 digits-of-joined [] [] b = refl
 digits-of-joined [] (x ∷ xs) b = absurd b
 digits-of-joined (r ∷ rs) [] b = absurd b
@@ -46,9 +46,9 @@ digits-of-joined (r ∷ rs) (x ∷ xs) b =
     let positive : 0 < r .radix = omega arith in
     let above : (x + r .radix * joined rs xs) / r .radix ≡ joined rs xs =
     add-mul-div-left x (joined rs xs) positive ∙ ap (λ (n : ℕ). n + joined rs xs) (div-eq-of-lt (b .0)) ∙ zero-add (joined rs xs) in
-    ap₂ (λ (y : ℕ) (ys : List ℕ). y ∷ ys) (add-mul-mod-self-left x (r .radix) (joined rs xs) ∙ mod-eq-of-lt (b .0)) (ap (digitsOf rs) above ∙ digits-of-joined rs xs (b .1))
+    ap₂ (λ (y : ℕ) (ys : List ℕ). y ∷ ys) (add-mul-mod-self-left x (r .radix) (joined rs xs) ∙ mod-eq-of-lt (b .0)) (ap (fieldDigits rs) above ∙ digits-of-joined rs xs (b .1))
 
-pub joined-of-digits : (d : Field) (x : ℕ) → Positive d → joined d (digitsOf d x) ≡ x % capacity d
+pub joined-of-digits : (d : Field) (x : ℕ) → Positive d → joined d (fieldDigits d x) ≡ x % capacity d
 joined-of-digits [] x p = sym (mod-one x)
 joined-of-digits (r ∷ rs) x p =
     ap (λ (n : ℕ). x % r .radix + r .radix * n) (joined-of-digits rs (x / r .radix) (p .1))
@@ -66,9 +66,9 @@ joined-lt (r ∷ rs) (x ∷ xs) b =
     omega (arith, mul-comm (joined rs xs) (r .radix), mul-comm (capacity rs) (r .radix))
 
 -- digits that agree with a number as far as they go are its digits
-pub digits-agree : (d : Field) (xs : List ℕ) (x : ℕ) → Positive d → Below d xs → joined d xs ≡ x % capacity d → digitsOf d x ≡ xs
+pub digits-agree : (d : Field) (xs : List ℕ) (x : ℕ) → Positive d → Below d xs → joined d xs ≡ x % capacity d → fieldDigits d x ≡ xs
 digits-agree d xs x p b h =
-    sym (digits-of-joined d (digitsOf d x) (digits-below d x p)) ∙ ap (digitsOf d) (joined-of-digits d x p ∙ sym h) ∙ digits-of-joined d xs b
+    sym (digits-of-joined d (fieldDigits d x) (digits-below d x p)) ∙ ap (fieldDigits d) (joined-of-digits d x p ∙ sym h) ∙ digits-of-joined d xs b
 
 -- ---- the digits that stand in a frame
 
@@ -76,6 +76,6 @@ pub number-joined : (frame : List ℕ) (d : Field) → numberIn frame d ≡ join
 number-joined frame [] = refl
 number-joined frame (r ∷ rs) = ap (λ (n : ℕ). digitIn frame r + r .radix * n) (number-joined frame rs)
 
-pub length-digits : (d : Field) (x : ℕ) → length (digitsOf d x) ≡ length d
+pub length-digits : (d : Field) (x : ℕ) → length (fieldDigits d x) ≡ length d
 length-digits [] x = refl
 length-digits (r ∷ rs) x = ap suc (length-digits rs (x / r .radix))

@@ -13,7 +13,7 @@ use lib.Seq.{take-at, drop-at}
 use Rattle.timecode.specs.Frames.{areDigits, totalWidth}
 use Rattle.timecode.specs.Laws.Digits.{capacity, joined, Below, Positive, digits-of-joined, joined-of-digits, number-joined, length-digits}
 use Rattle.timecode.specs.Laws.Tests.{and-left, and-right}
-use Rattle.timecode.specs.Layout.{Run, Field, flatten, digitsOf, spread, digitIn, numberIn, Small, decode}
+use Rattle.timecode.specs.Layout.{Run, Field, flatten, fieldDigits, allDigits, digitIn, numberIn, Small, decode}
 
 -- P holds of each field and its number
 abbrev pub Each : (Field → ℕ → Type 0) → List Field → List ℕ → Type 0
@@ -37,15 +37,15 @@ apart xs ys us vs l h = (
   sym (drop-at xs ys (length us) l) ∙ ap (drop (length us)) h ∙ drop-at us vs (length us) refl,
 )
 
-pub fields-apart : (frame : List ℕ) (ds : List Field) (xs : List ℕ) → length ds ≡ length xs → decode (flatten ds) frame ≡ spread ds xs → Each (λ d x. decode d frame ≡ digitsOf d x) ds xs
+pub fields-apart : (frame : List ℕ) (ds : List Field) (xs : List ℕ) → length ds ≡ length xs → decode (flatten ds) frame ≡ allDigits ds xs → Each (λ d x. decode d frame ≡ fieldDigits d x) ds xs
 fields-apart frame [] [] l h = tt
 fields-apart frame [] (x ∷ xs) l h = let z : ⊥ = omega arith in absurd z
 fields-apart frame (d ∷ ds) [] l h = let z : ⊥ = omega arith in absurd z
 fields-apart frame (d ∷ ds) (x ∷ xs) l h =
-    let p = apart (decode d frame) (decode (flatten ds) frame) (digitsOf d x) (spread ds xs) (length-decode frame d ∙ sym (length-digits d x)) (sym (decode-append frame d (flatten ds)) ∙ h) in
+    let p = apart (decode d frame) (decode (flatten ds) frame) (fieldDigits d x) (allDigits ds xs) (length-decode frame d ∙ sym (length-digits d x)) (sym (decode-append frame d (flatten ds)) ∙ h) in
     (p .0, fields-apart frame ds xs (omega arith) (p .1))
 
-pub fields-together : (frame : List ℕ) (ds : List Field) (xs : List ℕ) → Each (λ d x. digitsOf d x ≡ decode d frame) ds xs → spread ds xs ≡ decode (flatten ds) frame
+pub fields-together : (frame : List ℕ) (ds : List Field) (xs : List ℕ) → Each (λ d x. fieldDigits d x ≡ decode d frame) ds xs → allDigits ds xs ≡ decode (flatten ds) frame
 fields-together frame [] [] e = refl
 fields-together frame [] (x ∷ xs) e = absurd e
 fields-together frame (d ∷ ds) [] e = absurd e
@@ -54,12 +54,12 @@ fields-together frame (d ∷ ds) (x ∷ xs) e = ap₂ (λ (ys zs : List ℕ). ys
 -- ---- the number in a field
 
 -- a field whose digits are those of x holds x, as far as it has digits
-pub number-back : (frame : List ℕ) (d : Field) (x : ℕ) → Positive d → x < capacity d → decode d frame ≡ digitsOf d x → numberIn frame d ≡ x
+pub number-back : (frame : List ℕ) (d : Field) (x : ℕ) → Positive d → x < capacity d → decode d frame ≡ fieldDigits d x → numberIn frame d ≡ x
 number-back frame d x p l h = number-joined frame d ∙ ap (joined d) h ∙ joined-of-digits d x p ∙ mod-eq-of-lt l
 
 -- a field whose digits are below their radices has the digits of the number in it
-pub digits-back : (frame : List ℕ) (d : Field) → Below d (decode d frame) → digitsOf d (numberIn frame d) ≡ decode d frame
-digits-back frame d b = ap (digitsOf d) (number-joined frame d) ∙ digits-of-joined d (decode d frame) b
+pub digits-back : (frame : List ℕ) (d : Field) → Below d (decode d frame) → fieldDigits d (numberIn frame d) ≡ decode d frame
+digits-back frame d b = ap (fieldDigits d) (number-joined frame d) ∙ digits-of-joined d (decode d frame) b
 
 -- ---- decimal fields
 
@@ -89,7 +89,7 @@ pub binary-capacity : (d : Field) → Binary d → capacity d ≡ 2 ^ totalWidth
 binary-capacity [] b = refl
 binary-capacity (r ∷ rs) b = ap₂ (λ (m n : ℕ). m * n) (b .0) (binary-capacity rs (b .1)) ∙ sym (pow-add 2 (r .width) (totalWidth rs))
 
-pub binary-small : (d : Field) (x : ℕ) → Binary d → Small d (digitsOf d x)
+pub binary-small : (d : Field) (x : ℕ) → Binary d → Small d (fieldDigits d x)
 binary-small [] x b = tt
 binary-small (r ∷ rs) x b =
     let p = binary-positive (r ∷ rs) b in

@@ -14,7 +14,7 @@ use Rattle.timecode.specs.Laws.Marks.{size-positive, at-written, mark-on
 use Rattle.timecode.specs.Laws.Stepping.{step-on-format}
 use Rattle.timecode.specs.Laws.Table.{two-sizes}
 use Rattle.timecode.specs.Laws.Writing.{length-written, symbol-small, written-is-accepted, taken}
-use Rattle.timecode.specs.Layout.{fields, runs, numbers, spread}
+use Rattle.timecode.specs.Layout.{fields, runs, numbers, allDigits}
 use Rattle.timecode.specs.declared.Format.{Format}
 use Rattle.timecode.specs.declared.Reading.the-variants.{Accepted}
 
@@ -77,7 +77,7 @@ element-small f sent k = go (decLt k (length (elements f sent)))
         let p = standing f sent k a in
         let s = sentAt sent (k / size f) in
         let y = at-written f (s .time) (s .control) (k % size f) (p .index) in
-        omega (arith, p .is, y, symbol-small f (runs f) (spread (fields f) (numbers (s .time) (s .control))) (k % size f))
+        omega (arith, p .is, y, symbol-small f (runs f) (allDigits (fields f) (numbers (s .time) (s .control))) (k % size f))
 
 -- ---- marks
 

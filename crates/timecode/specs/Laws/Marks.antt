@@ -15,7 +15,7 @@ use Rattle.timecode.specs.Laws.Runs.{getD-encode, covered-inside, small-
 use Rattle.timecode.specs.Laws.Table.{two-sizes, layout-proper}
 use Rattle.timecode.specs.Laws.Tests.{by-test, clash, or-other}
 use Rattle.timecode.specs.Laws.Writing.{length-written, written-small}
-use Rattle.timecode.specs.Layout.{fields, runs, numbers, spread, isMark, filler, symbolAt}
+use Rattle.timecode.specs.Layout.{fields, runs, numbers, allDigits, isMark, filler, symbolAt}
 use Rattle.timecode.specs.declared.Format.{Format}
 use Rattle.timecode.specs.declared.Reading.the-variants.{Accepted}
 use Rattle.timecode.specs.declared.Time.{Time}
@@ -27,9 +27,9 @@ pub size-large : (f : Format) → 1 < size f
 size-large f = two-sizes (λ n. 1 < n) (omega arith) (omega arith) f
 
 -- an element of a written frame
-pub at-written : (f : Format) (t : Time) (w i : ℕ) → i < size f → getD (written f t w) i 0 ≡ symbolAt (filler f) (runs f) (spread (fields f) (numbers t w)) i
+pub at-written : (f : Format) (t : Time) (w i : ℕ) → i < size f → getD (written f t w) i 0 ≡ symbolAt (filler f) (runs f) (allDigits (fields f) (numbers t w)) i
 unfolding written
-at-written f t w i h = getD-encode (size f) (filler f) (runs f) (spread (fields f) (numbers t w)) i h
+at-written f t w i h = getD-encode (size f) (filler f) (runs f) (allDigits (fields f) (numbers t w)) i h
 
 filler-mark : (f : Format) (i : ℕ) → isMark i ≡ true → filler f i ≡ 2
 unfolding filler
@@ -41,7 +41,7 @@ mark-filler f i h = by-test (isMark i) (λ y. y) (λ m. let z : _≡_ {A = ℕ} 
 
 pub mark-there : (f : Format) (t : Time) (w : ℕ) → Valid f t w → (i : ℕ) → i < size f → isMark i ≡ true → getD (written f t w) i 0 ≡ 2
 mark-there f t w v i h m =
-    let xs = spread (fields f) (numbers t w) in
+    let xs = allDigits (fields f) (numbers t w) in
     at-written f t w i h
     ∙ by-test (covered (runs f) i)
     (λ y. clash (eq-eqb (filler f i) 2 (filler-mark f i m)) (covered-inside (size f) (filler f) (runs f) (layout-proper f (v .format)) i y .1))
@@ -49,7 +49,7 @@ mark-there f t w v i h m =
 
 pub mark-only : (f : Format) (t : Time) (w : ℕ) → Valid f t w → (i : ℕ) → i < size f → getD (written f t w) i 0 ≡ 2 → isMark i ≡ true
 mark-only f t w v i h k =
-    let xs = spread (fields f) (numbers t w) in
+    let xs = allDigits (fields f) (numbers t w) in
     let s : symbolAt (filler f) (runs f) xs i ≡ 2 = sym (at-written f t w i h) ∙ k in
     by-test (covered (runs f) i)
     (λ y. let n : ⊥ = omega (arith, s, symbol-covered (size f) (filler f) (runs f) xs (small-length (runs f) xs (written-small f t w v)) i y) in absurd n)

@@ -19,7 +19,7 @@ use Rattle.timecode.specs.Laws.Runs.{Clean, fits-agree, clean-bits, enco
 use Rattle.timecode.specs.Laws.Table.{layout-proper}
 use Rattle.timecode.specs.Laws.Tests.{by-test, clash, and-left, and-right}
 use Rattle.timecode.specs.Laws.Times.{none-added, one-added, time-grid}
-use Rattle.timecode.specs.Layout.{Run, binaryIf, seconds, minutes, hours, days, tenths, hundredths, hasSeconds, straightSeconds, control, timeFields, fields, flatten, runs, second, minute, hour, timeNumbers, numbers, digitsOf, spread, filler, encode, numberIn, Small, decode}
+use Rattle.timecode.specs.Layout.{Run, binaryIf, seconds, minutes, hours, days, tenths, hundredths, hasSeconds, straightSeconds, control, timeFields, fields, flatten, runs, second, minute, hour, timeNumbers, numbers, fieldDigits, allDigits, filler, encode, numberIn, Small, decode}
 use Rattle.timecode.specs.declared.Format.{Format}
 use Rattle.timecode.specs.declared.Reading.{Reading}
 use Rattle.timecode.specs.declared.Reading.the-variants.{Accepted}
@@ -170,23 +170,23 @@ module _ (f : Format) (frame : List ℕ) (k : known f ≡ true) (n : length fram
   abbrev read-control : ℕ
   read-control = numberIn frame (control f)
 
-  digits-same : spread (fields f) (numbers read-time read-control) ≡ decode (runs f) frame
+  digits-same : allDigits (fields f) (numbers read-time read-control) ≡ decode (runs f) frame
   unfolding runs fields timeFields numbers timeNumbers timeIn seconds minutes hours days tenths hundredths
   digits-same =
       let c =
       clock f (numberIn frame (hours f)) (numberIn frame (minutes f)) (numberIn frame (seconds f)) (numberIn frame (tenths f)) (numberIn frame (hundredths f)) (read-time .hundredths) (time .hour-is) (time .minute-is) (omega (arith, time .digits)) (omega (arith, time .digits)) refl (time .second-is) in
       fields-together frame (fields f) (numbers read-time read-control) (
-        ap (digitsOf (seconds f)) (c .0) ∙ digits-back frame (seconds f) (omega (arith, time .digits)),
+        ap (fieldDigits (seconds f)) (c .0) ∙ digits-back frame (seconds f) (omega (arith, time .digits)),
         (
-          ap (digitsOf (minutes f)) (c .1) ∙ digits-back frame (minutes f) (omega (arith, time .digits)),
+          ap (fieldDigits (minutes f)) (c .1) ∙ digits-back frame (minutes f) (omega (arith, time .digits)),
           (
-            ap (digitsOf (hours f)) (c .2) ∙ digits-back frame (hours f) (omega (arith, time .digits)),
+            ap (fieldDigits (hours f)) (c .2) ∙ digits-back frame (hours f) (omega (arith, time .digits)),
             (
               digits-back frame (days f) (omega (arith, time .digits)),
               (
-                ap (digitsOf (tenths f)) (c .3) ∙ digits-back frame (tenths f) (omega (arith, time .digits)),
+                ap (fieldDigits (tenths f)) (c .3) ∙ digits-back frame (tenths f) (omega (arith, time .digits)),
                 (
-                  ap (digitsOf (hundredths f)) (c .4) ∙ digits-back frame (hundredths f) (omega (arith, time .digits)),
+                  ap (fieldDigits (hundredths f)) (c .4) ∙ digits-back frame (hundredths f) (omega (arith, time .digits)),
                   (
                     digits-agree (straightSeconds f) (decode (straightSeconds f) frame) (read-time .hundredths / 100) (binary-positive (straightSeconds f) (straight-binary f)) straight-below straight-agrees,
                     (digits-back frame (control f) control-below, tt),

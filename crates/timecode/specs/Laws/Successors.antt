@@ -16,7 +16,7 @@ use Rattle.timecode.specs.Laws.Places.{distinct, spared}
 use Rattle.timecode.specs.Laws.Stepping.{time-path, every, one-of, went, Alike, two-that-follow}
 use Rattle.timecode.specs.Laws.Table.{everyFormat, of-every}
 use Rattle.timecode.specs.Laws.Tests.{and-left, and-right}
-use Rattle.timecode.specs.Layout.{seconds, minutes, hours, days, tenths, hundredths, hasSeconds, straightSeconds, control, timeFields, fields, runs, timeNumbers, numbers, spread, isMark, filler, symbolAt}
+use Rattle.timecode.specs.Layout.{seconds, minutes, hours, days, tenths, hundredths, hasSeconds, straightSeconds, control, timeFields, fields, runs, timeNumbers, numbers, allDigits, isMark, filler, symbolAt}
 use Rattle.timecode.specs.declared.Format.{Format}
 use Rattle.timecode.specs.declared.Time.{Time}
 
@@ -24,22 +24,22 @@ use Rattle.timecode.specs.declared.Time.{Time}
 abbrev differ : Format → Time → ℕ → Time → ℕ → List ℕ → Bool
 differ f u a v b [] = true
 differ f u a v b (p ∷ ps) =
-    (ltb p (size f) && not (eqb (symbolAt (filler f) (runs f) (spread (fields f) (numbers u a)) p) (symbolAt (filler f) (runs f) (spread (fields f) (numbers v b)) p)))
+    (ltb p (size f) && not (eqb (symbolAt (filler f) (runs f) (allDigits (fields f) (numbers u a)) p) (symbolAt (filler f) (runs f) (allDigits (fields f) (numbers v b)) p)))
     && differ f u a v b ps
 
 differ-at : (f : Format) (u : Time) (a : ℕ) (v : Time) (b : ℕ) (ps : List ℕ) → differ f u a v b ps ≡ true → (j : ℕ) → j < length ps
     → (getD ps j 0 < size f) × (getD (written f u a) (getD ps j 0) 0 ≡ getD (written f v b) (getD ps j 0) 0 → ⊥)
 differ-at f u a v b [] d j h = absurd (not-suc-le-zero h)
 differ-at f u a v b (p ∷ ps) d zero h =
-    let x = symbolAt (filler f) (runs f) (spread (fields f) (numbers u a)) p in
-    let y = symbolAt (filler f) (runs f) (spread (fields f) (numbers v b)) p in
+    let x = symbolAt (filler f) (runs f) (allDigits (fields f) (numbers u a)) p in
+    let y = symbolAt (filler f) (runs f) (allDigits (fields f) (numbers v b)) p in
     let here = and-left (ltb p (size f) && not (eqb x y)) (differ f u a v b ps) d in
     let inside = ltb-true p (size f) (and-left (ltb p (size f)) (not (eqb x y)) here) in
     let other = eqb-false x y (not-true (eqb x y) (and-right (ltb p (size f)) (not (eqb x y)) here)) in
     (inside, λ q. other (sym (at-written f u a p inside) ∙ q ∙ at-written f v b p inside))
 differ-at f u a v b (p ∷ ps) d (suc j) h =
-    let x = symbolAt (filler f) (runs f) (spread (fields f) (numbers u a)) p in
-    let y = symbolAt (filler f) (runs f) (spread (fields f) (numbers v b)) p in
+    let x = symbolAt (filler f) (runs f) (allDigits (fields f) (numbers u a)) p in
+    let y = symbolAt (filler f) (runs f) (allDigits (fields f) (numbers v b)) p in
     differ-at f u a v b ps (and-right (ltb p (size f) && not (eqb x y)) (differ f u a v b ps) d) j (omega arith)
 
 -- day 1 and day 366 differ in seven elements of the days

@@ -10,7 +10,7 @@ use Rattle.timecode.specs.Formats.{table, lookUp, rowOf, known, interval
 use Rattle.timecode.specs.Frames.{timeIn}
 use Rattle.timecode.specs.Laws.Table.{by-letter}
 use Rattle.timecode.specs.Laws.Tests.{by-test, and-left, and-right}
-use Rattle.timecode.specs.Layout.{seconds, minutes, hours, days, tenths, hundredths, timeFields, flatten, addedIn, second, minute, hour, timeNumbers, spread, Small, decode}
+use Rattle.timecode.specs.Layout.{seconds, minutes, hours, days, tenths, hundredths, timeFields, flatten, addedIn, second, minute, hour, timeNumbers, allDigits, Small, decode}
 use Rattle.timecode.specs.declared.Format.{Format}
 use Rattle.timecode.specs.declared.Time.{Time}
 
@@ -54,7 +54,7 @@ one-added c a b =
     rw (z, q) (refl, refl, refl)
 
 abbrev Fits : ℕ → Type 0
-Fits l = (e : ℕ) (t : Time) → OnFormat (at l e) t → Small (flatten (timeFields (at l e))) (spread (timeFields (at l e)) (timeNumbers t))
+Fits l = (e : ℕ) (t : Time) → OnFormat (at l e) t → Small (flatten (timeFields (at l e))) (allDigits (timeFields (at l e)) (timeNumbers t))
 
 fits : (f : Format) → known f ≡ true → Fits (f .letter)
 unfolding timeFields seconds minutes hours days tenths hundredths timeNumbers interval rowOf lookUp table carriesLeap
@@ -66,7 +66,7 @@ fits =
     (λ e t o. rw (none-added (t .hundredths) (o .carried refl) .0, none-added (t .hundredths) (o .carried refl) .1, none-added (t .hundredths) (o .carried refl) .2) (omega arith))
 
 -- the digits of a time on the format fit their runs
-pub time-small : (f : Format) (t : Time) → known f ≡ true → OnFormat f t → Small (flatten (timeFields f)) (spread (timeFields f) (timeNumbers t))
+pub time-small : (f : Format) (t : Time) → known f ≡ true → OnFormat f t → Small (flatten (timeFields f)) (allDigits (timeFields f) (timeNumbers t))
 time-small f t k o = fits f k (f .expression) t o
 
 abbrev Grid : ℕ → Type 0

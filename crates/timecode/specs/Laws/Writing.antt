@@ -18,7 +18,7 @@ use Rattle.timecode.specs.Laws.Runs.{length-encode, small-length, small-
 use Rattle.timecode.specs.Laws.Table.{layout-proper}
 use Rattle.timecode.specs.Laws.Tests.{by-test}
 use Rattle.timecode.specs.Laws.Times.{on-format, is-on-format, is-carried, one-added, time-small}
-use Rattle.timecode.specs.Layout.{Run, seconds, minutes, hours, days, tenths, hundredths, hasSeconds, straightSeconds, control, timeFields, fields, flatten, runs, second, minute, hour, timeNumbers, numbers, digitsOf, spread, inRun, isMark, filler, symbolAt, tabulate, encode, numberIn, Small, decode}
+use Rattle.timecode.specs.Layout.{Run, seconds, minutes, hours, days, tenths, hundredths, hasSeconds, straightSeconds, control, timeFields, fields, flatten, runs, second, minute, hour, timeNumbers, numbers, fieldDigits, allDigits, inRun, isMark, filler, symbolAt, tabulate, encode, numberIn, Small, decode}
 use Rattle.timecode.specs.declared.Format.{Format}
 use Rattle.timecode.specs.declared.Reading.{Reading}
 use Rattle.timecode.specs.declared.Reading.the-variants.{Accepted}
@@ -45,13 +45,13 @@ symbols-tabulate (suc n) i g h = rw (le-leb (g i) 3 (h i)) (symbols-tabulate n (
 
 pub length-written : (f : Format) (t : Time) (w : ℕ) → length (written f t w) ≡ size f
 unfolding written
-length-written f t w = length-encode (size f) (filler f) (runs f) (spread (fields f) (numbers t w))
+length-written f t w = length-encode (size f) (filler f) (runs f) (allDigits (fields f) (numbers t w))
 
 pub written-symbols : (f : Format) (t : Time) (w : ℕ) → areSymbols (written f t w) ≡ true
 unfolding written encode
-written-symbols f t w = symbols-tabulate (size f) 0 (symbolAt (filler f) (runs f) (spread (fields f) (numbers t w))) (symbol-small f (runs f) (spread (fields f) (numbers t w)))
+written-symbols f t w = symbols-tabulate (size f) 0 (symbolAt (filler f) (runs f) (allDigits (fields f) (numbers t w))) (symbol-small f (runs f) (allDigits (fields f) (numbers t w)))
 
-time-digits : (f : Format) (t : Time) → AreDigits (spread (timeFields f) (timeNumbers t))
+time-digits : (f : Format) (t : Time) → AreDigits (allDigits (timeFields f) (timeNumbers t))
 unfolding timeFields timeNumbers seconds minutes hours days tenths hundredths
 time-digits f t = omega arith
 
@@ -75,17 +75,17 @@ module _ (f : Format) (t : Time) (w : ℕ) (v : Valid f t w) where
   abbrev frame : List ℕ
   frame = written f t w
 
-  pub written-small : Small (runs f) (spread (fields f) (numbers t w))
+  pub written-small : Small (runs f) (allDigits (fields f) (numbers t w))
   unfolding runs fields timeFields numbers timeNumbers seconds minutes hours days tenths hundredths
   written-small =
-      small-append (flatten (timeFields f)) (straightSeconds f ++ (control f ++ [])) (spread (timeFields f) (timeNumbers t)) (digitsOf (straightSeconds f) (t .hundredths / 100) ++ (digitsOf (control f) w ++ []))
+      small-append (flatten (timeFields f)) (straightSeconds f ++ (control f ++ [])) (allDigits (timeFields f) (timeNumbers t)) (fieldDigits (straightSeconds f) (t .hundredths / 100) ++ (fieldDigits (control f) w ++ []))
       (time-small f t (v .format) (v .time))
-      (small-append (straightSeconds f) (control f ++ []) (digitsOf (straightSeconds f) (t .hundredths / 100)) (digitsOf (control f) w ++ []) (binary-small (straightSeconds f) (t .hundredths / 100) (straight-binary f))
-      (small-append (control f) [] (digitsOf (control f) w) [] (binary-small (control f) w (control-binary f)) tt))
+      (small-append (straightSeconds f) (control f ++ []) (fieldDigits (straightSeconds f) (t .hundredths / 100)) (fieldDigits (control f) w ++ []) (binary-small (straightSeconds f) (t .hundredths / 100) (straight-binary f))
+      (small-append (control f) [] (fieldDigits (control f) w) [] (binary-small (control f) w (control-binary f)) tt))
 
-  decoded : Each (λ d x. decode d frame ≡ digitsOf d x) (fields f) (numbers t w)
+  decoded : Each (λ d x. decode d frame ≡ fieldDigits d x) (fields f) (numbers t w)
   unfolding written fields timeFields numbers timeNumbers runs
-  decoded = fields-apart frame (fields f) (numbers t w) refl (decode-encode (size f) (filler f) (runs f) (spread (fields f) (numbers t w)) (layout-proper f (v .format)) written-small)
+  decoded = fields-apart frame (fields f) (numbers t w) refl (decode-encode (size f) (filler f) (runs f) (allDigits (fields f) (numbers t w)) (layout-proper f (v .format)) written-small)
 
   second-back : numberIn frame (seconds f) ≡ second (t .hundredths)
   unfolding fields timeFields numbers timeNumbers seconds
@@ -128,7 +128,7 @@ module _ (f : Format) (t : Time) (w : ℕ) (v : Valid f t w) where
       clock-back : ((numberIn frame (hours f) * 60 + numberIn frame (minutes f)) * 60 + numberIn frame (seconds f)) * 100 + numberIn frame (tenths f) * 10 + numberIn frame (hundredths f) ≡ t .hundredths
       clock-back = rw (hour-back, minute-back, second-back, tenth-back, hundredth-back) (omega (arith, v .time .below))
 
-  time-decoded : spread (timeFields f) (timeNumbers t) ≡ decode (flatten (timeFields f)) frame
+  time-decoded : allDigits (timeFields f) (timeNumbers t) ≡ decode (flatten (timeFields f)) frame
   unfolding fields timeFields numbers timeNumbers
   time-decoded =
       fields-together frame (timeFields f) (timeNumbers t)
@@ -166,7 +166,7 @@ module _ (f : Format) (t : Time) (w : ℕ) (v : Valid f t w) where
       passes Reading.Refused UnknownFormat (known f) _ (v .format)
       ∙ passes Reading.Refused WrongLength (eqb (length frame) (size f)) _ (eq-eqb (length frame) (size f) (length-written f t w))
       ∙ passes Reading.Refused UnknownSymbol (areSymbols frame) _ (written-symbols f t w)
-      ∙ elements-pass (filler f) (runs f) frame 0 _ (λ i h. rw (zero-add i) (encode-clean (size f) (filler f) (runs f) (spread (fields f) (numbers t w)) (small-length (runs f) (spread (fields f) (numbers t w)) written-small) i (rw (length-written f t w) at h)))
+      ∙ elements-pass (filler f) (runs f) frame 0 _ (λ i h. rw (zero-add i) (encode-clean (size f) (filler f) (runs f) (allDigits (fields f) (numbers t w)) (small-length (runs f) (allDigits (fields f) (numbers t w)) written-small) i (rw (length-written f t w) at h)))
       ∙ passes Reading.Refused InvalidDigit (isTime f frame) _ time-said
       ∙ passes Reading.Refused SecondsDiffer (secondsAgree f frame) _ seconds-said
       ∙ ap₂ Accepted time-back control-back

@@ -27,8 +27,8 @@ use Rattle.digits.specs.Splitting.{straight-width}
 abbrev pub two : List ℕ → ℕ → ℕ
 two ds j = getD ds j 0 + 10 * getD ds (j + 1) 0
 
-abbrev pub dayOf : List ℕ → ℕ
-dayOf ds = getD ds 6 0 + 10 * (getD ds 7 0 + 10 * getD ds 8 0)
+abbrev pub dayFrom : List ℕ → ℕ
+dayFrom ds = getD ds 6 0 + 10 * (getD ds 7 0 + 10 * getD ds 8 0)
 
 -- the n digits from j on are at most 9
 unfoldable pub digitsFrom : ℕ → ℕ → List ℕ → Bool
@@ -36,20 +36,20 @@ digitsFrom zero j ds = true
 digitsFrom (suc n) j ds = leb (getD ds j 0) 9 && digitsFrom n (suc j) ds
 
 unfoldable pub isTimeOf : Format → List ℕ → Bool
-isTimeOf f ds = digitsFrom 11 0 ds && (leb (two ds 4) 23 && (leb (two ds 2) 59 && (leb (two ds 0) (lastSecond f (two ds 4) (two ds 2)) && (leb 1 (dayOf ds) && leb (dayOf ds) 366))))
+isTimeOf f ds = digitsFrom 11 0 ds && (leb (two ds 4) 23 && (leb (two ds 2) 59 && (leb (two ds 0) (lastSecond f (two ds 4) (two ds 2)) && (leb 1 (dayFrom ds) && leb (dayFrom ds) 366))))
 
-unfoldable pub timeOf : List ℕ → Time
-timeOf ds = record { day = dayOf ds; hundredths = ((two ds 4 * 60 + two ds 2) * 60 + two ds 0) * 100 + getD ds 9 0 * 10 + getD ds 10 0 }
+unfoldable pub timeFrom : List ℕ → Time
+timeFrom ds = record { day = dayFrom ds; hundredths = ((two ds 4 * 60 + two ds 2) * 60 + two ds 0) * 100 + getD ds 9 0 * 10 + getD ds 10 0 }
 
 unfoldable pub agreeOf : Format → List ℕ → Bool
-agreeOf f ds = cond (hasSeconds f) (eqb (getD ds 11 0 + 512 * getD ds 12 0) (timeOf ds .hundredths / 100)) true
+agreeOf f ds = cond (hasSeconds f) (eqb (getD ds 11 0 + 512 * getD ds 12 0) (timeFrom ds .hundredths / 100)) true
 
-unfoldable pub controlOf : Format → List ℕ → ℕ
-controlOf f ds =
+unfoldable pub controlFrom : Format → List ℕ → ℕ
+controlFrom f ds =
     getD ds 13 0 + 2 ^ getD (widthsOf f) 13 0 * (getD ds 14 0 + 2 ^ getD (widthsOf f) 14 0 * (getD ds 15 0 + 2 ^ getD (widthsOf f) 15 0 * (getD ds 16 0 + 2 ^ getD (widthsOf f) 16 0 * getD ds 17 0)))
 
 unfoldable pub meaningOf : Format → List ℕ → Reading
-meaningOf f ds = check Reading.Refused InvalidDigit (isTimeOf f ds) (check Reading.Refused SecondsDiffer (agreeOf f ds) (Accepted (timeOf ds) (controlOf f ds)))
+meaningOf f ds = check Reading.Refused InvalidDigit (isTimeOf f ds) (check Reading.Refused SecondsDiffer (agreeOf f ds) (Accepted (timeFrom ds) (controlFrom f ds)))
 
 -- ---- a frame's digits say what the frame says
 
@@ -69,7 +69,7 @@ module _ (f : Format) (frame : List ℕ) where
   unfolding codeRuns codeFields timeFields seconds minutes hours days tenths hundredths straightSeconds codeControl
   hour-is = omega arith
 
-  day-is : dayOf ds ≡ numberIn frame (days f)
+  day-is : dayFrom ds ≡ numberIn frame (days f)
   unfolding codeRuns codeFields timeFields seconds minutes hours days tenths hundredths straightSeconds codeControl
   day-is = omega arith
 
@@ -85,8 +85,8 @@ module _ (f : Format) (frame : List ℕ) where
   unfolding digitsFrom codeRuns codeFields timeFields seconds minutes hours days tenths hundredths straightSeconds codeControl
   digits-are = refl
 
-  control-code : controlOf f ds ≡ numberIn frame (codeControl f)
-  unfolding controlOf widthsOf codeRuns codeFields timeFields seconds minutes hours days tenths hundredths straightSeconds codeControl codeRange
+  control-code : controlFrom f ds ≡ numberIn frame (codeControl f)
+  unfolding controlFrom widthsOf codeRuns codeFields timeFields seconds minutes hours days tenths hundredths straightSeconds codeControl codeRange
   control-code =
       ap
       (λ (n : ℕ).
@@ -97,15 +97,15 @@ module _ (f : Format) (frame : List ℕ) where
       last : (x r : ℕ) → x ≡ x + r * 0
       last x r = omega arith
 
-  control-is : controlOf f ds ≡ numberIn frame (control f)
+  control-is : controlFrom f ds ≡ numberIn frame (control f)
   control-is = control-code ∙ code-number f frame
 
   straight-is : hasSeconds f ≡ true → getD ds 11 0 + 512 * getD ds 12 0 ≡ numberIn frame (straightSeconds f)
   unfolding codeRuns codeFields timeFields seconds minutes hours days tenths hundredths straightSeconds codeControl
   straight-is y = rw y (omega arith)
 
-  time-is : timeOf ds ≡ timeIn f frame
-  unfolding timeOf timeIn
+  time-is : timeFrom ds ≡ timeIn f frame
+  unfolding timeFrom timeIn
   time-is =
       λ i.
       record {
@@ -141,7 +141,7 @@ pub record Bounds (ds : List ℕ) : Type 0 where
   pub hour : two ds 4 ≤ 23
   pub minute : two ds 2 ≤ 59
   pub second : two ds 0 ≤ 60
-  pub day : dayOf ds ≤ 366
+  pub day : dayFrom ds ≤ 366
   pub tenth : getD ds 9 0 ≤ 9
   pub hundredth : getD ds 10 0 ≤ 9
 
@@ -167,8 +167,8 @@ time-bounds f ds h =
     let M = leb (two ds 2) 59 in
     let last = lastSecond f (two ds 4) (two ds 2) in
     let S = leb (two ds 0) last in
-    let F = leb 1 (dayOf ds) in
-    let L = leb (dayOf ds) 366 in
+    let F = leb 1 (dayFrom ds) in
+    let L = leb (dayFrom ds) 366 in
     let a = and-right (digitsFrom 11 0 ds) (H && (M && (S && (F && L)))) h in
     let b = and-right H (M && (S && (F && L))) a in
     let c = and-right M (S && (F && L)) b in
@@ -177,7 +177,7 @@ time-bounds f ds h =
       hour = leb-true (two ds 4) 23 (and-left H (M && (S && (F && L))) a);
       minute = leb-true (two ds 2) 59 (and-left M (S && (F && L)) b);
       second = omega (arith, leb-true (two ds 0) last (and-left S (F && L) c), last-second-60 f (two ds 4) (two ds 2));
-      day = leb-true (dayOf ds) 366 (and-right F L (and-right S (F && L) c));
+      day = leb-true (dayFrom ds) 366 (and-right F L (and-right S (F && L) c));
       tenth = digits 9 (omega arith);
       hundredth = digits 10 (omega arith);
     }
