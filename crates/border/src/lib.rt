@@ -142,7 +142,7 @@ pub fn put_stepped(stepped: Stepped, to_day: &mut u16, to_hundredths: &mut u32) 
     ensures { λ _. ⌜ pos (now («to_day» .exit)) ∷ pos (now («to_hundredths» .exit)) ∷ [] ≡ valuesLeft (steppedResult stepped) (pos (now («to_day» .entry)) ∷ pos (now («to_hundredths» .entry)) ∷ []) ⌝ }
 {
     match stepped {
-        Stepped::Next(time) => {
+        Stepped::To(time) => {
             *to_day = time.day;
             *to_hundredths = time.hundredths;
             0

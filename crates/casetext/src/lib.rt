@@ -257,7 +257,7 @@ fn elements_in(line: &[u8], word: usize, frame: &mut [u8; 512]) -> usize {
 
 fn put_stepped(text: &mut [u8; 4096], stepped: Stepped) -> usize {
     match stepped {
-        Stepped::Next(time) => put_time(text, 0, time),
+        Stepped::To(time) => put_time(text, 0, time),
         Stepped::Refused(refusal) => put_refusal(text, 0, refusal),
     }
 }

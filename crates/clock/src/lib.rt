@@ -6,9 +6,9 @@ ghost use lib.IntN.{pos, _-ℤ_};
 ghost use Rattle.timecode.specs.Answers.{check};
 ghost use Rattle.timecode.specs.Calls.{differenceOf};
 ghost use Rattle.timecode.specs.Formats.{known, inRange, onFormat, secondCarried};
-ghost use Rattle.timecode.specs.Frames.{inYear, kinds, dayEnd, onDay, following, checkStep, stepOf, sameTime, gives, any, nextAfter, preceding, stepBackOf};
+ghost use Rattle.timecode.specs.Frames.{inYear, kinds, dayEnd, onDay, following, checkStep, stepOf, sameTime, stepsTo, any, nextAfter, preceding, stepBackOf};
 ghost use Rattle.timecode.specs.declared.Refusal.the-variants.{InvalidYearLength, InvalidKind};
-ghost use Rattle.timecode.specs.declared.Stepped.the-variants.{Next, Refused};
+ghost use Rattle.timecode.specs.declared.Stepped.the-variants.{To, Refused};
 use layout::carries_leap;
 use layout::frame_interval;
 use layout::is_known;
@@ -137,11 +137,11 @@ fn earlier(format: Format, time: Time, year: u16, kind: u8) -> Time
 
 // The time itself, where the year and the day's kind are right for it.
 fn check_day(format: Format, time: Time, year: u16, kind: u8) -> Stepped
-    ensures { λ r. ⌜ r ≡ check Refused InvalidYearLength (inYear time year) (check Refused InvalidKind (onDay format time kind) (Next time)) ⌝ }
+    ensures { λ r. ⌜ r ≡ check Refused InvalidYearLength (inYear time year) (check Refused InvalidKind (onDay format time kind) (To time)) ⌝ }
 {
     if in_year(time, year) {
         if on_day(format, time, kind) {
-            return Stepped::Next(time);
+            return Stepped::To(time);
         }
         return Stepped::Refused(Refusal::InvalidKind);
     }
@@ -150,7 +150,7 @@ fn check_day(format: Format, time: Time, year: u16, kind: u8) -> Stepped
 
 // The checks of both steps: the time itself, where it passes them.
 fn check_step(format: Format, time: Time, year: u16, kind: u8) -> Stepped
-    ensures { λ r. ⌜ r ≡ checkStep format time year kind (Next time) ⌝ }
+    ensures { λ r. ⌜ r ≡ checkStep format time year kind (To time) ⌝ }
 {
     if is_known(format) {
         if on_format(format, time) {
@@ -170,7 +170,7 @@ pub fn step(format: Format, time: Time, year: u16, kind: u8) -> Stepped
 {
     let checked = check_step(format, time, year, kind);
     match checked {
-        Stepped::Next(_) => Stepped::Next(later(format, time, year, kind)),
+        Stepped::To(_) => Stepped::To(later(format, time, year, kind)),
         Stepped::Refused(refusal) => Stepped::Refused(refusal),
     }
 }
@@ -181,7 +181,7 @@ pub fn step_back(format: Format, time: Time, year: u16, kind: u8) -> Stepped
 {
     let given = check_step(format, time, year, kind);
     match given {
-        Stepped::Next(_) => Stepped::Next(earlier(format, time, year, kind)),
+        Stepped::To(_) => Stepped::To(earlier(format, time, year, kind)),
         Stepped::Refused(refusal) => Stepped::Refused(refusal),
     }
 }
@@ -196,17 +196,17 @@ fn same_time(first: Time, second: Time) -> bool
 }
 
 fn leads_to(stepped: Stepped, time: Time) -> bool
-    ensures { λ r. ⌜ r ≡ gives stepped time ⌝ }
+    ensures { λ r. ⌜ r ≡ stepsTo stepped time ⌝ }
 {
     match stepped {
-        Stepped::Next(next) => same_time(next, time),
+        Stepped::To(next) => same_time(next, time),
         Stepped::Refused(_) => false,
     }
 }
 
 // In a year of that length, without a known kind: one of the three gives it.
 fn next_in_year(format: Format, first: Time, second: Time, year: u16) -> bool
-    ensures { λ r. ⌜ r ≡ any (λ kind. gives (stepOf format first year kind) second) kinds ⌝ }
+    ensures { λ r. ⌜ r ≡ any (λ kind. stepsTo (stepOf format first year kind) second) kinds ⌝ }
 {
     if leads_to(step(format, first, year, Time::USUAL_DAY), second) {
         return true;

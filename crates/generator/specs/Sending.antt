@@ -9,7 +9,7 @@ use lib.ListN.{take}
 use Rattle.timecode.specs.Frames.{usual, stepOf, left, Sent}
 use Rattle.timecode.specs.declared.Format.{Format}
 use Rattle.timecode.specs.declared.Stepped.{Stepped}
-use Rattle.timecode.specs.declared.Stepped.the-variants.{Next}
+use Rattle.timecode.specs.declared.Stepped.the-variants.{To}
 use Rattle.timecode.specs.declared.Time.{Time}
 use Rattle.timecode.specs.declared.Written.{Written}
 use Rattle.timecode.specs.declared.Written.the-variants.{Done}
@@ -19,7 +19,7 @@ use Rattle.generator.specs.declared.Start.{Start}
 
 -- Write's checks of the first frame, then Step's of its time, the year length and the kind
 abbrev pub begun : Written → Stepped → Written
-begun Done (Next u) = Done
+begun Done (To u) = Done
 begun Done (Stepped.Refused x) = Written.Refused x
 begun (Written.Refused x) s = Written.Refused x
 
@@ -32,7 +32,7 @@ kindAfter t u kind = cond (eqb (t .day) (u .day)) kind usual
 
 -- where the next frame starts; where Step refuses, at the same
 abbrev pub stepped : Stepped → Start → Start
-stepped (Next u) s = record { time = u; kind = kindAfter (s .time) u (s .kind) }
+stepped (To u) s = record { time = u; kind = kindAfter (s .time) u (s .kind) }
 stepped (Stepped.Refused x) s = s
 
 unfoldable pub nextStart : Format → Start → ℕ → Start

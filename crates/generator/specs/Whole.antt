@@ -18,7 +18,7 @@ use Rattle.timecode.specs.Laws.Tests.{by-test, and-right}
 use Rattle.timecode.specs.Laws.Writing.{length-written, taken, takes}
 use Rattle.timecode.specs.declared.Format.{Format}
 use Rattle.timecode.specs.declared.Stepped.{Stepped}
-use Rattle.timecode.specs.declared.Stepped.the-variants.{Next}
+use Rattle.timecode.specs.declared.Stepped.the-variants.{To}
 use Rattle.timecode.specs.declared.Time.{Time}
 use Rattle.timecode.specs.declared.Written.{Written}
 use Rattle.timecode.specs.declared.Written.the-variants.{Done}
@@ -62,7 +62,7 @@ to-midnight : (f : Format) (t : Time) (year kind : ℕ) (u : Time) → eqb (t .d
 to-midnight f t year kind u n (inl p) = absurd (eqb-false (t .day) (u .day) n (ap (λ (v : Time). v .day) (p .0)))
 to-midnight f t year kind u n (inr p) = sym (ap (λ (v : Time). v .hundredths) (p .0))
 
-next-step : (f : Format) (t u : Time) (year kind : ℕ) → stepOf f t year kind ≡ Next u → stepOf f u year (kindAfter t u kind) ≡ Next (following f u year (kindAfter t u kind))
+next-step : (f : Format) (t u : Time) (year kind : ℕ) → stepOf f t year kind ≡ To u → stepOf f u year (kindAfter t u kind) ≡ To (following f u year (kindAfter t u kind))
 unfolding stepOf kindAfter
 next-step f t u year kind h =
     let again = step-again f t u year kind h in
@@ -71,31 +71,31 @@ next-step f t u year kind h =
     (λ y. rw y again)
     (λ n.
     let midnight = to-midnight f t year kind u n (lands f t year kind u (went f t year kind u h)) in
-    rw n (answers f u year usual (w .format) (w .from) (w .length-is) (w .inside) refl (omega (arith, midnight, day-end-range f usual)) (Next (following f u year usual))))
+    rw n (answers f u year usual (w .format) (w .from) (w .length-is) (w .inside) refl (omega (arith, midnight, day-end-range f usual)) (To (following f u year usual))))
 
 -- Step takes the time, the year length and the kind
 abbrev Steps : Format → Start → ℕ → Type 0
-Steps f s year = (u : Time) × (stepOf f (s .time) year (s .kind) ≡ Next u)
+Steps f s year = (u : Time) × (stepOf f (s .time) year (s .kind) ≡ To u)
 
 step-stays : (f : Format) (s : Start) (year : ℕ) → Steps f s year → Steps f (nextStart f s year) year
 unfolding nextStart
 step-stays f s year (u, h) = rw h (following f u year (kindAfter (s .time) u (s .kind)), next-step f (s .time) u year (s .kind) h)
 
-next-is : (f : Format) (s : Start) (year : ℕ) → Steps f s year → stepOf f (s .time) year (s .kind) ≡ Next (nextStart f s year .time)
+next-is : (f : Format) (s : Start) (year : ℕ) → Steps f s year → stepOf f (s .time) year (s .kind) ≡ To (nextStart f s year .time)
 unfolding nextStart
 next-is f s year (u, h) = rw h
 
-begun-done : (a : Written) (p : Stepped) → begun a p ≡ Done → (a ≡ Done) × ((u : Time) × (p ≡ Next u))
-begun-done Done (Next u) h = (refl, (u, refl))
+begun-done : (a : Written) (p : Stepped) → begun a p ≡ Done → (a ≡ Done) × ((u : Time) × (p ≡ To u))
+begun-done Done (To u) h = (refl, (u, refl))
 begun-done Done (Stepped.Refused x) h = absurd (done x h)
-begun-done (Written.Refused x) (Next u) h = absurd (done x h)
+begun-done (Written.Refused x) (To u) h = absurd (done x h)
 begun-done (Written.Refused x) (Stepped.Refused y) h = absurd (done x h)
 
 -- ---- the kind told is the first day's, and every later day is usual
 
 next-kind : (p : Stepped) (s : Start) → stepped p s .kind ≡ kindAfter (s .time) (stepped p s .time) (s .kind)
 unfolding kindAfter
-next-kind (Next u) s = refl
+next-kind (To u) s = refl
 next-kind (Stepped.Refused x) s = rw (eq-eqb (s .time .day) (s .time .day) refl)
 
 next-kind-at : (f : Format) (s : Start) (year k : ℕ) → startOf f s year (suc k) .kind ≡ kindAfter (startOf f s year k .time) (startOf f s year (suc k) .time) (startOf f s year k .kind)
@@ -155,7 +155,7 @@ module _ (f : Format) (s : Start) (w year : ℕ) (b : begunOf f s w year ≡ Don
   steps-at (suc k) = step-stays f (startOf f s year k) year (steps-at k)
 
   -- no later step is refused
-  pub step-at : (k : ℕ) → stepOf f (startOf f s year k .time) year (startOf f s year k .kind) ≡ Next (startOf f s year (suc k) .time)
+  pub step-at : (k : ℕ) → stepOf f (startOf f s year k .time) year (startOf f s year k .kind) ≡ To (startOf f s year (suc k) .time)
   unfolding startOf
   step-at k = next-is f (startOf f s year k) year (steps-at k)
 

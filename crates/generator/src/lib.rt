@@ -35,7 +35,7 @@ fn check_step(stepped: Stepped) -> Written
     ensures { λ r. ⌜ r ≡ begun Done stepped ⌝ }
 {
     match stepped {
-        Stepped::Next(_) => Written::Done,
+        Stepped::To(_) => Written::Done,
         Stepped::Refused(refusal) => Written::Refused(refusal),
     }
 }
@@ -69,7 +69,7 @@ fn next_start(format: Format, start: Start, year: u16) -> Start
     let time = start.time;
     let stepped = step(format, time, year, start.kind);
     match stepped {
-        Stepped::Next(next) => Start {
+        Stepped::To(next) => Start {
             time: next,
             kind: kind_after(time, next, start.kind),
         },

@@ -338,7 +338,7 @@ fn year_of(case: Case, j: u64) -> u16 {
 fn time_after(format: Format, time: Time, year: u16) -> Time {
     let stepped = step(format, time, year, Time::USUAL_DAY);
     match stepped {
-        Stepped::Next(next) => next,
+        Stepped::To(next) => next,
         Stepped::Refused(_) => time,
     }
 }

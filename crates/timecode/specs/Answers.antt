@@ -30,7 +30,7 @@ use Rattle.timecode.specs.declared.Refusal.the-variants.{
 use Rattle.timecode.specs.declared.Scanned.{Scanned}
 use Rattle.timecode.specs.declared.Scanned.the-variants.{Found, None}
 use Rattle.timecode.specs.declared.Stepped.{Stepped}
-use Rattle.timecode.specs.declared.Stepped.the-variants.{Next}
+use Rattle.timecode.specs.declared.Stepped.the-variants.{To}
 use Rattle.timecode.specs.declared.Subtracted.{Subtracted}
 use Rattle.timecode.specs.declared.Subtracted.the-variants.{Hundredths}
 use Rattle.timecode.specs.declared.Written.{Written}
@@ -98,7 +98,7 @@ readingResult (Accepted t w) = success (pos (t .day) ∷ pos (t .hundredths) ∷
 readingResult (Reading.Refused r) = refusalResult r
 
 abbrev pub steppedResult : Stepped → Result
-steppedResult (Next t) = success (pos (t .day) ∷ pos (t .hundredths) ∷ [])
+steppedResult (To t) = success (pos (t .day) ∷ pos (t .hundredths) ∷ [])
 steppedResult (Stepped.Refused r) = refusalResult r
 
 abbrev pub subtractedResult : Subtracted → Result

@@ -26,7 +26,7 @@ use Rattle.timecode.specs.declared.Reading.the-variants.{Accepted}
 use Rattle.timecode.specs.declared.Refusal.the-variants.{UnknownFormat, WrongLength, UnknownSymbol, InvalidDigit, SecondsDiffer}
 use Rattle.timecode.specs.declared.Refusal.{Refusal}
 use Rattle.timecode.specs.declared.Stepped.{Stepped}
-use Rattle.timecode.specs.declared.Stepped.the-variants.{Next}
+use Rattle.timecode.specs.declared.Stepped.the-variants.{To}
 use Rattle.timecode.specs.declared.Time.{Time}
 use Rattle.timecode.specs.declared.Written.{Written}
 use Rattle.timecode.specs.declared.Written.the-variants.{Done}
@@ -141,27 +141,27 @@ three-may-follow f t u s = go (lands f t (s .0) (s .1) u w) (year-is (s .0) (w .
 
 -- ---- Step back, for every format, time, year length and kind of day that the first call takes: a step and then a step back returns the time, and so does the other order.
 
-pub step-then-back : (f : Format) (t u : Time) (year kind : ℕ) → stepOf f t year kind ≡ Next u → stepBackOf f u year kind ≡ Next t
+pub step-then-back : (f : Format) (t u : Time) (year kind : ℕ) → stepOf f t year kind ≡ To u → stepBackOf f u year kind ≡ To t
 step-then-back f t u year kind = step-back f t year kind u
 
-pub back-then-step : (f : Format) (t u : Time) (year kind : ℕ) → stepBackOf f u year kind ≡ Next t → stepOf f t year kind ≡ Next u
+pub back-then-step : (f : Format) (t u : Time) (year kind : ℕ) → stepBackOf f u year kind ≡ To t → stepOf f t year kind ≡ To u
 back-then-step f t u year kind = back-step f u year kind t
 
 -- The checks are the step's: both refuse the same, with the same number.
 pub back-refuses-as-step : (f : Format) (t : Time) (year kind : ℕ) (r : Refusal) → (stepBackOf f t year kind ≡ Stepped.Refused r) ↔ (stepOf f t year kind ≡ Stepped.Refused r)
 unfolding stepOf stepBackOf
 back-refuses-as-step f t year kind r = (
-  λ h. refuses-alike f t year kind (preceding f t year kind) r h (Next (following f t year kind)),
-  λ h. refuses-alike f t year kind (following f t year kind) r h (Next (preceding f t year kind)),
+  λ h. refuses-alike f t year kind (preceding f t year kind) r h (To (following f t year kind)),
+  λ h. refuses-alike f t year kind (following f t year kind) r h (To (preceding f t year kind)),
 )
 
 -- Day 1, c 0 goes to that year's last frame.
 pub first-frame-back-to-last : (f : Format) (year kind : ℕ) → known f ≡ true → member year yearLengths ≡ true → member kind kinds ≡ true
-    → stepBackOf f (record { day = 1; hundredths = 0 }) year kind ≡ Next (record { day = year; hundredths = dayEnd f kind - interval f })
+    → stepBackOf f (record { day = 1; hundredths = 0 }) year kind ≡ To (record { day = year; hundredths = dayEnd f kind - interval f })
 unfolding stepBackOf preceding dayBefore
 first-frame-back-to-last f year kind k l m =
     answers f (record { day = 1; hundredths = 0 }) year kind k (record { first = omega arith; last = omega arith; below = omega arith; grid = zero-mod (interval f); carried = λ n. omega arith }) l
-    (year-range year l .0) m (omega (arith, day-end-range f kind)) (Next (record { day = year; hundredths = dayEnd f kind - interval f }))
+    (year-range year l .0) m (omega (arith, day-end-range f kind)) (To (record { day = year; hundredths = dayEnd f kind - interval f }))
 
 -- Next after, read backwards, is some step back.
 pub next-after-backwards : (f : Format) (t u : Time) → (nextAfter f t u ≡ true) ↔ Precedes f t u

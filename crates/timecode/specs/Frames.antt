@@ -15,7 +15,7 @@ use Rattle.timecode.specs.declared.Reading.{Reading}
 use Rattle.timecode.specs.declared.Reading.the-variants.{Accepted}
 use Rattle.timecode.specs.declared.Refusal.the-variants.{UnknownFormat, InvalidTime, WrongLength, UnknownSymbol, MisplacedMark, InvalidElement, InvalidDigit, SecondsDiffer, ControlTooLong, InvalidYearLength, SecondNotCarried, InvalidKind}
 use Rattle.timecode.specs.declared.Stepped.{Stepped}
-use Rattle.timecode.specs.declared.Stepped.the-variants.{Next}
+use Rattle.timecode.specs.declared.Stepped.the-variants.{To}
 use Rattle.timecode.specs.declared.Time.{Time}
 use Rattle.timecode.specs.declared.Written.{Written}
 use Rattle.timecode.specs.declared.Written.the-variants.{Done}
@@ -81,18 +81,18 @@ checkStep f t year kind answer =
     answer))))
 
 unfoldable pub stepOf : Format → Time → ℕ → ℕ → Stepped
-stepOf f t year kind = checkStep f t year kind (Next (following f t year kind))
+stepOf f t year kind = checkStep f t year kind (To (following f t year kind))
 
 -- u is the step of t for a year length and a kind that Step takes
 abbrev pub Follows : Format → Time → Time → Type 0
-Follows f t u = (year : ℕ) × (kind : ℕ) × (stepOf f t year kind ≡ Next u)
+Follows f t u = (year : ℕ) × (kind : ℕ) × (stepOf f t year kind ≡ To u)
 
 abbrev pub sameTime : Time → Time → Bool
 sameTime t u = eqb (t .day) (u .day) && eqb (t .hundredths) (u .hundredths)
 
-abbrev pub gives : Stepped → Time → Bool
-gives (Next v) u = sameTime v u
-gives (Stepped.Refused r) u = false
+abbrev pub stepsTo : Stepped → Time → Bool
+stepsTo (To v) u = sameTime v u
+stepsTo (Stepped.Refused r) u = false
 
 abbrev pub any : (ℕ → Bool) → List ℕ → Bool
 any p [] = false
@@ -100,7 +100,7 @@ any p (x ∷ xs) = p x || any p xs
 
 -- Without a known year and kind, u is next after t if some year length and some kind give it. Day 366 counts only with 366: Step refuses it with 365.
 unfoldable pub nextAfter : Format → Time → Time → Bool
-nextAfter f t u = any (λ year. any (λ kind. gives (stepOf f t year kind) u) kinds) yearLengths
+nextAfter f t u = any (λ year. any (λ kind. stepsTo (stepOf f t year kind) u) kinds) yearLengths
 
 -- u is day 1 and v is day 366, both at midnight
 pub record YearTurn (u v : Time) : Type 0 where
@@ -138,11 +138,11 @@ preceding f t year kind = cond (eqb (t .hundredths) 0) (lastBefore f t year kind
 
 -- The year and the kind are those of the time before; the checks are Step's.
 unfoldable pub stepBackOf : Format → Time → ℕ → ℕ → Stepped
-stepBackOf f t year kind = checkStep f t year kind (Next (preceding f t year kind))
+stepBackOf f t year kind = checkStep f t year kind (To (preceding f t year kind))
 
 -- t is the step back of u for a year length and a kind that it takes
 abbrev pub Precedes : Format → Time → Time → Type 0
-Precedes f t u = (year : ℕ) × (kind : ℕ) × (stepBackOf f u year kind ≡ Next t)
+Precedes f t u = (year : ℕ) × (kind : ℕ) × (stepBackOf f u year kind ≡ To t)
 
 -- ---- Write
 

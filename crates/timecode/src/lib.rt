@@ -76,7 +76,7 @@ pub enum Reading {
 
 // Step and step back: the next time, or the time before.
 pub enum Stepped {
-    Next(Time),
+    To(Time),
     Refused(Refusal),
 }
 

@@ -1,7 +1,7 @@
 -- `leads_to` meets its contract, case by case.
 use borrow.Author.Needs.{needs}
 use mathlib.Core.Path.{sym, ap, _∙_}
-use Rattle.timecode.specs.Frames.{gives}
+use Rattle.timecode.specs.Frames.{stepsTo}
 use Rattle.clock.proofs.leads_to.Statement.{statement}
 use Rattle.clock.proofs.leads_to.Tie as tie
 
@@ -15,7 +15,7 @@ enum-told : tie.Need-enum-told
 enum-told c = search needs
 
 returns : tie.Need-returns
-returns c = c .same-time .ensures ∙ sym (ap (λ s. gives s (c .before .before .before .before .args .time)) (c .before .before .stepped .given .1))
+returns c = c .same-time .ensures ∙ sym (ap (λ s. stepsTo s (c .before .before .before .before .args .time)) (c .before .before .stepped .given .1))
 
 returns-2 : tie.Need-returns-2
 returns-2 c = search needs

@@ -4,7 +4,7 @@ use mathlib.Core.Path.{sym, ap, _∙_}
 use Rattle.timecode.specs.Frames.{stepOf}
 use Rattle.timecode.specs.Laws.Stepping.{went-to, answers-alike, refuses-alike}
 use Rattle.timecode.specs.Laws.Times.{is-on-format, is-carried}
-use Rattle.timecode.specs.declared.Stepped.the-variants.{Next}
+use Rattle.timecode.specs.declared.Stepped.the-variants.{To}
 use Rattle.clock.proofs.step.Statement.{statement}
 use Rattle.clock.proofs.step.Tie as tie
 
@@ -24,7 +24,7 @@ enum-known-checked c = search needs
 
 returns : tie.Need-returns
 unfolding stepOf
-returns c = ap Next (c .later .ensures) ∙ sym (answers-alike _ _ _ _ _ _ (sym (c .before .before .before .check-step .ensures) ∙ c .before .enum-told .given .1) _)
+returns c = ap To (c .later .ensures) ∙ sym (answers-alike _ _ _ _ _ _ (sym (c .before .before .before .check-step .ensures) ∙ c .before .enum-told .given .1) _)
 
 returns-2 : tie.Need-returns-2
 unfolding stepOf

@@ -4,7 +4,7 @@ use mathlib.Core.Path.{sym, ap, _∙_}
 use Rattle.timecode.specs.Frames.{stepBackOf}
 use Rattle.timecode.specs.Laws.Stepping.{went-to, answers-alike, refuses-alike}
 use Rattle.timecode.specs.Laws.Times.{is-on-format, is-carried}
-use Rattle.timecode.specs.declared.Stepped.the-variants.{Next}
+use Rattle.timecode.specs.declared.Stepped.the-variants.{To}
 use Rattle.clock.proofs.step_back.Statement.{statement}
 use Rattle.clock.proofs.step_back.Tie as tie
 
@@ -24,7 +24,7 @@ enum-known-given c = search needs
 
 returns : tie.Need-returns
 unfolding stepBackOf
-returns c = ap Next (c .earlier .ensures) ∙ sym (answers-alike _ _ _ _ _ _ (sym (c .before .before .before .check-step .ensures) ∙ c .before .enum-told .given .1) _)
+returns c = ap To (c .earlier .ensures) ∙ sym (answers-alike _ _ _ _ _ _ (sym (c .before .before .before .check-step .ensures) ∙ c .before .enum-told .given .1) _)
 
 returns-2 : tie.Need-returns-2
 unfolding stepBackOf

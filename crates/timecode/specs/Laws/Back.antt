@@ -12,7 +12,7 @@ use Rattle.timecode.specs.Laws.Stepping.{time-path, Went, went-to, answe
 use Rattle.timecode.specs.Laws.Table.{interval-range}
 use Rattle.timecode.specs.Laws.Tests.{by-test}
 use Rattle.timecode.specs.declared.Format.{Format}
-use Rattle.timecode.specs.declared.Stepped.the-variants.{Next}
+use Rattle.timecode.specs.declared.Stepped.the-variants.{To}
 use Rattle.timecode.specs.declared.Time.{Time}
 
 -- ---- days
@@ -60,21 +60,21 @@ undone f t year kind u w (inr p) =
       time-path (lastBefore f (nextDay t year) year kind) t (before-after (t .day) year (w .from .first) (w .inside)) (less-end (t .hundredths) (interval f) (dayEnd f kind) (p .1)),
     )
 
-pub step-back : (f : Format) (t : Time) (year kind : ℕ) (u : Time) → stepOf f t year kind ≡ Next u → stepBackOf f u year kind ≡ Next t
+pub step-back : (f : Format) (t : Time) (year kind : ℕ) (u : Time) → stepOf f t year kind ≡ To u → stepBackOf f u year kind ≡ To t
 unfolding stepBackOf
 step-back f t year kind u h =
     let w = went f t year kind u h in
     let b = undone f t year kind u w (lands f t year kind u w) in
-    answers f u year kind (w .format) (step-on-format f t u (year, kind, h)) (w .length-is) (b .0) (w .kind-is) (b .1) (Next (preceding f u year kind)) ∙ ap Next (b .2)
+    answers f u year kind (w .format) (step-on-format f t u (year, kind, h)) (w .length-is) (b .0) (w .kind-is) (b .1) (To (preceding f u year kind)) ∙ ap To (b .2)
 
 -- a step that was taken is taken again with the same length and kind
-pub step-again : (f : Format) (t u : Time) (year kind : ℕ) → stepOf f t year kind ≡ Next u → stepOf f u year kind ≡ Next (following f u year kind)
+pub step-again : (f : Format) (t u : Time) (year kind : ℕ) → stepOf f t year kind ≡ To u → stepOf f u year kind ≡ To (following f u year kind)
 unfolding stepOf stepBackOf
-step-again f t u year kind h = answers-alike f u year kind (preceding f u year kind) t (step-back f t year kind u h) (Next (following f u year kind))
+step-again f t u year kind h = answers-alike f u year kind (preceding f u year kind) t (step-back f t year kind u h) (To (following f u year kind))
 
 -- ---- a step back and then a step
 
-came : (f : Format) (u : Time) (year kind : ℕ) (t : Time) → stepBackOf f u year kind ≡ Next t → Went f u year kind (preceding f u year kind) t
+came : (f : Format) (u : Time) (year kind : ℕ) (t : Time) → stepBackOf f u year kind ≡ To t → Went f u year kind (preceding f u year kind) t
 unfolding stepBackOf
 came f u year kind t h = went-to f u year kind (preceding f u year kind) t h
 
@@ -137,12 +137,12 @@ redone f u year kind t w (inr p) =
       rw (sum, eq-eqb (dayEnd f kind) (dayEnd f kind) refl) (time-path (nextDay (lastBefore f u year kind) year) u (after-before (u .day) year (w .from .first) (w .inside)) (sym (p .1))),
     )
 
-pub back-step : (f : Format) (u : Time) (year kind : ℕ) (t : Time) → stepBackOf f u year kind ≡ Next t → stepOf f t year kind ≡ Next u
+pub back-step : (f : Format) (u : Time) (year kind : ℕ) (t : Time) → stepBackOf f u year kind ≡ To t → stepOf f t year kind ≡ To u
 unfolding stepOf
 back-step f u year kind t h =
     let w = came f u year kind t h in
     let b = redone f u year kind t w (comes f u year kind t w) in
-    answers f t year kind (w .format) (b .0) (w .length-is) (b .1) (w .kind-is) (b .2) (Next (following f t year kind)) ∙ ap Next (b .3)
+    answers f t year kind (w .format) (b .0) (w .length-is) (b .1) (w .kind-is) (b .2) (To (following f t year kind)) ∙ ap To (b .3)
 
 -- ---- what else both steps share
 

@@ -10,7 +10,7 @@ use Rattle.timecode.specs.declared.Reading.{Reading}
 use Rattle.timecode.specs.declared.Reading.the-variants.{Accepted}
 use Rattle.timecode.specs.declared.Refusal.{Refusal}
 use Rattle.timecode.specs.declared.Stepped.{Stepped}
-use Rattle.timecode.specs.declared.Stepped.the-variants.{Next}
+use Rattle.timecode.specs.declared.Stepped.the-variants.{To}
 use Rattle.timecode.specs.declared.Time.{Time}
 use Rattle.timecode.specs.declared.Written.{Written}
 use Rattle.timecode.specs.declared.Written.the-variants.{Done}
@@ -40,7 +40,7 @@ accepted t w r h = no-path cc
 pub done : Taken Written.Refused Done
 done r h = no-path cc
 
-pub next : (t : Time) → Taken Stepped.Refused (Next t)
+pub next : (t : Time) → Taken Stepped.Refused (To t)
 next t r h = no-path cc
 
 pub quiet-no-report : {P : Type 0} (t : Time) (w : ℕ) → Quiet ≡ Report t w → P

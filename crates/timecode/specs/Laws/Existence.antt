@@ -13,7 +13,7 @@ use Rattle.timecode.specs.Frames.{secondAdded, following, Follows, write
 use Rattle.timecode.specs.Laws.Stepping.{goes, step-on-format}
 use Rattle.timecode.specs.Laws.Writing.{takes}
 use Rattle.timecode.specs.declared.Format.{Format}
-use Rattle.timecode.specs.declared.Stepped.the-variants.{Next}
+use Rattle.timecode.specs.declared.Stepped.the-variants.{To}
 use Rattle.timecode.specs.declared.Time.{Time}
 use Rattle.timecode.specs.declared.Written.the-variants.{Done}
 
@@ -45,7 +45,7 @@ first-time f t (w ∷ ws) h = refl
 steps-at : (f : Format) → known f ≡ true → (ws : List ℕ) (t : Time) → OnFormat f t → (j : ℕ) → suc j < length ws → Follows f (getD (frames f t ws) j noFrame .time) (getD (frames f t ws) (suc j) noFrame .time)
 unfolding frames
 steps-at f k [] t o j h = absurd (not-suc-le-zero h)
-steps-at f k (w ∷ ws) t o zero h = (366, secondAdded, goes f t k o ∙ ap Next (sym (first-time f (after f t) ws (omega arith))))
+steps-at f k (w ∷ ws) t o zero h = (366, secondAdded, goes f t k o ∙ ap To (sym (first-time f (after f t) ws (omega arith))))
 steps-at f k (w ∷ ws) t o (suc j) h = steps-at f k ws (after f t) (step-on-format f t (after f t) (366, secondAdded, goes f t k o)) j (omega arith)
 
 pub generator : (f : Format) (t : Time) (ws : List ℕ) → ((j : ℕ) → j < length ws → Valid f t (getD ws j 0)) → Generator f (frames f t ws)

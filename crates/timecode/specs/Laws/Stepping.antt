@@ -9,7 +9,7 @@ use native.Mathlib.Omega.{arith}
 use borrow.Author.Tests.{leb-true, ltb-true, eqb-true, eqb-false, le-leb, lt-ltb, eq-eqb, ne-eqb}
 use lib.Dec.{leb, ltb, eqb}
 use Rattle.timecode.specs.Formats.{member, table, lookUp, rowOf, known, interval, lastDay, dayLength, onFormat, carriesLeap, secondCarried, OnFormat}
-use Rattle.timecode.specs.Frames.{yearLengths, inYear, dayAfter, secondAdded, secondTaken, kinds, dayLengthOf, dayEnd, onDay, sameDay, nextDay, following, checkStep, stepOf, Follows, sameTime, gives, any, nextAfter, LeapTurn, Turn}
+use Rattle.timecode.specs.Frames.{yearLengths, inYear, dayAfter, secondAdded, secondTaken, kinds, dayLengthOf, dayEnd, onDay, sameDay, nextDay, following, checkStep, stepOf, Follows, sameTime, stepsTo, any, nextAfter, LeapTurn, Turn}
 use Rattle.timecode.specs.Laws.Checks.{passed, same-check, next}
 use Rattle.timecode.specs.Laws.Table.{everyFormat, of-every}
 use Rattle.timecode.specs.Laws.Tests.{by-test, clash, and-left, and-right, or-other, or-first, or-second}
@@ -18,7 +18,7 @@ use Rattle.timecode.specs.declared.Format.{Format}
 use Rattle.timecode.specs.declared.Refusal.the-variants.{UnknownFormat, InvalidTime, InvalidYearLength, SecondNotCarried, InvalidKind}
 use Rattle.timecode.specs.declared.Refusal.{Refusal}
 use Rattle.timecode.specs.declared.Stepped.{Stepped}
-use Rattle.timecode.specs.declared.Stepped.the-variants.{Next}
+use Rattle.timecode.specs.declared.Stepped.the-variants.{To}
 use Rattle.timecode.specs.declared.Time.{Time}
 
 -- ---- two times are one
@@ -47,14 +47,14 @@ pub record Went (f : Format) (t : Time) (year kind : ℕ) (v u : Time) : Type 0 
   pub before : t .hundredths < dayEnd f kind
   pub to : v ≡ u
 
-pub went-to : (f : Format) (t : Time) (year kind : ℕ) (v u : Time) → checkStep f t year kind (Next v) ≡ Next u → Went f t year kind v u
+pub went-to : (f : Format) (t : Time) (year kind : ℕ) (v u : Time) → checkStep f t year kind (To v) ≡ To u → Went f t year kind v u
 unfolding inYear onDay
 went-to f t year kind v u h =
-    let a = passed Stepped.Refused UnknownFormat (known f) _ (Next u) (next u) h in
-    let b = passed Stepped.Refused InvalidTime (onFormat f t) _ (Next u) (next u) (a .1) in
-    let s = passed Stepped.Refused SecondNotCarried (secondCarried f t) _ (Next u) (next u) (b .1) in
-    let c = passed Stepped.Refused InvalidYearLength (member year yearLengths && leb (t .day) year) _ (Next u) (next u) (s .1) in
-    let d = passed Stepped.Refused InvalidKind (member kind kinds && ltb (t .hundredths) (dayEnd f kind)) _ (Next u) (next u) (c .1) in
+    let a = passed Stepped.Refused UnknownFormat (known f) _ (To u) (next u) h in
+    let b = passed Stepped.Refused InvalidTime (onFormat f t) _ (To u) (next u) (a .1) in
+    let s = passed Stepped.Refused SecondNotCarried (secondCarried f t) _ (To u) (next u) (b .1) in
+    let c = passed Stepped.Refused InvalidYearLength (member year yearLengths && leb (t .day) year) _ (To u) (next u) (s .1) in
+    let d = passed Stepped.Refused InvalidKind (member kind kinds && ltb (t .hundredths) (dayEnd f kind)) _ (To u) (next u) (c .1) in
     let last = d .1 in
     record {
       format = a .0;
@@ -72,22 +72,22 @@ pub answers : (f : Format) (t : Time) (year kind : ℕ) → known f ≡ true →
 unfolding inYear onDay
 answers f t year kind k o l i m b answer = rw (k, is-on-format f t o, is-carried f t o, l, le-leb (t .day) year i, m, lt-ltb (t .hundredths) (dayEnd f kind) b)
 
-pub answers-alike : (f : Format) (t : Time) (year kind : ℕ) (v u : Time) → checkStep f t year kind (Next v) ≡ Next u → (answer : Stepped) → checkStep f t year kind answer ≡ answer
+pub answers-alike : (f : Format) (t : Time) (year kind : ℕ) (v u : Time) → checkStep f t year kind (To v) ≡ To u → (answer : Stepped) → checkStep f t year kind answer ≡ answer
 answers-alike f t year kind v u h answer =
     let w = went-to f t year kind v u h in
     answers f t year kind (w .format) (w .from) (w .length-is) (w .inside) (w .kind-is) (w .before) answer
 
 -- and refuse alike where one is not
-pub refuses-alike : (f : Format) (t : Time) (year kind : ℕ) (v : Time) (r : Refusal) → checkStep f t year kind (Next v) ≡ Stepped.Refused r → (answer : Stepped) → checkStep f t year kind answer ≡ Stepped.Refused r
+pub refuses-alike : (f : Format) (t : Time) (year kind : ℕ) (v : Time) (r : Refusal) → checkStep f t year kind (To v) ≡ Stepped.Refused r → (answer : Stepped) → checkStep f t year kind answer ≡ Stepped.Refused r
 refuses-alike f t year kind v r h answer =
     same-check Stepped.Refused UnknownFormat (known f) _ _ (Stepped.Refused r)
     (same-check Stepped.Refused InvalidTime (onFormat f t) _ _ (Stepped.Refused r)
     (same-check Stepped.Refused SecondNotCarried (secondCarried f t) _ _ (Stepped.Refused r)
     (same-check Stepped.Refused InvalidYearLength (inYear t year) _ _ (Stepped.Refused r)
-    (same-check Stepped.Refused InvalidKind (onDay f t kind) (Next v) answer (Stepped.Refused r) (λ e. absurd (next v r (sym e)))))))
+    (same-check Stepped.Refused InvalidKind (onDay f t kind) (To v) answer (Stepped.Refused r) (λ e. absurd (next v r (sym e)))))))
     h
 
-pub went : (f : Format) (t : Time) (year kind : ℕ) (u : Time) → stepOf f t year kind ≡ Next u → Went f t year kind (following f t year kind) u
+pub went : (f : Format) (t : Time) (year kind : ℕ) (u : Time) → stepOf f t year kind ≡ To u → Went f t year kind (following f t year kind) u
 unfolding stepOf
 went f t year kind u h = went-to f t year kind (following f t year kind) u h
 
@@ -97,17 +97,17 @@ unfolding dayEnd dayLengthOf
 longest-day f t o = by-test (carriesLeap f) (λ y. rw y (omega (arith, o .below))) (λ m. rw m (o .carried m))
 
 -- Step takes a time on the format with 366 and a second added always
-pub goes : (f : Format) (t : Time) → known f ≡ true → OnFormat f t → stepOf f t 366 secondAdded ≡ Next (following f t 366 secondAdded)
+pub goes : (f : Format) (t : Time) → known f ≡ true → OnFormat f t → stepOf f t 366 secondAdded ≡ To (following f t 366 secondAdded)
 unfolding stepOf
-goes f t k o = answers f t 366 secondAdded k o refl (o .last) refl (longest-day f t o) (Next (following f t 366 secondAdded))
+goes f t k o = answers f t 366 secondAdded k o refl (o .last) refl (longest-day f t o) (To (following f t 366 secondAdded))
 
 -- ---- next after is some step
 
-gives-is : (s : Stepped) (u : Time) → gives s u ≡ true → s ≡ Next u
-gives-is (Next v) u h = ap Next (same-is v u h)
-gives-is (Stepped.Refused r) u h = clash h refl
+steps-to-is : (s : Stepped) (u : Time) → stepsTo s u ≡ true → s ≡ To u
+steps-to-is (To v) u h = ap To (same-is v u h)
+steps-to-is (Stepped.Refused r) u h = clash h refl
 
-is-given : (s : Stepped) (u : Time) → s ≡ Next u → gives s u ≡ true
+is-given : (s : Stepped) (u : Time) → s ≡ To u → stepsTo s u ≡ true
 is-given s u h = rw h (same-self u)
 
 any-one : (p : ℕ → Bool) (xs : List ℕ) → any p xs ≡ true → (x : ℕ) × (p x ≡ true)
@@ -124,16 +124,16 @@ one-any p (y ∷ ys) x m h =
 pub next-follows : (f : Format) (t u : Time) → nextAfter f t u ≡ true → Follows f t u
 unfolding nextAfter
 next-follows f t u h =
-    let y = any-one (λ year. any (λ kind. gives (stepOf f t year kind) u) kinds) yearLengths h in
-    let k = any-one (λ kind. gives (stepOf f t (y .0) kind) u) kinds (y .1) in
-    (y .0, k .0, gives-is (stepOf f t (y .0) (k .0)) u (k .1))
+    let y = any-one (λ year. any (λ kind. stepsTo (stepOf f t year kind) u) kinds) yearLengths h in
+    let k = any-one (λ kind. stepsTo (stepOf f t (y .0) kind) u) kinds (y .1) in
+    (y .0, k .0, steps-to-is (stepOf f t (y .0) (k .0)) u (k .1))
 
 pub follows-next : (f : Format) (t u : Time) → Follows f t u → nextAfter f t u ≡ true
 unfolding nextAfter
 follows-next f t u s =
     let w = went f t (s .0) (s .1) u (s .2) in
-    one-any (λ year. any (λ kind. gives (stepOf f t year kind) u) kinds) yearLengths (s .0) (w .length-is)
-    (one-any (λ kind. gives (stepOf f t (s .0) kind) u) kinds (s .1) (w .kind-is) (is-given (stepOf f t (s .0) (s .1)) u (s .2)))
+    one-any (λ year. any (λ kind. stepsTo (stepOf f t year kind) u) kinds) yearLengths (s .0) (w .length-is)
+    (one-any (λ kind. stepsTo (stepOf f t (s .0) kind) u) kinds (s .1) (w .kind-is) (is-given (stepOf f t (s .0) (s .1)) u (s .2)))
 
 -- ---- a step stays on the format
 
