@@ -6,7 +6,7 @@ use Prim.Native.Nat.{ℕ, _<_}
 use borrow.Author.Tests.{lt-leb}
 use lib.Dec.{eqb}
 use lib.IntN.{ℤ}
-use Rattle.timecode.specs.Answers.{Result, number}
+use Rattle.timecode.specs.Answers.{Result, refusalNumber}
 use Rattle.timecode.specs.Formats.{known}
 use Rattle.timecode.specs.Laws.Tests.{by-test}
 use Rattle.timecode.specs.declared.Answer.{Answer}
@@ -34,7 +34,7 @@ use Rattle.stream.specs.declared.Made.{Made}
 use Rattle.stream.specs.declared.Reader.{Reader}
 use Rattle.border.specs.Border.{valuesLeft}
 
-pub refusal-numbered : (x : Refusal) → eqb (number x) 0 ≡ false
+pub refusal-numbered : (x : Refusal) → eqb (refusalNumber x) 0 ≡ false
 refusal-numbered UnknownFormat = refl
 refusal-numbered InvalidTime = refl
 refusal-numbered WrongLength = refl

@@ -4,7 +4,7 @@ use mathlib.Core.List.{List, [], _∷_, _++_}
 use Prim.Native.Nat.{ℕ, suc, _-_}
 use lib.Dec.{eqb, leb}
 use lib.ListN.{getD, length, drop}
-use Rattle.timecode.specs.Answers.{number}
+use Rattle.timecode.specs.Answers.{refusalNumber}
 use Rattle.timecode.specs.Formats.{known}
 use Rattle.timecode.specs.Stream.{plainAnswers}
 use Rattle.timecode.specs.declared.Answer.{Answer}
@@ -28,7 +28,7 @@ unfoldable pub printedFor : ℕ → ℕ → List Answer → List ℕ
 printedFor elements reports [] = countsLine elements reports
 printedFor elements reports (Quiet ∷ as′) = printedFor (suc elements) reports as′
 printedFor elements reports (Report t w ∷ as′) = reportLine (suc elements) t w ++ printedFor (suc elements) (suc reports) as′
-printedFor elements reports (Answer.Refused x ∷ as′) = refusedLine (number x)
+printedFor elements reports (Answer.Refused x ∷ as′) = refusedLine (refusalNumber x)
 
 unfoldable pub printed : List ℕ → List ℕ
 printed bytes =

@@ -7,7 +7,7 @@ use native.Mathlib.Omega.{arith}
 use borrow.Author.Tests.{lt-ltb, le-leb}
 use lib.Dec.{eqb, leb}
 use lib.ListN.{getD, length, take, drop, length-drop}
-use Rattle.timecode.specs.Answers.{number}
+use Rattle.timecode.specs.Answers.{refusalNumber}
 use Rattle.timecode.specs.Formats.{known}
 use Rattle.timecode.specs.Laws.Tests.{and-right}
 use Rattle.timecode.specs.declared.Answer.{Answer}
@@ -74,7 +74,7 @@ module _ (e m : ℕ) (as′ : List Answer) where
   unfolding printedFor
   printed-report t w = refl
 
-  printed-refused : (x : Refusal) → printedFor e m (Answer.Refused x ∷ as′) ≡ refusedLine (number x)
+  printed-refused : (x : Refusal) → printedFor e m (Answer.Refused x ∷ as′) ≡ refusedLine (refusalNumber x)
   unfolding printedFor
   printed-refused x = refl
 
@@ -107,7 +107,7 @@ module _ (s : ℕ) (ss : List ℕ) (rest : Agrees ss) (p : Progress) (g : p .end
   fed-agrees (Answer.Refused x) e =
       fed-answers (Answer.Refused x) e
       ∙ printed-refused (p .elements) (p .reports) (answers r ss) x
-      ∙ sym (rest-fed p s ss g (Answer.Refused x) e ∙ rw (rest-ended (answered p r (Answer.Refused x)) ss refl) (append-nil (refusedLine (number x))))
+      ∙ sym (rest-fed p s ss g (Answer.Refused x) e ∙ rw (rest-ended (answered p r (Answer.Refused x)) ss refl) (append-nil (refusedLine (refusalNumber x))))
 
 nothing-agrees : (p : Progress) → p .ended ≡ false → printedFor (p .elements) (p .reports) (answers (p .reader) []) ≡ restFor p []
 unfolding answers

@@ -3,7 +3,7 @@ use mathlib.Core.Bool.{true, false, cond}
 use mathlib.Core.List.{List, [], _∷_, _++_}
 use Prim.Native.Nat.{ℕ, zero, suc}
 use lib.Dec.{ltb}
-use Rattle.timecode.specs.Answers.{number}
+use Rattle.timecode.specs.Answers.{refusalNumber}
 use Rattle.timecode.specs.declared.Answer.{Answer}
 use Rattle.timecode.specs.declared.Answer.the-variants.{Quiet, Report}
 use Rattle.lines.specs.Text.{reportLine, refusedLine}
@@ -34,7 +34,7 @@ answered p r (Answer.Refused x) = record { reader = r; elements = p .elements; r
 abbrev pub lineFor : ℕ → Answer → List ℕ
 lineFor element Quiet = []
 lineFor element (Report t w) = reportLine element t w
-lineFor element (Answer.Refused x) = refusedLine (number x)
+lineFor element (Answer.Refused x) = refusedLine (refusalNumber x)
 
 -- one Feed more: after the end it changes nothing
 unfoldable pub stepOf : Progress → ℕ → Progress

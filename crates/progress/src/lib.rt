@@ -4,7 +4,7 @@ ghost use mathlib.Core.Bool.{false};
 ghost use mathlib.Core.List.{_++_};
 ghost use Prim.Native.Nat.{_+_, _≤_};
 ghost use lib.ListN.{length, take};
-ghost use Rattle.timecode.specs.Answers.{number};
+ghost use Rattle.timecode.specs.Answers.{refusalNumber};
 ghost use Rattle.lines.specs.Text.{reportLine, refusedLine};
 ghost use Rattle.progress.specs.Progress.{goingOn, oneMore, moreBy, answered, lineFor, stepOf, lineOf};
 use lines::put_text;
@@ -101,7 +101,7 @@ pub fn put_report(out: &mut [u8], at: usize, element: u64, time: Time, control: 
 
 fn put_refused(out: &mut [u8], at: usize, refusal: Refusal) -> usize
     requires { ⌜ (at + 64 ≤ 65536) × (length (now out) ≡ 65536) ⌝ }
-    ensures { λ r. ⌜ (r ≤ at + 64) × (length (now (out .exit)) ≡ 65536) × (take r (now (out .exit)) ≡ take at (now (out .entry)) ++ refusedLine (number refusal)) ⌝ }
+    ensures { λ r. ⌜ (r ≤ at + 64) × (length (now (out .exit)) ≡ 65536) × (take r (now (out .exit)) ≡ take at (now (out .entry)) ++ refusedLine (refusalNumber refusal)) ⌝ }
 {
     let mut line = [0u8; 64];
     let k = refused_line(&mut line, number_of(refusal) as u64);

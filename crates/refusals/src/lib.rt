@@ -1,10 +1,10 @@
 // The number of a refusal, for programs and callers that take numbers alone.
 ghost use mathlib.Core.Path.{_≡_};
-ghost use Rattle.timecode.specs.Answers.{number};
+ghost use Rattle.timecode.specs.Answers.{refusalNumber};
 use timecode::Refusal;
 
 pub fn number_of(refusal: Refusal) -> u8
-    ensures { λ r. ⌜ r ≡ number refusal ⌝ }
+    ensures { λ r. ⌜ r ≡ refusalNumber refusal ⌝ }
 {
     match refusal {
         Refusal::UnknownFormat => 1,

@@ -37,22 +37,22 @@ use Rattle.timecode.specs.declared.Written.{Written}
 use Rattle.timecode.specs.declared.Written.the-variants.{Done}
 
 -- the number of a refusal
-abbrev pub number : Refusal → ℕ
-number UnknownFormat = 1
-number InvalidTime = 2
-number WrongLength = 3
-number UnknownSymbol = 4
-number (MisplacedMark i) = 5
-number (InvalidElement i) = 6
-number InvalidDigit = 7
-number SecondsDiffer = 8
-number ControlTooLong = 9
-number InvalidInterval = 10
-number InvalidYearLength = 11
-number StartPastEnd = 12
-number InvalidReader = 13
-number SecondNotCarried = 14
-number InvalidKind = 15
+abbrev pub refusalNumber : Refusal → ℕ
+refusalNumber UnknownFormat = 1
+refusalNumber InvalidTime = 2
+refusalNumber WrongLength = 3
+refusalNumber UnknownSymbol = 4
+refusalNumber (MisplacedMark i) = 5
+refusalNumber (InvalidElement i) = 6
+refusalNumber InvalidDigit = 7
+refusalNumber SecondsDiffer = 8
+refusalNumber ControlTooLong = 9
+refusalNumber InvalidInterval = 10
+refusalNumber InvalidYearLength = 11
+refusalNumber StartPastEnd = 12
+refusalNumber InvalidReader = 13
+refusalNumber SecondNotCarried = 14
+refusalNumber InvalidKind = 15
 
 -- One check of a call: the answer goes on where it passes, and is that refusal where it fails.
 abbrev pub check : {Any : Type 0} → (Refusal → Any) → Refusal → Bool → Any → Any
@@ -84,7 +84,7 @@ index InvalidKind = []
 
 -- a refusal carries its number, with 5 and 6 the index, and no value beside
 abbrev pub refusalResult : Refusal → Result
-refusalResult r = record { number = number r; values = index r }
+refusalResult r = record { number = refusalNumber r; values = index r }
 
 abbrev pub success : List ℤ → Result
 success vs = record { number = 0; values = vs }

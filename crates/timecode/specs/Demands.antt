@@ -8,7 +8,7 @@ use lib.ListN.{getD, length, replicate, length-replicate}
 use mathlib.Core.Logic.{_↔_, _⊎_, inl, inr}
 use native.Mathlib.Nat.{zero-mod}
 use native.Mathlib.Omega.{arith}
-use Rattle.timecode.specs.Answers.{number}
+use Rattle.timecode.specs.Answers.{refusalNumber}
 use Rattle.timecode.specs.Calls.{classifyListOf, classifyListLeaves}
 use Rattle.timecode.specs.Formats.{member, known, size, interval, lastHundredth, dayLength, onFormat, carriesLeap, secondCarried}
 use Rattle.timecode.specs.Frames.{yearLengths, usual, kinds, dayEnd, sameDay, nextDay, stepOf, Follows, nextAfter, stepBackOf, Precedes, writeOf, writeLeaves, readOf, Sent, Generator, sentAt, dayBefore, following, preceding, onDay, areSymbols, isTime, timeIn, secondsAgree}
@@ -75,7 +75,7 @@ refused-exactly-when-unwritten f bytes = (
 )
 
 -- Read refuses with numbers up to 8 alone, never with 14.
-pub read-refuses-up-to-8 : (f : Format) (frame : List ℕ) (r : Refusal) → readOf f frame ≡ Reading.Refused r → number r ≤ 8
+pub read-refuses-up-to-8 : (f : Format) (frame : List ℕ) (r : Refusal) → readOf f frame ≡ Reading.Refused r → refusalNumber r ≤ 8
 unfolding readOf
 read-refuses-up-to-8 f frame r =
     refused-up-to 8 UnknownFormat (known f) _ r (omega arith)

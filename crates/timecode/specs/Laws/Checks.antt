@@ -3,7 +3,7 @@ use mathlib.Core.Path.{_≡_, refl, subst}
 use mathlib.Core.Bool.{Bool, true, false}
 use Prim.Native.Nat.{ℕ, _≤_}
 use native.Mathlib.Omega.{arith}
-use Rattle.timecode.specs.Answers.{number, check}
+use Rattle.timecode.specs.Answers.{refusalNumber, check}
 use Rattle.timecode.specs.declared.Answer.{Answer}
 use Rattle.timecode.specs.declared.Answer.the-variants.{Quiet, Report}
 use Rattle.timecode.specs.declared.Reading.{Reading}
@@ -55,6 +55,6 @@ by-reading (Reading.Refused x) refused taken = refused x refl
 by-reading (Accepted t w) refused taken = taken t w refl
 
 -- a check of Read that refuses has its own number or a later one's
-pub refused-up-to : (n : ℕ) (k : Refusal) (b : Bool) (a : Reading) (r : Refusal) → number k ≤ n → (a ≡ Reading.Refused r → number r ≤ n) → check Reading.Refused k b a ≡ Reading.Refused r → number r ≤ n
+pub refused-up-to : (n : ℕ) (k : Refusal) (b : Bool) (a : Reading) (r : Refusal) → refusalNumber k ≤ n → (a ≡ Reading.Refused r → refusalNumber r ≤ n) → check Reading.Refused k b a ≡ Reading.Refused r → refusalNumber r ≤ n
 refused-up-to n k true a r h later q = later q
-refused-up-to n k false a r h later q = let p : k ≡ r = cc in subst (λ (x : Refusal). number x ≤ n) p h
+refused-up-to n k false a r h later q = let p : k ≡ r = cc in subst (λ (x : Refusal). refusalNumber x ≤ n) p h

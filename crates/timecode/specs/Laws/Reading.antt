@@ -9,7 +9,7 @@ use native.Mathlib.Omega.{arith}
 use borrow.Author.Tests.{leb-true, leb-false, eqb-true}
 use lib.Dec.{leb, eqb}
 use lib.ListN.{getD, length}
-use Rattle.timecode.specs.Answers.{number}
+use Rattle.timecode.specs.Answers.{refusalNumber}
 use Rattle.timecode.specs.Formats.{known, size, lastDay, lastHundredth, dayLength, rowOf, carriesControl, carriesLeap, OnFormat}
 use Rattle.timecode.specs.Frames.{written, areSymbols, marksAgree, elementFits, checkElements, areDigits, lastSecond, isTime, timeIn, secondsAgree, readOf, Valid}
 use Rattle.timecode.specs.Laws.Checks.{passed, accepted, refused-up-to}
@@ -236,7 +236,7 @@ accepted-was-written f frame t w h =
 
 -- ---- the numbers that Read refuses with
 
-pub elements-up-to : (fillers : ℕ → ℕ) (rs : List Run) (ss : List ℕ) (i : ℕ) (a : Reading) (r : Refusal) → (a ≡ Reading.Refused r → number r ≤ 8) → checkElements fillers rs i ss a ≡ Reading.Refused r → number r ≤ 8
+pub elements-up-to : (fillers : ℕ → ℕ) (rs : List Run) (ss : List ℕ) (i : ℕ) (a : Reading) (r : Refusal) → (a ≡ Reading.Refused r → refusalNumber r ≤ 8) → checkElements fillers rs i ss a ≡ Reading.Refused r → refusalNumber r ≤ 8
 unfolding checkElements
 elements-up-to fillers rs [] i a r later = later
 elements-up-to fillers rs (s ∷ ss) i a r later =
