@@ -12,9 +12,9 @@ use Rattle.timecode.specs.Formats.{size}
 use Rattle.timecode.specs.Frames.{Sent, Generator, elements, sentAt, EndsFrame}
 use Rattle.timecode.specs.Laws.Checks.{refused-no-report}
 use Rattle.timecode.specs.Laws.Generators.{length-elements}
-use Rattle.timecode.specs.Laws.Machine.{feed-accepts, feed-refuses, received-elements, answer-no-refusal, feed-reports, same-answer, same-answers, length-answers, answers-append, answers-behind, feed-at, elements-next, elements-to-newest}
+use Rattle.timecode.specs.Laws.Machine.{feed-accepts, feed-refuses, received-elements, answer-no-refusal, feed-reports, same-answer, same-answers, length-answers, answers-append, answers-after, feed-at, elements-next, elements-to-newest}
 use Rattle.timecode.specs.Laws.Marks.{size-positive}
-use Rattle.timecode.specs.Laws.Streams.{among-le, part-report, part-intact, part-replaced, part-whole, stream-replaced, report, first-report}
+use Rattle.timecode.specs.Laws.Streams.{places-within-le, part-report, part-intact, part-replaced, part-intact-elements, stream-replaced, report, first-report}
 use Rattle.timecode.specs.Stream.{windowLength, plainAnswer, Plain, plainAnswers, plainReceived, elementsOf, IsRefused, IsElement, IsNewest, elementsUpTo, EndsInFrames, SameWindow}
 use Rattle.timecode.specs.declared.Answer.{Answer}
 use Rattle.timecode.specs.declared.Answer.the-variants.{Quiet, Report}
@@ -104,7 +104,7 @@ module _ (f : Format) (sent : List Sent) (gen : Generator f sent) where
       length-take-le (2 * size f + 1) (drop (size f * suc q - 1) (elements f sent)) (omega (arith, length-drop (size f * suc q - 1) (elements f sent))) in
       let u : q + 2 ≡ suc q + 1 = omega arith in
       rw u
-      (part-intact f sent gen start [] before (take (windowLength f) (drop start (elements f sent))) (part-whole f sent start (windowLength f) inside) (omega arith) (λ k b. refl) (suc q) (omega (arith, size-positive f)))
+      (part-intact f sent gen start [] before (take (windowLength f) (drop start (elements f sent))) (part-intact-elements f sent start (windowLength f) inside) (omega arith) (λ k b. refl) (suc q) (omega (arith, size-positive f)))
 
   replaced : (before : List ℕ) (start p x : ℕ) → start + windowLength f ≤ length (elements f sent) → (t : Time) (w : ℕ)
       → plainAnswer f (before ++ set (take (windowLength f) (drop start (elements f sent))) p x) ≡ Report t w → EndsFrame f sent (start + windowLength f) t
@@ -112,7 +112,7 @@ module _ (f : Format) (sent : List Sent) (gen : Generator f sent) where
       let window = set (take (windowLength f) (drop start (elements f sent))) p x in
       let n : length (set (take (windowLength f) (drop start (elements f sent))) p x) ≡ windowLength f =
       length-set (take (windowLength f) (drop start (elements f sent))) p x ∙ length-take-le (windowLength f) (drop start (elements f sent)) (omega (arith, length-drop start (elements f sent))) in
-      rw n at (part-report f sent gen start (p ∷ []) before window (part-replaced f sent start (windowLength f) p x h) (omega arith) (among-le (length window - windowLength f) (windowLength f) (p ∷ [])) t w r)
+      rw n at (part-report f sent gen start (p ∷ []) before window (part-replaced f sent start (windowLength f) p x h) (omega arith) (places-within-le (length window - windowLength f) (windowLength f) (p ∷ [])) t w r)
 
   replaced-in-stream : (start p x : ℕ) → x ≤ 3 → (none : Answer) (i : ℕ) → i < length (set (drop start (elements f sent)) p x) → (t : Time) (w : ℕ)
       → getD (plainAnswers f [] (set (drop start (elements f sent)) p x)) i none ≡ Report t w → EndsFrame f sent (start + suc i) t
@@ -171,8 +171,8 @@ two-readers f ss rs xs first second first-plain second-plain same none = rw (fir
 
     after-them : drop (length ss) (plainAnswers f [] (ss ++ xs)) ≡ drop (length rs) (plainAnswers f [] (rs ++ xs))
     after-them =
-        answers-behind f [] ss xs
+        answers-after f [] ss xs
         ∙ ap (λ (received : List ℕ). plainAnswers f received xs) (holds-the-elements f ss)
         ∙ same-answers f xs (elementsOf ss) (elementsOf rs) same
         ∙ ap (λ (received : List ℕ). plainAnswers f received xs) (sym (holds-the-elements f rs))
-        ∙ sym (answers-behind f [] rs xs)
+        ∙ sym (answers-after f [] rs xs)

@@ -8,7 +8,7 @@ use borrow.Author.Tests.{eqb-true, eqb-false, eq-eqb, ne-eqb}
 use lib.Dec.{eqb}
 use Rattle.timecode.specs.Formats.{interval, OnFormat}
 use Rattle.timecode.specs.Frames.{dayAfter, dayEnd, sameDay, nextDay, following, stepOf, Follows, dayBefore, sameDayBefore, lastBefore, preceding, stepBackOf, Precedes}
-use Rattle.timecode.specs.Laws.Stepping.{time-path, Went, went-to, answers, answers-alike, went, year-range, one-interval, end-whole, usual-end, day-end-range, day-after-inside, Lands, lands, step-on-format}
+use Rattle.timecode.specs.Laws.Stepping.{time-path, Went, went-to, answers, answers-alike, went, year-range, one-interval, end-on-grid, usual-end, day-end-range, day-after-inside, Lands, lands, step-on-format}
 use Rattle.timecode.specs.Laws.Table.{interval-range}
 use Rattle.timecode.specs.Laws.Tests.{by-test}
 use Rattle.timecode.specs.declared.Format.{Format}
@@ -101,7 +101,7 @@ less-grid c s h g = sym (add-mod-right (c - s) s) ∙ ap (λ (x : ℕ). x % s) (
 
 -- the interval fits into every day
 interval-inside : (f : Format) (u : Time) (year kind : ℕ) (v t : Time) → Went f u year kind v t → interval f ≤ dayEnd f kind
-interval-inside f u year kind v t w = one-interval (interval f) (dayEnd f kind) (end-whole f (w .format) kind (w .kind-is)) (omega (arith, w .before))
+interval-inside f u year kind v t w = one-interval (interval f) (dayEnd f kind) (end-on-grid f (w .format) kind (w .kind-is)) (omega (arith, w .before))
 
 -- t passes 2, 14, 11 and 15, and the time after it is u
 abbrev Redone : Format → Time → ℕ → ℕ → Time → Type 0
@@ -129,7 +129,7 @@ redone f u year kind t w (inr p) =
         first = d .0;
         last = omega (arith, d .1, year-range year (w .length-is));
         below = omega (arith, day-end-range f kind);
-        grid = less-grid (dayEnd f kind) (interval f) i (end-whole f (w .format) kind (w .kind-is));
+        grid = less-grid (dayEnd f kind) (interval f) i (end-on-grid f (w .format) kind (w .kind-is));
         carried = λ m. omega (arith, usual-end f kind m);
       },
       d .1,

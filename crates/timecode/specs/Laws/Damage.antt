@@ -60,8 +60,8 @@ module _ (f : Format) (m : ℕ) (sent : List Sent) (gen : Generator f sent) (sta
         ∙ element-at f sent (q + j) i (omega (arith, frames-inside)) h
 
     -- an untouched frame reads as it was sent
-    whole-reads : (j : ℕ) → j ≤ m → ((i : ℕ) → i < size f → member (1 + size f * j + i) places ≡ false) → readOf f (frameIn f window j) ≡ Accepted (sentAt sent (q + j) .time) (sentAt sent (q + j) .control)
-    whole-reads j b d = ap (readOf f) whole ∙ frame-reads f sent gen (q + j) (omega (arith, frames-inside))
+    untouched-reads : (j : ℕ) → j ≤ m → ((i : ℕ) → i < size f → member (1 + size f * j + i) places ≡ false) → readOf f (frameIn f window j) ≡ Accepted (sentAt sent (q + j) .time) (sentAt sent (q + j) .control)
+    untouched-reads j b d = ap (readOf f) whole ∙ frame-reads f sent gen (q + j) (omega (arith, frames-inside))
       where
         n : length (frameIn f window j) ≡ size f
         n = length-frame-in f m window (near .long-is) j b
@@ -106,7 +106,7 @@ module _ (f : Format) (m : ℕ) (sent : List Sent) (gen : Generator f sent) (sta
           (λ i h.
           let y : (1 + size f * j + i - 1) / size f ≡ j = div-eq-of-lt-le (size f) (omega arith) (omega arith) in
           member-map (λ p. (p - 1) / size f) (1 + size f * j + i) places (rw y (x .2))) in
-          let read = whole-reads j b d in
+          let read = untouched-reads j b d in
           let found = c .reads j b in
           let right : c .times j ≡ sentAt sent (q + j) .time = cc in
           let u : j + (m - j) ≡ m = omega arith in
@@ -124,7 +124,7 @@ module _ (f : Format) (m : ℕ) (sent : List Sent) (gen : Generator f sent) (sta
         times = λ j. sentAt sent (q + j) .time;
         controls = λ j. sentAt sent (q + j) .control;
         begins = lead q a;
-        reads = λ j b. whole-reads q a j b (λ i h. clear (1 + size f * j + i) (omega (arith, mul-le-mul-left (size f) b)));
+        reads = λ j b. untouched-reads q a j b (λ i h. clear (1 + size f * j + i) (omega (arith, mul-le-mul-left (size f) b)));
         follows = λ j b. let u : suc (q + j) ≡ q + suc j = omega arith in rw u at (gen .steps (q + j) (omega (arith, frames-inside q a)));
         last-time = refl;
         last-control = refl;

@@ -39,13 +39,13 @@ element-at f (s ∷ ss) (suc j) i h k =
     rw a (getD-append-add (frameOf f s) (elements f ss) (size f * j + i) 0 ∙ element-at f ss j i (omega arith) k)
 
 -- the frame and the index in it of element k
-pub record Standing (f : Format) (sent : List Sent) (k : ℕ) : Type 0 where
+pub record PlaceInFrame (f : Format) (sent : List Sent) (k : ℕ) : Type 0 where
   pub inside : k / size f < length sent
   pub index : k % size f < size f
   pub is : getD (elements f sent) k 0 ≡ getD (frameOf f (sentAt sent (k / size f))) (k % size f) 0
 
-pub standing : (f : Format) (sent : List Sent) (k : ℕ) → k < length (elements f sent) → Standing f sent k
-standing f sent k h =
+pub place-in-frame : (f : Format) (sent : List Sent) (k : ℕ) → k < length (elements f sent) → PlaceInFrame f sent k
+place-in-frame f sent k h =
     let d : size f * (k / size f) + k % size f ≡ k = div-add-mod k (size f) in
     let r : k % size f < size f = mod-lt k (size-positive f) in
     let q : k / size f < length sent = lt-of-mul-lt-mul-left (size f) (omega (arith, length-elements f sent)) in
@@ -74,7 +74,7 @@ element-small f sent k = go (decLt k (length (elements f sent)))
     go : Dec (k < length (elements f sent)) → getD (elements f sent) k 0 ≤ 3
     go (no a) = omega (arith, List·getD-eq-default (elements f sent) 0 {n = k} (omega arith))
     go (yes a) =
-        let p = standing f sent k a in
+        let p = place-in-frame f sent k a in
         let s = sentAt sent (k / size f) in
         let y = at-written f (s .time) (s .control) (k % size f) (p .index) in
         omega (arith, p .is, y, symbol-small f (runs f) (allDigits (fields f) (numbers (s .time) (s .control))) (k % size f))
@@ -98,7 +98,7 @@ marks f sent gen k h = go (decLt k (length (elements f sent)))
     go : Dec (k < length (elements f sent)) → MarkAt (size f) k
     go (no a) = let z : _≡_ {A = ℕ} 0 2 = sym (List·getD-eq-default (elements f sent) 0 {n = k} (omega arith)) ∙ h in let n : ⊥ = omega arith in absurd n
     go (yes a) =
-        let p = standing f sent k a in
+        let p = place-in-frame f sent k a in
         let s = sentAt sent (k / size f) in
         mark-at f k (mark-index (k % size f) (mark-only f (s .time) (s .control) (sent-valid f sent gen (k / size f) (p .inside)) (k % size f) (p .index) (sym (p .is) ∙ h)))
 

@@ -110,9 +110,9 @@ parts-second f s first second l m =
     let a : 1 + size f * 1 ≡ suc (size f) = omega arith in
     rw a (ap (take (size f)) (drop-at first second (size f) l) ∙ take-all (size f) second (omega arith))
 
-last-behind : (k : ℕ) (xs : List ℕ) → xs ≡ take (length xs - k) xs ++ lastOf k xs
+split-at-last : (k : ℕ) (xs : List ℕ) → xs ≡ take (length xs - k) xs ++ lastOf k xs
 unfolding lastOf
-last-behind k xs = sym (take-append-drop (length xs - k) xs)
+split-at-last k xs = sym (take-append-drop (length xs - k) xs)
 
 confirmed-ends : (f : Format) (before window : List ℕ) (t : Time) (w : ℕ) → length window ≡ windowLength f → Confirmed f 1 window t w → EndsInFrames f (before ++ window) t w
 confirmed-ends f before window t w l c =
@@ -132,7 +132,7 @@ pub report-ends : (f : Format) (received : List ℕ) (t : Time) (w : ℕ) → pl
 report-ends f received t w h =
     let l = report-long f received t w h in
     let window = lastOf (windowLength f) received in
-    subst (λ (xs : List ℕ). EndsInFrames f xs t w) (sym (last-behind (windowLength f) received))
+    subst (λ (xs : List ℕ). EndsInFrames f xs t w) (sym (split-at-last (windowLength f) received))
     (confirmed-ends f (take (length received - windowLength f) received) window t w (length-last (windowLength f) received l) (window-confirmed f window t w (sym (answer-long f received l) ∙ h)))
 
 pub ends-report : (f : Format) (received : List ℕ) (t : Time) (w : ℕ) → EndsInFrames f received t w → plainAnswer f received ≡ Report t w
@@ -211,8 +211,8 @@ answers-append f received [] rs = refl
 answers-append f received (s ∷ ss) rs = ap (λ (zs : List Answer). plainFeed f received s .answer ∷ zs) (answers-append f (plainFeed f received s .received) ss rs)
 
 -- the answers behind a list of Feeds
-pub answers-behind : (f : Format) (received ss rs : List ℕ) → drop (length ss) (plainAnswers f received (ss ++ rs)) ≡ plainAnswers f (plainReceived f received ss) rs
-answers-behind f received ss rs = ap (drop (length ss)) (answers-append f received ss rs) ∙ drop-at (plainAnswers f received ss) (plainAnswers f (plainReceived f received ss) rs) (length ss) (length-answers f received ss)
+pub answers-after : (f : Format) (received ss rs : List ℕ) → drop (length ss) (plainAnswers f received (ss ++ rs)) ≡ plainAnswers f (plainReceived f received ss) rs
+answers-after f received ss rs = ap (drop (length ss)) (answers-append f received ss rs) ∙ drop-at (plainAnswers f received ss) (plainAnswers f (plainReceived f received ss) rs) (length ss) (length-answers f received ss)
 
 pub answer-at : (f : Format) (received ss : List ℕ) (none : Answer) → ((k : ℕ) → k < length ss → getD ss k 0 ≤ 3) → (i : ℕ) → i < length ss → getD (plainAnswers f received ss) i none ≡ plainAnswer f (received ++ take (suc i) ss)
 unfolding plainAnswers

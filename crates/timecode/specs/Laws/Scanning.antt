@@ -31,9 +31,9 @@ module _ (f : Format) (recording : List ℕ) where
   here k a t w fit = rw (eq-eqb (getD recording (a - 1) 0) 2 (fit .mark), fit .frame)
 
   -- where the first place does not fit, the later ones decide
-  pub past : (k a : ℕ) → NoFit f recording a → lowestOf f recording (suc k) a ≡ lowestOf f recording k (suc a)
+  pub next-place : (k a : ℕ) → NoFit f recording a → lowestOf f recording (suc k) a ≡ lowestOf f recording k (suc a)
   unfolding lowestOf
-  past k a n =
+  next-place k a n =
       by-test (eqb (getD recording (a - 1) 0) 2)
       (λ y.
       by-reading (readOf f (partAt f recording a))
@@ -77,7 +77,7 @@ module _ (f : Format) (recording : List ℕ) where
       let r : v ≡ w = cc in
       record { from = omega arith; under = omega arith; fits = rw (← p, ← q, ← r) fit; none-before = λ j x y. let n : ⊥ = omega arith in absurd n })
       (λ n.
-      let l = found-lowest k (suc a) b t w (sym (past k a n) ∙ h) in
+      let l = found-lowest k (suc a) b t w (sym (next-place k a n) ∙ h) in
       record { from = omega (arith, l .from); under = omega (arith, l .under); fits = l .fits; none-before = λ j x y. from-first a j x n (λ z. l .none-before j z y) })
 
   pub lowest-found : (k a b : ℕ) (t : Time) (w : ℕ) → Lowest k a b t w → lowestOf f recording k a ≡ Found b t w
@@ -87,7 +87,7 @@ module _ (f : Format) (recording : List ℕ) where
       pick : (Lowest k (suc a) b t w → lowestOf f recording k (suc a) ≡ Found b t w) → Dec (a ≡ b) → lowestOf f recording (suc k) a ≡ Found b t w
       pick later (yes q) = subst (λ (x : ℕ). lowestOf f recording (suc k) x ≡ Found b t w) (sym q) (here k b t w (l .fits))
       pick later (no q) =
-          past k a (l .none-before a (omega arith) (omega (arith, l .from)))
+          next-place k a (l .none-before a (omega arith) (omega (arith, l .from)))
           ∙ later (record { from = omega (arith, l .from); under = omega (arith, l .under); fits = l .fits; none-before = λ j x y. l .none-before j (omega arith) y })
 
   pub none-fits : (k a : ℕ) → lowestOf f recording k a ≡ None → (j : ℕ) → a ≤ j → j < a + k → NoFit f recording j
@@ -95,12 +95,12 @@ module _ (f : Format) (recording : List ℕ) where
   none-fits (suc k) a h j x y =
       fits-or-not a
       (λ t w fit. let z : Found a t w ≡ None = sym (here k a t w fit) ∙ h in let q : _≡_ {A = ℕ} 0 1 = cc in let n : ⊥ = omega arith in absurd n)
-      (λ n. from-first a j x n (λ z. none-fits k (suc a) (sym (past k a n) ∙ h) j z (omega arith)))
+      (λ n. from-first a j x n (λ z. none-fits k (suc a) (sym (next-place k a n) ∙ h) j z (omega arith)))
 
   pub fits-none : (k a : ℕ) → ((j : ℕ) → a ≤ j → j < a + k → NoFit f recording j) → lowestOf f recording k a ≡ None
   unfolding lowestOf
   fits-none zero a n = refl
-  fits-none (suc k) a n = past k a (n a (omega arith) (omega arith)) ∙ fits-none k (suc a) (λ j x y. n j (omega arith) (omega arith))
+  fits-none (suc k) a n = next-place k a (n a (omega arith) (omega arith)) ∙ fits-none k (suc a) (λ j x y. n j (omega arith) (omega arith))
 
   -- a frame that is accepted lies in the recording
   fit-inside : (a : ℕ) (t : Time) (w : ℕ) → FrameAt f recording a t w → a + size f ≤ length recording

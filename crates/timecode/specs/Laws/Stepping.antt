@@ -163,9 +163,9 @@ one-of p (y ∷ ys) h x m =
     (λ n. one-of p ys (and-right (p y) (every p ys) h) x (or-other (eqb x y) (member x ys) n m))
 
 -- every interval divides every day's end
-all-whole : everyFormat (λ f. every (λ kind. eqb (dayEnd f kind % interval f) 0) kinds) ≡ true
+all-on-grid : everyFormat (λ f. every (λ kind. eqb (dayEnd f kind % interval f) 0) kinds) ≡ true
 unfolding everyFormat table rowOf lookUp interval dayEnd dayLengthOf carriesLeap
-all-whole = refl
+all-on-grid = refl
 
 next-multiple : (s x c : ℕ) → x % s ≡ 0 → c % s ≡ 0 → c < x → c + s ≤ x
 next-multiple s x c p q h =
@@ -179,27 +179,27 @@ next-multiple s x c p q h =
 pub one-interval : (s x : ℕ) → x % s ≡ 0 → 0 < x → s ≤ x
 one-interval s x g h = omega (arith, next-multiple s x 0 g (zero-mod s) h)
 
-pub end-whole : (f : Format) → known f ≡ true → (kind : ℕ) → member kind kinds ≡ true → dayEnd f kind % interval f ≡ 0
-end-whole f k kind m =
-    let e = of-every (λ f. every (λ kind. eqb (dayEnd f kind % interval f) 0) kinds) all-whole f k in
+pub end-on-grid : (f : Format) → known f ≡ true → (kind : ℕ) → member kind kinds ≡ true → dayEnd f kind % interval f ≡ 0
+end-on-grid f k kind m =
+    let e = of-every (λ f. every (λ kind. eqb (dayEnd f kind % interval f) 0) kinds) all-on-grid f k in
     eqb-true (dayEnd f kind % interval f) 0 (one-of (λ kind. eqb (dayEnd f kind % interval f) 0) kinds e kind m)
 
 -- on the grid c + S does not pass the day's end but reaches it
 pub carries : (f : Format) → known f ≡ true → (kind : ℕ) → member kind kinds ≡ true → (c : ℕ) → c < dayEnd f kind → c % interval f ≡ 0 → c + interval f ≤ dayEnd f kind
-carries f k kind m c h g = next-multiple (interval f) (dayEnd f kind) c (end-whole f k kind m) g h
+carries f k kind m c h g = next-multiple (interval f) (dayEnd f kind) c (end-on-grid f k kind m) g h
 
 -- where a day may end
-abbrev Ends : ℕ → Type 0
-Ends x = (x ≡ dayLength) ⊎ ((x ≡ 8640100) ⊎ (x ≡ 8639900))
+abbrev IsDayEnd : ℕ → Type 0
+IsDayEnd x = (x ≡ dayLength) ⊎ ((x ≡ 8640100) ⊎ (x ≡ 8639900))
 
-ends : (kind : ℕ) → Ends (dayLengthOf kind)
+ends : (kind : ℕ) → IsDayEnd (dayLengthOf kind)
 unfolding dayLengthOf
 ends kind =
     by-test (eqb kind secondAdded)
     (λ y. rw y (inr (inl refl)))
     (λ m. by-test (eqb kind secondTaken) (λ y. rw (m, y) (inr (inr refl))) (λ n. rw (m, n) (inl refl)))
 
-end-range : (x : ℕ) → Ends x → (8639900 ≤ x) × (x ≤ 8640100)
+end-range : (x : ℕ) → IsDayEnd x → (8639900 ≤ x) × (x ≤ 8640100)
 end-range x (inl p) = omega arith
 end-range x (inr (inl p)) = omega arith
 end-range x (inr (inr p)) = omega arith
@@ -287,7 +287,7 @@ lengths f t y z (inr p) (inl q) h k = rw (p, q) (alike-back f (nextDay t 365) (n
 lengths f t y z (inr p) (inr q) h k = inl (ap (nextDay t) (p ∙ sym q))
 
 -- a day's end before another's is that of a taken second or the usual one
-sooner : (x y : ℕ) → Ends x → Ends y → x < y → (x ≡ 8639900) ⊎ (x ≡ dayLength)
+sooner : (x y : ℕ) → IsDayEnd x → IsDayEnd y → x < y → (x ≡ 8639900) ⊎ (x ≡ dayLength)
 sooner x y (inl p) e l = inr p
 sooner x y (inr (inl p)) e l = let z : ⊥ = omega (arith, end-range y e) in absurd z
 sooner x y (inr (inr p)) e l = inl p

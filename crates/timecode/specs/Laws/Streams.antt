@@ -25,39 +25,39 @@ use Rattle.timecode.specs.declared.Format.{Format}
 use Rattle.timecode.specs.declared.Time.{Time}
 
 -- the symbols are the generator's elements from start on, but perhaps at the places
-pub record Part (f : Format) (sent : List Sent) (start : ℕ) (places symbols : List ℕ) : Type 0 where
+pub record StreamPart (f : Format) (sent : List Sent) (start : ℕ) (places symbols : List ℕ) : Type 0 where
   pub inside : start + length symbols ≤ length (elements f sent)
   pub same : (k : ℕ) → k < length symbols → member k places ≡ false → getD symbols k 0 ≡ getD (elements f sent) (start + k) 0
 
 -- those of the places that are among the n from a on, counted from a
-abbrev pub among : ℕ → ℕ → List ℕ → List ℕ
-among a n [] = []
-among a n (p ∷ ps) = cond (leb a p && ltb p (a + n)) ((p - a) ∷ among a n ps) (among a n ps)
+abbrev pub placesWithin : ℕ → ℕ → List ℕ → List ℕ
+placesWithin a n [] = []
+placesWithin a n (p ∷ ps) = cond (leb a p && ltb p (a + n)) ((p - a) ∷ placesWithin a n ps) (placesWithin a n ps)
 
-pub among-le : (a n : ℕ) (ps : List ℕ) → length (among a n ps) ≤ length ps
-among-le a n [] = omega arith
-among-le a n (p ∷ ps) = by-test (leb a p && ltb p (a + n)) (λ y. rw y (omega (arith, among-le a n ps))) (λ m. rw m (omega (arith, among-le a n ps)))
+pub places-within-le : (a n : ℕ) (ps : List ℕ) → length (placesWithin a n ps) ≤ length ps
+places-within-le a n [] = omega arith
+places-within-le a n (p ∷ ps) = by-test (leb a p && ltb p (a + n)) (λ y. rw y (omega (arith, places-within-le a n ps))) (λ m. rw m (omega (arith, places-within-le a n ps)))
 
-among-member : (a n k : ℕ) (ps : List ℕ) → k < n → member k (among a n ps) ≡ false → member (a + k) ps ≡ false
-among-member a n k [] b h = refl
-among-member a n k (p ∷ ps) b h =
+places-within-member : (a n k : ℕ) (ps : List ℕ) → k < n → member k (placesWithin a n ps) ≡ false → member (a + k) ps ≡ false
+places-within-member a n k [] b h = refl
+places-within-member a n k (p ∷ ps) b h =
     by-test (leb a p && ltb p (a + n))
     (λ y.
     let c = leb-true a p (and-left (leb a p) (ltb p (a + n)) y) in
-    let z : (eqb k (p - a) || member k (among a n ps)) ≡ false = rw y at h in
-    let other : (a + k ≡ p → ⊥) = (λ q. clash (eq-eqb k (p - a) (omega arith)) (neither-first (eqb k (p - a)) (member k (among a n ps)) z)) in
-    rw (ne-eqb (a + k) p other) (among-member a n k ps b (neither-second (eqb k (p - a)) (member k (among a n ps)) z)))
+    let z : (eqb k (p - a) || member k (placesWithin a n ps)) ≡ false = rw y at h in
+    let other : (a + k ≡ p → ⊥) = (λ q. clash (eq-eqb k (p - a) (omega arith)) (neither-first (eqb k (p - a)) (member k (placesWithin a n ps)) z)) in
+    rw (ne-eqb (a + k) p other) (places-within-member a n k ps b (neither-second (eqb k (p - a)) (member k (placesWithin a n ps)) z)))
     (λ m.
-    let z : member k (among a n ps) ≡ false = rw m at h in
+    let z : member k (placesWithin a n ps) ≡ false = rw m at h in
     let other : (a + k ≡ p → ⊥) = (λ q. let y : (leb a p && ltb p (a + n)) ≡ true = rw (le-leb a p (omega arith), lt-ltb p (a + n) (omega arith)) in clash y m) in
-    rw (ne-eqb (a + k) p other) (among-member a n k ps b z))
+    rw (ne-eqb (a + k) p other) (places-within-member a n k ps b z))
 
-module _ (f : Format) (sent : List Sent) (gen : Generator f sent) (start : ℕ) (places before symbols : List ℕ) (part : Part f sent start places symbols) (b : windowLength f ≤ length symbols) where
+module _ (f : Format) (sent : List Sent) (gen : Generator f sent) (start : ℕ) (places before symbols : List ℕ) (part : StreamPart f sent start places symbols) (b : windowLength f ≤ length symbols) where
   abbrev offset : ℕ
   offset = length symbols - windowLength f
 
   abbrev inWindow : List ℕ
-  inWindow = among offset (windowLength f) places
+  inWindow = placesWithin offset (windowLength f) places
 
   window-near : Near f 1 sent (start + offset) inWindow (lastOf (windowLength f) (before ++ symbols))
   unfolding lastOf
@@ -73,7 +73,7 @@ module _ (f : Format) (sent : List Sent) (gen : Generator f sent) (start : ℕ) 
             getD-drop (length (before ++ symbols) - windowLength f) (before ++ symbols) k 0
             ∙ ap (λ (x : ℕ). getD (before ++ symbols) x 0) i
             ∙ getD-append-add before symbols (offset + k) 0
-            ∙ part .same (offset + k) (omega arith) (among-member offset (windowLength f) k places (omega arith) d)
+            ∙ part .same (offset + k) (omega arith) (places-within-member offset (windowLength f) k places (omega arith) d)
             ∙ ap (λ (x : ℕ). getD (elements f sent) x 0) j;
       }
 
@@ -96,7 +96,7 @@ module _ (f : Format) (sent : List Sent) (gen : Generator f sent) (start : ℕ) 
 
 -- ---- consecutive elements, with one replaced
 
-pub part-replaced : (f : Format) (sent : List Sent) (start n p s : ℕ) → start + n ≤ length (elements f sent) → Part f sent start (p ∷ []) (set (take n (drop start (elements f sent))) p s)
+pub part-replaced : (f : Format) (sent : List Sent) (start n p s : ℕ) → start + n ≤ length (elements f sent) → StreamPart f sent start (p ∷ []) (set (take n (drop start (elements f sent))) p s)
 part-replaced f sent start n p s h =
     let xs = take n (drop start (elements f sent)) in
     let l : length (take n (drop start (elements f sent))) ≡ n = length-take-le n (drop start (elements f sent)) (omega (arith, length-drop start (elements f sent))) in
@@ -107,8 +107,8 @@ part-replaced f sent start n p s h =
           getD-set-other xs p k s 0 (λ q. clash (eq-eqb k p q) (neither-first (eqb k p) false d)) ∙ getD-take n (drop start (elements f sent)) k 0 (omega arith) ∙ getD-drop start (elements f sent) k 0;
     }
 
-pub part-whole : (f : Format) (sent : List Sent) (start n : ℕ) → start + n ≤ length (elements f sent) → Part f sent start [] (take n (drop start (elements f sent)))
-part-whole f sent start n h =
+pub part-intact-elements : (f : Format) (sent : List Sent) (start n : ℕ) → start + n ≤ length (elements f sent) → StreamPart f sent start [] (take n (drop start (elements f sent)))
+part-intact-elements f sent start n h =
     let l : length (take n (drop start (elements f sent))) ≡ n = length-take-le n (drop start (elements f sent)) (omega (arith, length-drop start (elements f sent))) in
     record { inside = omega arith; same = λ k a d. getD-take n (drop start (elements f sent)) k 0 (omega arith) ∙ getD-drop start (elements f sent) k 0 }
 
@@ -127,7 +127,7 @@ module _ (f : Format) (sent : List Sent) (gen : Generator f sent) (start : ℕ) 
   so-far : length (take (suc i) stream) ≡ suc i
   so-far = length-take-le (suc i) stream (omega arith)
 
-  part-so-far : Part f sent start places (take (suc i) stream)
+  part-so-far : StreamPart f sent start places (take (suc i) stream)
   part-so-far = record { inside = omega (arith, so-far, is .as-long); same = λ k c d. getD-take (suc i) stream k 0 (omega (arith, so-far)) ∙ is .same k d }
 
   answer-is : answer ≡ plainAnswer f (take (suc i) stream)
@@ -144,7 +144,7 @@ module _ (f : Format) (sent : List Sent) (gen : Generator f sent) (start : ℕ) 
       go (no c) = quiet-no-report t w (sym (early (omega arith)) ∙ r)
       go (yes c) =
           let e =
-          part-report f sent gen start places [] (take (suc i) stream) part-so-far (omega (arith, so-far)) (omega (arith, among-le (length (take (suc i) stream) - windowLength f) (windowLength f) places)) t w (sym answer-is ∙ r) in
+          part-report f sent gen start places [] (take (suc i) stream) part-so-far (omega (arith, so-far)) (omega (arith, places-within-le (length (take (suc i) stream) - windowLength f) (windowLength f) places)) t w (sym answer-is ∙ r) in
           record { frame = e .frame; inside = e .inside; whole = omega (arith, e .whole, so-far); time = e .time }
 
   -- elsewhere than at a frame's end: nothing
@@ -155,10 +155,10 @@ module _ (f : Format) (sent : List Sent) (gen : Generator f sent) (start : ℕ) 
   pub at-end : places ≡ [] → windowLength f ≤ suc i → (q : ℕ) → start + suc i ≡ size f * suc (q + 1) → answer ≡ Report (sentAt sent (q + 1) .time) (sentAt sent (q + 1) .control)
   at-end e c q a =
       answer-is
-      ∙ part-intact f sent gen start places [] (take (suc i) stream) part-so-far (omega (arith, so-far)) (λ k h. ap (λ (ps : List ℕ). member k (among (length (take (suc i) stream) - windowLength f) (windowLength f) ps)) e) q (omega (arith, so-far))
+      ∙ part-intact f sent gen start places [] (take (suc i) stream) part-so-far (omega (arith, so-far)) (λ k h. ap (λ (ps : List ℕ). member k (placesWithin (length (take (suc i) stream) - windowLength f) (windowLength f) ps)) e) q (omega (arith, so-far))
 
-pub stream-whole : (f : Format) (sent : List Sent) (start : ℕ) → Stream f sent start [] (drop start (elements f sent))
-stream-whole f sent start =
+pub stream-intact : (f : Format) (sent : List Sent) (start : ℕ) → Stream f sent start [] (drop start (elements f sent))
+stream-intact f sent start =
     record {
       as-long = length-drop start (elements f sent);
       are-symbols = λ k h. rw (getD-drop start (elements f sent) k 0) (element-small f sent (start + k));
@@ -167,7 +167,7 @@ stream-whole f sent start =
 
 pub stream-replaced : (f : Format) (sent : List Sent) (start p s : ℕ) → s ≤ 3 → Stream f sent start (p ∷ []) (set (drop start (elements f sent)) p s)
 stream-replaced f sent start p s small =
-    let whole = stream-whole f sent start in
+    let whole = stream-intact f sent start in
     record {
       as-long = length-set (drop start (elements f sent)) p s ∙ whole .as-long;
       are-symbols = λ k h. symbol k (omega (arith, length-set (drop start (elements f sent)) p s)) (ℕ-discrete k p);
@@ -176,7 +176,7 @@ stream-replaced f sent start p s small =
   where
     symbol : (k : ℕ) → k < length (drop start (elements f sent)) → Dec (k ≡ p) → getD (set (drop start (elements f sent)) p s) k 0 ≤ 3
     symbol k h (yes q) = rw q (rw (getD-set-same (drop start (elements f sent)) p s 0 (omega arith)) small)
-    symbol k h (no q) = rw (getD-set-other (drop start (elements f sent)) p k s 0 q) (stream-whole f sent start .are-symbols k h)
+    symbol k h (no q) = rw (getD-set-other (drop start (elements f sent)) p k s 0 q) (stream-intact f sent start .are-symbols k h)
 
 -- ---- joining an undamaged stream
 
@@ -189,13 +189,13 @@ first-report f sent gen q i h b none =
     let e : length (elements f sent) ≡ size f * length sent = length-elements f sent in
     let l : length (drop (size f * q + i) (elements f sent)) ≡ length (elements f sent) - (size f * q + i) = length-drop (size f * q + i) (elements f sent) in (
       λ j c. quiet j c (omega arith) (decLe (windowLength f) (suc j)),
-      at-end f sent gen (size f * q + i) [] (drop (size f * q + i) (elements f sent)) (stream-whole f sent (size f * q + i)) none (3 * size f - i - 1) (omega arith) refl (omega arith) (suc q) (omega arith),
+      at-end f sent gen (size f * q + i) [] (drop (size f * q + i) (elements f sent)) (stream-intact f sent (size f * q + i)) none (3 * size f - i - 1) (omega arith) refl (omega arith) (suc q) (omega arith),
     )
   where
     quiet : (j : ℕ) → suc j < 3 * size f - i → j < length (drop (size f * q + i) (elements f sent)) → Dec (windowLength f ≤ suc j) → getD (plainAnswers f [] (drop (size f * q + i) (elements f sent))) j none ≡ Quiet
-    quiet j c k (no z) = early f sent gen (size f * q + i) [] (drop (size f * q + i) (elements f sent)) (stream-whole f sent (size f * q + i)) none j k (omega arith)
+    quiet j c k (no z) = early f sent gen (size f * q + i) [] (drop (size f * q + i) (elements f sent)) (stream-intact f sent (size f * q + i)) none j k (omega arith)
     quiet j c k (yes z) =
-        between f sent gen (size f * q + i) [] (drop (size f * q + i) (elements f sent)) (stream-whole f sent (size f * q + i)) none j k (omega arith)
+        between f sent gen (size f * q + i) [] (drop (size f * q + i) (elements f sent)) (stream-intact f sent (size f * q + i)) none j k (omega arith)
         (λ p a.
         let u : suc q + 1 < suc p = lt-of-mul-lt-mul-left (size f) (omega arith) in
         let v : suc p < suc (suc q + 1) = lt-of-mul-lt-mul-left (size f) (omega arith) in

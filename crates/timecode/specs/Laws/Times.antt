@@ -53,13 +53,13 @@ one-added c a b =
     let q : c / 100 ≡ 86400 = omega arith in
     rw (z, q) (refl, refl, refl)
 
-abbrev Fits : ℕ → Type 0
-Fits l = (e : ℕ) (t : Time) → OnFormat (at l e) t → Small (flatten (timeFields (at l e))) (allDigits (timeFields (at l e)) (timeNumbers t))
+abbrev FitsLetter : ℕ → Type 0
+FitsLetter l = (e : ℕ) (t : Time) → OnFormat (at l e) t → Small (flatten (timeFields (at l e))) (allDigits (timeFields (at l e)) (timeNumbers t))
 
-fits : (f : Format) → known f ≡ true → Fits (f .letter)
+fits : (f : Format) → known f ≡ true → FitsLetter (f .letter)
 unfolding timeFields seconds minutes hours days tenths hundredths timeNumbers interval rowOf lookUp table carriesLeap
 fits =
-    by-letter Fits (λ e t o. omega arith) (λ e t o. omega arith)
+    by-letter FitsLetter (λ e t o. omega arith) (λ e t o. omega arith)
     (λ e t o. rw (none-added (t .hundredths) (o .carried refl) .0, none-added (t .hundredths) (o .carried refl) .1, none-added (t .hundredths) (o .carried refl) .2) (omega arith))
     (λ e t o. rw (none-added (t .hundredths) (o .carried refl) .0, none-added (t .hundredths) (o .carried refl) .1, none-added (t .hundredths) (o .carried refl) .2) (omega arith))
     (λ e t o. omega arith)

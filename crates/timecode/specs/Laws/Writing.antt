@@ -134,14 +134,14 @@ module _ (f : Format) (t : Time) (w : ℕ) (v : Valid f t w) where
       fields-together frame (timeFields f) (timeNumbers t)
       (sym (decoded .0), (sym (decoded .1 .0), (sym (decoded .1 .1 .0), (sym (decoded .1 .1 .1 .0), (sym (decoded .1 .1 .1 .1 .0), (sym (decoded .1 .1 .1 .1 .1 .0), tt))))))
 
-  digits-said : areDigits frame (flatten (timeFields f)) ≡ true
-  digits-said = digits-are frame (flatten (timeFields f)) (subst AreDigits time-decoded (time-digits f t))
+  digits-pass : areDigits frame (flatten (timeFields f)) ≡ true
+  digits-pass = digits-are frame (flatten (timeFields f)) (subst AreDigits time-decoded (time-digits f t))
 
-  time-said : isTime f frame ≡ true
+  time-passes : isTime f frame ≡ true
   unfolding isTime
-  time-said =
+  time-passes =
       rw (
-        digits-said,
+        digits-pass,
         hour-back,
         minute-back,
         second-back,
@@ -153,9 +153,9 @@ module _ (f : Format) (t : Time) (w : ℕ) (v : Valid f t w) where
         le-leb (t .day) lastDay (v .time .last),
       )
 
-  seconds-said : secondsAgree f frame ≡ true
+  seconds-pass : secondsAgree f frame ≡ true
   unfolding secondsAgree
-  seconds-said =
+  seconds-pass =
       by-test (hasSeconds f)
       (λ y. rw (y, time-back) (eq-eqb (numberIn frame (straightSeconds f)) (t .hundredths / 100) (straight-back y)))
       (λ m. rw m)
@@ -167,8 +167,8 @@ module _ (f : Format) (t : Time) (w : ℕ) (v : Valid f t w) where
       ∙ passes Reading.Refused WrongLength (eqb (length frame) (size f)) _ (eq-eqb (length frame) (size f) (length-written f t w))
       ∙ passes Reading.Refused UnknownSymbol (areSymbols frame) _ (written-symbols f t w)
       ∙ elements-pass (filler f) (runs f) frame 0 _ (λ i h. rw (zero-add i) (encode-clean (size f) (filler f) (runs f) (allDigits (fields f) (numbers t w)) (small-length (runs f) (allDigits (fields f) (numbers t w)) written-small) i (rw (length-written f t w) at h)))
-      ∙ passes Reading.Refused InvalidDigit (isTime f frame) _ time-said
-      ∙ passes Reading.Refused SecondsDiffer (secondsAgree f frame) _ seconds-said
+      ∙ passes Reading.Refused InvalidDigit (isTime f frame) _ time-passes
+      ∙ passes Reading.Refused SecondsDiffer (secondsAgree f frame) _ seconds-pass
       ∙ ap₂ Accepted time-back control-back
 
 -- ---- Write's answer
