@@ -35,8 +35,8 @@ abbrev pub stopped : Stop → Block
 stopped why = record { taken = 0; reports = []; stop = why }
 
 -- one symbol more in front, with what it reported
-abbrev pub onward : List Reported → Block → Block
-onward rs b = record { taken = suc (b .taken); reports = rs ++ b .reports; stop = b .stop }
+abbrev pub withFirst : List Reported → Block → Block
+withFirst rs b = record { taken = suc (b .taken); reports = rs ++ b .reports; stop = b .stop }
 
 abbrev pub reportAt : ℕ → Time → ℕ → Reported
 reportAt i t w = record { index = i; time = t; control = w }
@@ -44,10 +44,10 @@ reportAt i t w = record { index = i; time = t; control = w }
 -- The Feeds with these answers, the first of them at index i, and room for so many reports: it stops only before the first that is refused or whose report would not fit.
 unfoldable pub blockIn : ℕ → ℕ → List Answer → Block
 blockIn i room [] = stopped AllTaken
-blockIn i room (Quiet ∷ as′) = onward [] (blockIn (suc i) room as′)
+blockIn i room (Quiet ∷ as′) = withFirst [] (blockIn (suc i) room as′)
 blockIn i room (Answer.Refused x ∷ as′) = stopped UnknownSymbol
 blockIn i zero (Report t w ∷ as′) = stopped NoRoom
-blockIn i (suc room) (Report t w ∷ as′) = onward (reportAt i t w ∷ []) (blockIn (suc i) room as′)
+blockIn i (suc room) (Report t w ∷ as′) = withFirst (reportAt i t w ∷ []) (blockIn (suc i) room as′)
 
 -- the block of a valid reader
 abbrev pub blockOf : Reader → ℕ → List ℕ → Block

@@ -21,7 +21,7 @@ use Rattle.stream.specs.Feeding.{isValid, answerOf}
 use Rattle.stream.specs.Refinement.{answers, readerAfter}
 use Rattle.stream.specs.declared.Reader.{Reader}
 use Rattle.stream.specs.FeedLists.{answers-append, reader-append, length-answers, answers-take, answers-at, valid-after, refused-above, quiet-no-refusal, above-refused}
-use Rattle.block.specs.Blocks.{Reported, reportAt, Block, onward, blockIn, blockOf, Lists, areRecords, fieldLeft, indexOf, dayOf, hundredthsOf, controlOf, listsLeft, recordAt, recordsIn, answersFrom, blockFor, blockAnswer, feedBlockOf}
+use Rattle.block.specs.Blocks.{Reported, reportAt, Block, withFirst, blockIn, blockOf, Lists, areRecords, fieldLeft, indexOf, dayOf, hundredthsOf, controlOf, listsLeft, recordAt, recordsIn, answersFrom, blockFor, blockAnswer, feedBlockOf}
 use Rattle.block.specs.declared.BlockAnswer.{BlockAnswer}
 use Rattle.block.specs.declared.Stop.{Stop}
 use Rattle.block.specs.declared.Stop.the-variants.{AllTaken, UnknownSymbol, NoRoom}
@@ -49,10 +49,10 @@ pub record Takes (i room : ℕ) (as′ : List Answer) (b : Block) : Type 0 where
   pub refused-none : (k : ℕ) → k < b .taken → (x : Refusal) (none : Answer) → getD as′ k none ≡ Answer.Refused x → ⊥
   pub stops : StopsFor (b .stop) room as′ (b .taken) (length (b .reports))
 
-stops-onward : (why : Stop) (room longer : ℕ) (a : Answer) (as′ : List Answer) (taken reports more : ℕ) → (reports ≡ room → more ≡ longer) → StopsFor why room as′ taken reports → StopsFor why longer (a ∷ as′) (suc taken) more
-stops-onward AllTaken room longer a as′ taken reports more e h = ap suc h
-stops-onward UnknownSymbol room longer a as′ taken reports more e h = (omega (arith, h .0), h .1)
-stops-onward NoRoom room longer a as′ taken reports more e h = (omega (arith, h .0), e (h .1), h .2)
+stops-with-first : (why : Stop) (room longer : ℕ) (a : Answer) (as′ : List Answer) (taken reports more : ℕ) → (reports ≡ room → more ≡ longer) → StopsFor why room as′ taken reports → StopsFor why longer (a ∷ as′) (suc taken) more
+stops-with-first AllTaken room longer a as′ taken reports more e h = ap suc h
+stops-with-first UnknownSymbol room longer a as′ taken reports more e h = (omega (arith, h .0), h .1)
+stops-with-first NoRoom room longer a as′ taken reports more e h = (omega (arith, h .0), e (h .1), h .2)
 
 refused-later : (a : Answer) (as′ : List Answer) (taken : ℕ) → ((x : Refusal) → a ≡ Answer.Refused x → ⊥) → ((k : ℕ) → k < taken → (x : Refusal) (none : Answer) → getD as′ k none ≡ Answer.Refused x → ⊥)
     → (k : ℕ) → k < suc taken → (x : Refusal) (none : Answer) → getD (a ∷ as′) k none ≡ Answer.Refused x → ⊥
@@ -71,7 +71,7 @@ block-takes i room (Quiet ∷ as′) =
       fits = later .fits;
       reported = later .reported;
       refused-none = refused-later Quiet as′ (rest .taken) quiet-no-refusal (later .refused-none);
-      stops = stops-onward (rest .stop) room room Quiet as′ (rest .taken) (length (rest .reports)) (length (rest .reports)) (λ e. e) (later .stops);
+      stops = stops-with-first (rest .stop) room room Quiet as′ (rest .taken) (length (rest .reports)) (length (rest .reports)) (λ e. e) (later .stops);
     }
 block-takes i room (Answer.Refused x ∷ as′) =
     record { within = omega arith; fits = omega arith; reported = refl; refused-none = λ k h. absurd (not-suc-le-zero h); stops = (omega arith, (x, λ none. refl)) }
@@ -85,7 +85,7 @@ block-takes i (suc room) (Report t w ∷ as′) =
       fits = omega (arith, later .fits);
       reported = ap (λ (rs : List Reported). reportAt i t w ∷ rs) (later .reported);
       refused-none = refused-later (Report t w) as′ (rest .taken) (λ x e. refused-no-report x t w (sym e)) (later .refused-none);
-      stops = stops-onward (rest .stop) room (suc room) (Report t w) as′ (rest .taken) (length (rest .reports)) (suc (length (rest .reports))) (λ e. ap suc e) (later .stops);
+      stops = stops-with-first (rest .stop) room (suc room) (Report t w) as′ (rest .taken) (length (rest .reports)) (suc (length (rest .reports))) (λ e. ap suc e) (later .stops);
     }
 
 -- ---- the lent list afterwards
@@ -96,9 +96,9 @@ unfolding fieldLeft
 left-first field b entries k h = List·getD-append (map field (b .reports)) _ 0 k (omega (arith, length-map (b .reports) field))
 
 -- The entries past the last report are as they were.
-pub left-past : (field : Reported → ℕ) (b : Block) (entries : List ℕ) (k : ℕ) → getD (fieldLeft field b entries) (length (b .reports) + k) 0 ≡ getD entries (length (b .reports) + k) 0
+pub left-after : (field : Reported → ℕ) (b : Block) (entries : List ℕ) (k : ℕ) → getD (fieldLeft field b entries) (length (b .reports) + k) 0 ≡ getD entries (length (b .reports) + k) 0
 unfolding fieldLeft
-left-past field b entries k =
+left-after field b entries k =
     let xs = map field (b .reports) in
     let n = length (b .reports) in
     ap (λ (m : ℕ). getD (xs ++ drop n entries) (m + k) 0) (sym (length-map (b .reports) field)) ∙ getD-append-add xs (drop n entries) k 0 ∙ getD-drop n entries k 0
@@ -156,12 +156,12 @@ unfolding blockIn
 block-later k i room [] = refl
 block-later k i room (Quiet ∷ as′) =
     let next : k + suc i ≡ suc (k + i) = omega arith in
-    ap (onward []) (rw next at (block-later k (suc i) room as′))
+    ap (withFirst []) (rw next at (block-later k (suc i) room as′))
 block-later k i room (Answer.Refused x ∷ as′) = refl
 block-later k i zero (Report t w ∷ as′) = refl
 block-later k i (suc room) (Report t w ∷ as′) =
     let next : k + suc i ≡ suc (k + i) = omega arith in
-    ap (onward (reportAt (k + i) t w ∷ [])) (rw next at (block-later k (suc i) room as′))
+    ap (withFirst (reportAt (k + i) t w ∷ [])) (rw next at (block-later k (suc i) room as′))
 
 -- a block and the one after it: where the first stopped before its end, nothing follows
 abbrev pub followed : Stop → Block → Block → Block
@@ -169,10 +169,10 @@ followed AllTaken b c = record { taken = b .taken + c .taken; reports = b .repor
 followed UnknownSymbol b c = b
 followed NoRoom b c = b
 
-onward-followed : (why : Stop) (rs : List Reported) (b c : Block) → followed why (onward rs b) c ≡ onward rs (followed why b c)
-onward-followed AllTaken rs b c = ap₂ (λ (k : ℕ) (qs : List Reported). record { taken = k; reports = qs; stop = c .stop }) (suc-add (b .taken) (c .taken)) (append-assoc rs (b .reports) (c .reports))
-onward-followed UnknownSymbol rs b c = refl
-onward-followed NoRoom rs b c = refl
+with-first-followed : (why : Stop) (rs : List Reported) (b c : Block) → followed why (withFirst rs b) c ≡ withFirst rs (followed why b c)
+with-first-followed AllTaken rs b c = ap₂ (λ (k : ℕ) (qs : List Reported). record { taken = k; reports = qs; stop = c .stop }) (suc-add (b .taken) (c .taken)) (append-assoc rs (b .reports) (c .reports))
+with-first-followed UnknownSymbol rs b c = refl
+with-first-followed NoRoom rs b c = refl
 
 pub block-append : (i room : ℕ) (as′ bs : List Answer)
     → blockIn i room (as′ ++ bs) ≡ followed (blockIn i room as′ .stop) (blockIn i room as′) (blockIn (i + length as′) (room - length (blockIn i room as′ .reports)) bs)
@@ -184,7 +184,7 @@ block-append i room [] bs =
 block-append i room (Quiet ∷ as′) bs =
     let first = blockIn (suc i) room as′ in
     let place : i + suc (length as′) ≡ suc i + length as′ = omega arith in
-    rw place (ap (onward []) (block-append (suc i) room as′ bs) ∙ sym (onward-followed (first .stop) [] first (blockIn (suc i + length as′) (room - length (first .reports)) bs)))
+    rw place (ap (withFirst []) (block-append (suc i) room as′ bs) ∙ sym (with-first-followed (first .stop) [] first (blockIn (suc i + length as′) (room - length (first .reports)) bs)))
 block-append i room (Answer.Refused x ∷ as′) bs = refl
 block-append i zero (Report t w ∷ as′) bs = refl
 block-append i (suc room) (Report t w ∷ as′) bs =
@@ -192,8 +192,8 @@ block-append i (suc room) (Report t w ∷ as′) bs =
     let place : i + suc (length as′) ≡ suc i + length as′ = omega arith in
     let left : suc room - suc (length (first .reports)) ≡ room - length (first .reports) = omega arith in
     rw (place, left)
-    (ap (onward (reportAt i t w ∷ [])) (block-append (suc i) room as′ bs)
-    ∙ sym (onward-followed (first .stop) (reportAt i t w ∷ []) first (blockIn (suc i + length as′) (room - length (first .reports)) bs)))
+    (ap (withFirst (reportAt i t w ∷ [])) (block-append (suc i) room as′ bs)
+    ∙ sym (with-first-followed (first .stop) (reportAt i t w ∷ []) first (blockIn (suc i + length as′) (room - length (first .reports)) bs)))
 
 -- Splitting a block anywhere and feeding the parts one after the other gives the same symbols taken, reports and stop.
 pub split-block : (r : Reader) (room : ℕ) (ss rs : List ℕ)

@@ -7,7 +7,7 @@ ghost use lib.ListN.{length};
 ghost use Rattle.stream.specs.Feeding.{isValid};
 ghost use Rattle.block.specs.Blocks.{lists, blockFor, feedBlockOf, listsLeft};
 ghost use Rattle.block_part.specs.Rounds.{putFrom, Even, partOf, roundOf};
-ghost use Rattle.block_feed.specs.Whole.{refusedBlock, takenBlock};
+ghost use Rattle.block_feed.specs.FeedBlocks.{refusedBlock, takenBlock};
 use block::BlockAnswer;
 use block::FedBlock;
 use block::Stop;

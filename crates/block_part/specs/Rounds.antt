@@ -16,7 +16,7 @@ use Rattle.stream.specs.Refinement.{answers, readerAfter}
 use Rattle.stream.specs.declared.Reader.{Reader}
 use Rattle.parts.specs.Behind.{reader-start}
 use Rattle.stream.specs.FeedLists.{answers-at, length-answers, reader-append}
-use Rattle.block.specs.Blocks.{Reported, reportAt, Block, stopped, onward, blockIn, Lists, lists, roomIn, fieldLeft, indexOf, dayOf, hundredthsOf, controlOf, listsLeft}
+use Rattle.block.specs.Blocks.{Reported, reportAt, Block, stopped, withFirst, blockIn, Lists, lists, roomIn, fieldLeft, indexOf, dayOf, hundredthsOf, controlOf, listsLeft}
 use Rattle.block.specs.Folds.{followed, block-append, block-takes, all-taken}
 use Rattle.block_part.specs.declared.Round.{Round}
 use Rattle.block.specs.declared.Stop.{Stop}
@@ -164,10 +164,10 @@ module _ (from room : ℕ) (as′ : List Answer) where
       left-is a is = sym (take-append-drop i as′) ∙ ap (λ (xs : List Answer). take i as′ ++ xs) (drop-cons as′ i none h ∙ ap (λ (x : Answer). x ∷ drop (suc i) as′) is)
 
       -- the next answer is taken, with what it reports
-      goes-on : (a : Answer) (more : List Reported) → getD as′ i none ≡ a → blockIn (from + i) left (a ∷ []) ≡ onward more (stopped AllTaken)
+      goes-on : (a : Answer) (more : List Reported) → getD as′ i none ≡ a → blockIn (from + i) left (a ∷ []) ≡ withFirst more (stopped AllTaken)
           → Reached (suc i) × (soFar (suc i) ≡ soFar i ++ (more ++ []))
       goes-on a more is e =
-          let whole : blockIn from room (take (suc i) as′) ≡ followed AllTaken first (onward more (stopped AllTaken)) =
+          let whole : blockIn from room (take (suc i) as′) ≡ followed AllTaken first (withFirst more (stopped AllTaken)) =
           ap (blockIn from room) (next-is a is) ∙ going-on (a ∷ []) ∙ ap (followed AllTaken first) e in
           ((omega arith, ap (λ (b : Block). b .stop) whole), ap (λ (b : Block). b .reports) whole)
 
@@ -196,10 +196,10 @@ module _ (from room : ℕ) (as′ : List Answer) where
 taken-reached : (from room : ℕ) (as′ : List Answer) → blockIn from room (take (blockIn from room as′ .taken) as′) ≡ record { taken = blockIn from room as′ .taken; reports = blockIn from room as′ .reports; stop = AllTaken }
 unfolding blockIn
 taken-reached from room [] = refl
-taken-reached from room (Quiet ∷ as′) = ap (onward []) (taken-reached (suc from) room as′)
+taken-reached from room (Quiet ∷ as′) = ap (withFirst []) (taken-reached (suc from) room as′)
 taken-reached from room (Answer.Refused x ∷ as′) = refl
 taken-reached from zero (Report t w ∷ as′) = refl
-taken-reached from (suc room) (Report t w ∷ as′) = ap (onward (reportAt from t w ∷ [])) (taken-reached (suc from) room as′)
+taken-reached from (suc room) (Report t w ∷ as′) = ap (withFirst (reportAt from t w ∷ [])) (taken-reached (suc from) room as′)
 
 stopped-stays : (why : Stop) (b c : Block) → (why ≡ AllTaken → ⊥) → followed why b c ≡ b
 stopped-stays AllTaken b c h = absurd (h refl)

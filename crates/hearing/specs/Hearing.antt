@@ -15,7 +15,7 @@ use Rattle.stream.specs.Feeding.{isValid, nextOf, answerOf, feedOf}
 use Rattle.stream.specs.Refinement.{answers, readerAfter}
 use Rattle.stream.specs.declared.Reader.{Reader}
 use Rattle.stream.specs.FeedLists.{length-answers}
-use Rattle.block.specs.Blocks.{Reported, reportAt, Block, stopped, onward, blockIn, blockOf, Lists, roomIn, areRecords, fieldLeft, indexOf, dayOf, hundredthsOf, controlOf, listsLeft, blockFor, blockAnswer, feedBlockOf}
+use Rattle.block.specs.Blocks.{Reported, reportAt, Block, stopped, withFirst, blockIn, blockOf, Lists, roomIn, areRecords, fieldLeft, indexOf, dayOf, hundredthsOf, controlOf, listsLeft, blockFor, blockAnswer, feedBlockOf}
 use Rattle.block.specs.Folds.{block-takes, left-first}
 use Rattle.block.specs.declared.BlockAnswer.{BlockAnswer}
 use Rattle.block.specs.declared.FedBlock.{FedBlock}
@@ -115,7 +115,7 @@ module _ (e i : ℕ) (p : Progress) (s : ℕ) (ss : List ℕ) (g : p .ended ≡ 
   place-on : oneMore (p .elements) ≡ moreBy (suc i) e
   place-on = ap oneMore place ∙ more-last i e
 
-  heard-more : (n : ℕ) (rs : List Reported) (b : Block) → stepOf p s ≡ further n → moreBy (length (b .reports)) n ≡ moreBy (length (rs ++ b .reports)) (p .reports) → lineOf p s ≡ recordLines e rs → Heard e (further n) ss b → Heard e p (s ∷ ss) (onward rs b)
+  heard-more : (n : ℕ) (rs : List Reported) (b : Block) → stepOf p s ≡ further n → moreBy (length (b .reports)) n ≡ moreBy (length (rs ++ b .reports)) (p .reports) → lineOf p s ≡ recordLines e rs → Heard e (further n) ss b → Heard e p (s ∷ ss) (withFirst rs b)
   unfolding afterFeeds textFeeds readerAfter feedOf moreBy
   heard-more n rs b step reports line rest =
       record {

@@ -3,7 +3,7 @@ use borrow.Author.Needs.{needs}
 use mathlib.Core.Path.{sym, _∙_}
 use Rattle.timecode.specs.declared.Refusal.the-variants.{WrongLength, InvalidReader}
 use Rattle.block.specs.Blocks.{blockAnswer, lists}
-use Rattle.block_feed.specs.Whole.{records-even, block-refused, block-taken}
+use Rattle.block_feed.specs.FeedBlocks.{records-even, block-refused, block-taken}
 use Rattle.block_feed.proofs.feed_block.Statement.{statement}
 use Rattle.block_feed.proofs.feed_block.Tie as tie
 use Rattle.block_feed.proofs.feed_block.Reads as reads

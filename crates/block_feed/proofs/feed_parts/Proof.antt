@@ -5,7 +5,7 @@ use Prim.Native.Nat.{_-_}
 use lib.ListN.{length}
 use Rattle.block.specs.Blocks.{lists}
 use Rattle.block_part.specs.Rounds.{FedTo, fed-start, fed-end, standing-long}
-use Rattle.block_feed.specs.Whole.{part-asks, part-within, part-fed, part-ends}
+use Rattle.block_feed.specs.FeedBlocks.{part-asks, part-within, part-fed, part-ends}
 use Rattle.block_feed.proofs.feed_parts.Statement.{statement}
 use Rattle.block_feed.proofs.feed_parts.Tie as tie
 use Rattle.block_feed.proofs.feed_parts.Reads as reads
