@@ -21,8 +21,8 @@ use Rattle.block.specs.declared.BlockAnswer.{BlockAnswer}
 use Rattle.block.specs.declared.FedBlock.{FedBlock}
 use Rattle.block.specs.declared.Stop.{Stop}
 use Rattle.block.specs.declared.Stop.the-variants.{AllTaken, UnknownSymbol, NoRoom}
-use Rattle.progress.specs.Progress.{goingOn, oneMore, moreBy, answered, lineFor, stepOf, lineOf, afterFeeds, textFeeds}
-use Rattle.progress.specs.Steps.{after-append, text-append, step-fed, going-on, ended-stays, ended-silent}
+use Rattle.progress.specs.Progress.{runningAt, oneMore, moreBy, answered, answerLine, afterFeed, feedLine, afterFeeds, textFeeds}
+use Rattle.progress.specs.Steps.{after-append, text-append, step-fed, running-at, ended-stays, ended-no-text}
 use Rattle.progress.specs.declared.Progress.{Progress}
 
 -- ---- the lines of records
@@ -92,12 +92,12 @@ module _ (b : Block) (l : Lists) where
 
 -- the progress after them, and their lines
 pub record Heard (e : ℕ) (p : Progress) (ss : List ℕ) (b : Block) : Type 0 where
-  pub reached : afterFeeds p (take (b .taken) ss) ≡ goingOn (readerAfter (p .reader) (take (b .taken) ss)) (moreBy (b .taken) (p .elements)) (moreBy (length (b .reports)) (p .reports))
+  pub reached : afterFeeds p (take (b .taken) ss) ≡ runningAt (readerAfter (p .reader) (take (b .taken) ss)) (moreBy (b .taken) (p .elements)) (moreBy (length (b .reports)) (p .reports))
   pub told : textFeeds p (take (b .taken) ss) ≡ recordLines e (b .reports)
 
 heard-none : (why : Stop) (e : ℕ) (p : Progress) (ss : List ℕ) → p .ended ≡ false → Heard e p ss (stopped why)
 unfolding afterFeeds textFeeds readerAfter moreBy recordLines
-heard-none why e p ss g = record { reached = sym (going-on p g); told = refl }
+heard-none why e p ss g = record { reached = sym (running-at p g); told = refl }
 
 more-last : (k e : ℕ) → oneMore (moreBy k e) ≡ moreBy (suc k) e
 unfolding moreBy
@@ -110,30 +110,30 @@ module _ (e i : ℕ) (p : Progress) (s : ℕ) (ss : List ℕ) (g : p .ended ≡ 
   next = nextOf (p .reader) s
 
   abbrev further : ℕ → Progress
-  further n = goingOn next (oneMore (p .elements)) n
+  further n = runningAt next (oneMore (p .elements)) n
 
   place-on : oneMore (p .elements) ≡ moreBy (suc i) e
   place-on = ap oneMore place ∙ more-last i e
 
-  heard-more : (n : ℕ) (rs : List Reported) (b : Block) → stepOf p s ≡ further n → moreBy (length (b .reports)) n ≡ moreBy (length (rs ++ b .reports)) (p .reports) → lineOf p s ≡ recordLines e rs → Heard e (further n) ss b → Heard e p (s ∷ ss) (withFirst rs b)
+  heard-more : (n : ℕ) (rs : List Reported) (b : Block) → afterFeed p s ≡ further n → moreBy (length (b .reports)) n ≡ moreBy (length (rs ++ b .reports)) (p .reports) → feedLine p s ≡ recordLines e rs → Heard e (further n) ss b → Heard e p (s ∷ ss) (withFirst rs b)
   unfolding afterFeeds textFeeds readerAfter feedOf moreBy
   heard-more n rs b step reports line rest =
       record {
-        reached = ap (λ (x : Progress). afterFeeds x (take (b .taken) ss)) step ∙ rest .reached ∙ ap (goingOn (readerAfter next (take (b .taken) ss)) (moreBy (b .taken) (oneMore (p .elements)))) reports;
+        reached = ap (λ (x : Progress). afterFeeds x (take (b .taken) ss)) step ∙ rest .reached ∙ ap (runningAt (readerAfter next (take (b .taken) ss)) (moreBy (b .taken) (oneMore (p .elements)))) reports;
         told = ap₂ (λ (x y : List ℕ). x ++ y) line (ap (λ (x : Progress). textFeeds x (take (b .taken) ss)) step ∙ rest .told) ∙ sym (lines-append e rs (b .reports));
       }
 
   heard-fed : (room : ℕ) (a : Answer) → answerOf (p .reader) s ≡ a → ((n left : ℕ) → Heard e (further n) ss (blockIn (suc i) left (answers next ss))) → Heard e p (s ∷ ss) (blockIn i room (a ∷ answers next ss))
   unfolding blockIn moreBy recordLines
   heard-fed room Quiet a rest =
-      let step : stepOf p s ≡ further (p .reports) = step-fed p s g .0 ∙ ap (answered p next) a in
+      let step : afterFeed p s ≡ further (p .reports) = step-fed p s g .0 ∙ ap (answered p next) a in
       heard-more (p .reports) [] (blockIn (suc i) room (answers next ss)) step refl (step-fed p s g .1 ∙ rw a) (rest (p .reports) room)
   heard-fed room (Answer.Refused x) a rest = heard-none UnknownSymbol e p (s ∷ ss) g
   heard-fed zero (Report t w) a rest = heard-none NoRoom e p (s ∷ ss) g
   heard-fed (suc room) (Report t w) a rest =
-      let step : stepOf p s ≡ further (oneMore (p .reports)) = step-fed p s g .0 ∙ ap (answered p next) a in
-      let element : stepOf p s .elements ≡ moreBy (suc i) e = ap (λ (x : Progress). x .elements) step ∙ place-on in
-      heard-more (oneMore (p .reports)) (reportAt i t w ∷ []) (blockIn (suc i) room (answers next ss)) step refl (step-fed p s g .1 ∙ ap₂ lineFor element a ∙ sym (append-nil (reportLine (moreBy (suc i) e) t w))) (rest (oneMore (p .reports)) room)
+      let step : afterFeed p s ≡ further (oneMore (p .reports)) = step-fed p s g .0 ∙ ap (answered p next) a in
+      let element : afterFeed p s .elements ≡ moreBy (suc i) e = ap (λ (x : Progress). x .elements) step ∙ place-on in
+      heard-more (oneMore (p .reports)) (reportAt i t w ∷ []) (blockIn (suc i) room (answers next ss)) step refl (step-fed p s g .1 ∙ ap₂ answerLine element a ∙ sym (append-nil (reportLine (moreBy (suc i) e) t w))) (rest (oneMore (p .reports)) room)
 
 -- A block is heard as its Feeds are, one after the other; e elements before the block, i of its own before these.
 block-heard : (e i room : ℕ) (p : Progress) (ss : List ℕ) → p .ended ≡ false → p .elements ≡ moreBy i e → Heard e p ss (blockIn i room (answers (p .reader) ss))
@@ -141,7 +141,7 @@ unfolding blockIn answers feedOf
 block-heard e i room p [] g place = heard-none AllTaken e p [] g
 block-heard e i room p (s ∷ ss) g place =
     heard-fed e i p s ss g place room (answerOf (p .reader) s) refl
-    (λ n left. block-heard e (suc i) left (goingOn (nextOf (p .reader) s) (oneMore (p .elements)) n) ss refl (place-on e i p s ss g place))
+    (λ n left. block-heard e (suc i) left (runningAt (nextOf (p .reader) s) (oneMore (p .elements)) n) ss refl (place-on e i p s ss g place))
 
 -- ---- where a block stops
 
@@ -193,7 +193,7 @@ module _ (r : Reader) (ss : List ℕ) (l : Lists) (same : areRecords l ≡ true)
 
 -- after the Feeds that it took
 abbrev pub progressAfter : Progress → FedBlock → Progress
-progressAfter p fed = goingOn (fed .reader) (moreBy (takenOf (fed .answer)) (p .elements)) (moreBy (reportsOf (fed .answer)) (p .reports))
+progressAfter p fed = runningAt (fed .reader) (moreBy (takenOf (fed .answer)) (p .elements)) (moreBy (reportsOf (fed .answer)) (p .reports))
 
 module _ (p : Progress) (ss : List ℕ) (l : Lists) (same : areRecords l ≡ true) (fed : FedBlock) (is : fed ≡ feedBlockOf (p .reader) ss l) where
   abbrev block : Block
@@ -244,17 +244,17 @@ module _ (p : Progress) (ss : List ℕ) (l : Lists) (same : areRecords l ≡ tru
         (part-reached ∙ ap (afterFeeds p) whole, part-told ∙ ap (λ (xs : List ℕ). text ++ textFeeds p xs) whole)
 
     -- and the next one
-    pub fed-next : (taken : ℕ) → taken ≡ takenOf (fed .answer) → taken < length ss → (stepOf current (getD ss taken 0) ≡ afterFeeds p (take (taken + 1) ss)) × (lines ++ lineOf current (getD ss taken 0) ≡ text ++ textFeeds p (take (taken + 1) ss))
+    pub fed-next : (taken : ℕ) → taken ≡ takenOf (fed .answer) → taken < length ss → (afterFeed current (getD ss taken 0) ≡ afterFeeds p (take (taken + 1) ss)) × (lines ++ feedLine current (getD ss taken 0) ≡ text ++ textFeeds p (take (taken + 1) ss))
     unfolding afterFeeds textFeeds
     fed-next taken t h =
         let front = take taken ss in
         let s = getD ss taken 0 in
         let before = fed-taken taken t in
         let whole : take (taken + 1) ss ≡ front ++ (s ∷ []) = ap (λ (k : ℕ). take k ss) (add-one taken) ∙ take-suc ss taken 0 h in (
-          sym (ap (afterFeeds p) whole ∙ after-append p front (s ∷ []) ∙ ap (λ (x : Progress). stepOf x s) (sym (before .0))),
-          ap (λ (x : List ℕ). x ++ lineOf current s) (before .1)
-              ∙ append-assoc text (textFeeds p front) (lineOf current s)
-              ∙ sym (ap (λ (x : List ℕ). text ++ x) (ap (textFeeds p) whole ∙ text-append p front (s ∷ []) ∙ rw (← before .0) (ap (λ (x : List ℕ). textFeeds p front ++ x) (append-nil (lineOf current s))))),
+          sym (ap (afterFeeds p) whole ∙ after-append p front (s ∷ []) ∙ ap (λ (x : Progress). afterFeed x s) (sym (before .0))),
+          ap (λ (x : List ℕ). x ++ feedLine current s) (before .1)
+              ∙ append-assoc text (textFeeds p front) (feedLine current s)
+              ∙ sym (ap (λ (x : List ℕ). text ++ x) (ap (textFeeds p) whole ∙ text-append p front (s ∷ []) ∙ rw (← before .0) (ap (λ (x : List ℕ). textFeeds p front ++ x) (append-nil (feedLine current s))))),
         )
 
 -- ---- some symbols, in blocks one after the other
@@ -309,5 +309,5 @@ module _ {p : Progress} {ss text : List ℕ} {i : ℕ} {q : Progress} {lines : L
         ended-stays q rest e ∙ ap (λ (x : Progress). afterFeeds x rest) (heard .reached) ∙ sym (after-append p front rest) ∙ ap (afterFeeds p) whole,
         heard .told
             ∙ ap (λ (x : List ℕ). text ++ x)
-            (sym (append-nil (textFeeds p front)) ∙ ap (λ (x : List ℕ). textFeeds p front ++ x) (ended-silent q rest e ∙ ap (λ (x : Progress). textFeeds x rest) (heard .reached)) ∙ sym (text-append p front rest) ∙ ap (textFeeds p) whole),
+            (sym (append-nil (textFeeds p front)) ∙ ap (λ (x : List ℕ). textFeeds p front ++ x) (ended-no-text q rest e ∙ ap (λ (x : Progress). textFeeds x rest) (heard .reached)) ∙ sym (text-append p front rest) ∙ ap (textFeeds p) whole),
       )

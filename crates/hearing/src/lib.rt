@@ -13,13 +13,13 @@ use block::FedBlock;
 use block_feed::feed_block;
 use characters::decode;
 use progress::Progress;
-use progress::Told;
+use progress::Progressed;
 use progress::feed_one;
 use progress::more_by;
 use progress::one_more;
 use progress::progress_at;
+use progress::progressed_at;
 use progress::put_report;
-use progress::told_at;
 use timecode::Time;
 
 // The progress after some symbols, how many they were, and where their lines end.
@@ -141,7 +141,7 @@ fn hear_block(progress: Progress, symbols: &[u8], out: &mut [u8], at: usize) -> 
 }
 
 // Hears some symbols, up to the first that is refused.
-fn hear_symbols(progress: Progress, symbols: &[u8], out: &mut [u8], at: usize) -> Told
+fn hear_symbols(progress: Progress, symbols: &[u8], out: &mut [u8], at: usize) -> Progressed
     requires { ⌜ (length (now symbols) ≤ 512) × (at ≤ 32704) × (length (now out) ≡ 65536) ⌝ }
     ensures { λ r. ⌜ (r .filled ≤ 65536) × (length (now (out .exit)) ≡ 65536) × (r .progress ≡ afterFeeds progress (now (symbols .entry))) × (take (r .filled) (now (out .exit)) ≡ take at (now (out .entry)) ++ textFeeds progress (now (symbols .entry))) ⌝ }
 {
@@ -154,11 +154,11 @@ fn hear_symbols(progress: Progress, symbols: &[u8], out: &mut [u8], at: usize) -
         taken += heard.taken;
         filled = heard.filled;
     }
-    told_at(current, filled)
+    progressed_at(current, filled)
 }
 
 // Hears some bytes and puts their lines behind those that are there.
-pub fn hear(progress: Progress, bytes: &[u8], out: &mut [u8], at: usize) -> Told
+pub fn hear(progress: Progress, bytes: &[u8], out: &mut [u8], at: usize) -> Progressed
     requires { ⌜ (length (now bytes) ≤ 512) × (at ≤ 32704) × (length (now out) ≡ 65536) ⌝ }
     ensures { λ r. ⌜ (r .filled ≤ 65536) × (length (now (out .exit)) ≡ 65536) × (r .progress ≡ afterOf progress (now (bytes .entry))) × (take (r .filled) (now (out .exit)) ≡ take at (now (out .entry)) ++ textOf progress (now (bytes .entry))) ⌝ }
 {

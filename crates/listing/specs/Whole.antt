@@ -20,8 +20,8 @@ use Rattle.stream.specs.Refinement.{answers, answers-are-plain}
 use Rattle.stream.specs.declared.Reader.{Reader}
 use Rattle.characters.specs.Symbols.{feedsOf}
 use Rattle.characters.specs.Decoding.{feeds-few}
-use Rattle.progress.specs.Progress.{goingOn, oneMore, answered, lineFor, stepOf, lineOf, afterFeeds, textFeeds}
-use Rattle.progress.specs.Steps.{step-fed, ended-stays, ended-silent}
+use Rattle.progress.specs.Progress.{runningAt, oneMore, answered, answerLine, afterFeed, feedLine, afterFeeds, textFeeds}
+use Rattle.progress.specs.Steps.{step-fed, ended-stays, ended-no-text}
 use Rattle.hearing.specs.Bytes.{afterOf, textOf, after-parts, text-parts}
 use Rattle.listing.specs.Printed.{formatIn, isFirstLine, printedFor, printed}
 use Rattle.listing.specs.Calls.{begunOf, endingOf}
@@ -44,19 +44,19 @@ more-is : (k : ℕ) → k + 1 < 18446744073709551616 → oneMore k ≡ suc k
 unfolding oneMore
 more-is k h = rw (lt-ltb k 18446744073709551615 (omega arith))
 
-rest-step : (p : Progress) (s : ℕ) (ss : List ℕ) → restFor p (s ∷ ss) ≡ lineOf p s ++ restFor (stepOf p s) ss
+rest-step : (p : Progress) (s : ℕ) (ss : List ℕ) → restFor p (s ∷ ss) ≡ feedLine p s ++ restFor (afterFeed p s) ss
 unfolding restFor textFeeds afterFeeds
-rest-step p s ss = append-assoc (lineOf p s) (textFeeds (stepOf p s) ss) (endingOf (afterFeeds (stepOf p s) ss))
+rest-step p s ss = append-assoc (feedLine p s) (textFeeds (afterFeed p s) ss) (endingOf (afterFeeds (afterFeed p s) ss))
 
 rest-ended : (p : Progress) (ss : List ℕ) → p .ended ≡ true → restFor p ss ≡ []
 unfolding restFor endingOf
-rest-ended p ss e = rw (← ended-silent p ss e, ← ended-stays p ss e, e)
+rest-ended p ss e = rw (← ended-no-text p ss e, ← ended-stays p ss e, e)
 
 rest-nothing : (p : Progress) → p .ended ≡ false → printedFor (p .elements) (p .reports) [] ≡ restFor p []
 unfolding restFor textFeeds afterFeeds endingOf printedFor
 rest-nothing p g = rw g
 
-rest-fed : (p : Progress) (s : ℕ) (ss : List ℕ) → p .ended ≡ false → (a : Answer) → answerOf (p .reader) s ≡ a → restFor p (s ∷ ss) ≡ lineFor (answered p (nextOf (p .reader) s) a .elements) a ++ restFor (answered p (nextOf (p .reader) s) a) ss
+rest-fed : (p : Progress) (s : ℕ) (ss : List ℕ) → p .ended ≡ false → (a : Answer) → answerOf (p .reader) s ≡ a → restFor p (s ∷ ss) ≡ answerLine (answered p (nextOf (p .reader) s) a .elements) a ++ restFor (answered p (nextOf (p .reader) s) a) ss
 rest-fed p s ss g a e = let step = step-fed p s g in rest-step p s ss ∙ rw (step .1, step .0, e)
 
 -- ---- from any progress on, what is printed is what the answers to the rest of the Feeds say
@@ -128,11 +128,11 @@ module _ (bytes : List ℕ) (first : isFirstLine bytes ≡ true) (short : length
       (and-right (leb 3 (length bytes)) (eqb (getD bytes 2 0) 10 && (leb 48 (getD bytes 1 0) && known (formatIn bytes))) first))
 
   -- After a first line that is so, the lines put while the bytes behind it are read and the last line are what document 01 says.
-  pub listing-is-printed : printed bytes ≡ restPrinted (goingOn (freshReader (formatIn bytes)) 0 0) (drop 3 bytes)
+  pub listing-is-printed : printed bytes ≡ restPrinted (runningAt (freshReader (formatIn bytes)) 0 0) (drop 3 bytes)
   unfolding printed
   listing-is-printed =
       rw (first, ← answers-are-plain (formatIn bytes) format-known (feedsOf (drop 3 bytes)))
-      (rest-is (feedsOf (drop 3 bytes)) (goingOn (freshReader (formatIn bytes)) 0 0) refl (record { elements-room = omega (arith, length-drop 3 bytes, feeds-few (drop 3 bytes)); reports-room = omega (arith, length-drop 3 bytes, feeds-few (drop 3 bytes)) }))
+      (rest-is (feedsOf (drop 3 bytes)) (runningAt (freshReader (formatIn bytes)) 0 0) refl (record { elements-room = omega (arith, length-drop 3 bytes, feeds-few (drop 3 bytes)); reports-room = omega (arith, length-drop 3 bytes, feeds-few (drop 3 bytes)) }))
 
 -- Any other input prints `refused 1`, and no other line follows.
 pub other-line-refused : (bytes : List ℕ) → isFirstLine bytes ≡ false → printed bytes ≡ refusedLine 1

@@ -3,7 +3,7 @@ ghost use mathlib.Core.Path.{_≡_};
 ghost use Prim.Native.Nat.{_≤_};
 ghost use lib.ListN.{length, take};
 ghost use Rattle.lines.specs.Text.{countsLine};
-ghost use Rattle.progress.specs.Progress.{goingOn};
+ghost use Rattle.progress.specs.Progress.{runningAt};
 ghost use Rattle.listing.specs.Calls.{begunOf, Lists, Ends};
 use hearing::hear;
 use lines::counts_line;
@@ -45,7 +45,7 @@ pub fn begin(head: &[u8]) -> Made
 
 // Nothing heard, nothing printed.
 pub fn start(reader: Reader) -> Progress
-    ensures { λ r. ⌜ r ≡ goingOn reader 0 0 ⌝ }
+    ensures { λ r. ⌜ r ≡ runningAt reader 0 0 ⌝ }
 {
     progress_at(reader, 0, 0)
 }

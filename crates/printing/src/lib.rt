@@ -4,7 +4,7 @@
 ghost use mathlib.Core.Path.{_≡_};
 ghost use mathlib.Core.Bool.{false};
 ghost use lib.ListN.{length};
-ghost use Rattle.progress.specs.Progress.{goingOn};
+ghost use Rattle.progress.specs.Progress.{runningAt};
 ghost use Rattle.printing.specs.Printing.{stopped, Prints, AfterRead, Reads, ReadsAll};
 use listing::begin;
 use listing::finish;
@@ -91,7 +91,7 @@ fn print_read(fd: i32, progress: Progress, out: &mut [u8; 65536]) -> Printed
 
 // A proved loop has to end, and nothing says that the input does: the reads are counted down from a number that no run uses up.
 fn print_reads(fd: i32, reader: Reader, out: &mut [u8; 65536]) -> Progress
-    ensures { λ r. ⌜ ReadsAll (goingOn reader 0 0) r ⌝ }
+    ensures { λ r. ⌜ ReadsAll (runningAt reader 0 0) r ⌝ }
 {
     let mut progress = start(reader);
     let mut more = true;

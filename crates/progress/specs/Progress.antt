@@ -12,8 +12,8 @@ use Rattle.stream.specs.declared.Reader.{Reader}
 use Rattle.progress.specs.declared.Progress.{Progress}
 
 -- no refusal yet
-abbrev pub goingOn : Reader → ℕ → ℕ → Progress
-goingOn r elements reports = record { reader = r; elements = elements; reports = reports; ended = false }
+abbrev pub runningAt : Reader → ℕ → ℕ → Progress
+runningAt r elements reports = record { reader = r; elements = elements; reports = reports; ended = false }
 
 -- a count of 64 bits stays at its end
 unfoldable pub oneMore : ℕ → ℕ
@@ -26,28 +26,28 @@ moreBy (suc k) e = moreBy k (oneMore e)
 
 -- an answer, with the reader that came with it; a refusal ends the listing
 abbrev pub answered : Progress → Reader → Answer → Progress
-answered p r Quiet = goingOn r (oneMore (p .elements)) (p .reports)
-answered p r (Report t w) = goingOn r (oneMore (p .elements)) (oneMore (p .reports))
+answered p r Quiet = runningAt r (oneMore (p .elements)) (p .reports)
+answered p r (Report t w) = runningAt r (oneMore (p .elements)) (oneMore (p .reports))
 answered p r (Answer.Refused x) = record { reader = r; elements = p .elements; reports = p .reports; ended = true }
 
--- the line that an answer is told by, if any
-abbrev pub lineFor : ℕ → Answer → List ℕ
-lineFor element Quiet = []
-lineFor element (Report t w) = reportLine element t w
-lineFor element (Answer.Refused x) = refusedLine (refusalNumber x)
+-- the line of an answer, if any
+abbrev pub answerLine : ℕ → Answer → List ℕ
+answerLine element Quiet = []
+answerLine element (Report t w) = reportLine element t w
+answerLine element (Answer.Refused x) = refusedLine (refusalNumber x)
 
 -- one Feed more: after the end it changes nothing
-unfoldable pub stepOf : Progress → ℕ → Progress
-stepOf p s = cond (p .ended) p (answered p (nextOf (p .reader) s) (answerOf (p .reader) s))
+unfoldable pub afterFeed : Progress → ℕ → Progress
+afterFeed p s = cond (p .ended) p (answered p (nextOf (p .reader) s) (answerOf (p .reader) s))
 
-unfoldable pub lineOf : Progress → ℕ → List ℕ
-lineOf p s = cond (p .ended) [] (lineFor (stepOf p s .elements) (answerOf (p .reader) s))
+unfoldable pub feedLine : Progress → ℕ → List ℕ
+feedLine p s = cond (p .ended) [] (answerLine (afterFeed p s .elements) (answerOf (p .reader) s))
 
 -- a list of Feeds
 unfoldable pub afterFeeds : Progress → List ℕ → Progress
 afterFeeds p [] = p
-afterFeeds p (s ∷ ss) = afterFeeds (stepOf p s) ss
+afterFeeds p (s ∷ ss) = afterFeeds (afterFeed p s) ss
 
 unfoldable pub textFeeds : Progress → List ℕ → List ℕ
 textFeeds p [] = []
-textFeeds p (s ∷ ss) = lineOf p s ++ textFeeds (stepOf p s) ss
+textFeeds p (s ∷ ss) = feedLine p s ++ textFeeds (afterFeed p s) ss

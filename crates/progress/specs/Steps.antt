@@ -11,7 +11,7 @@ use Rattle.timecode.specs.Laws.Tests.{by-test}
 use Rattle.timecode.specs.declared.Answer.{Answer}
 use Rattle.stream.specs.Feeding.{nextOf, answerOf}
 use Rattle.stream.specs.declared.Reader.{Reader}
-use Rattle.progress.specs.Progress.{goingOn, oneMore, moreBy, answered, lineFor, stepOf, lineOf, afterFeeds, textFeeds}
+use Rattle.progress.specs.Progress.{runningAt, oneMore, moreBy, answered, answerLine, afterFeed, feedLine, afterFeeds, textFeeds}
 use Rattle.progress.specs.declared.Progress.{Progress}
 
 -- ---- counts
@@ -35,31 +35,31 @@ more-beyond (suc k) e b h =
 pub after-append : (p : Progress) (ss rs : List ℕ) → afterFeeds p (ss ++ rs) ≡ afterFeeds (afterFeeds p ss) rs
 unfolding afterFeeds
 after-append p [] rs = refl
-after-append p (s ∷ ss) rs = after-append (stepOf p s) ss rs
+after-append p (s ∷ ss) rs = after-append (afterFeed p s) ss rs
 
 pub text-append : (p : Progress) (ss rs : List ℕ) → textFeeds p (ss ++ rs) ≡ textFeeds p ss ++ textFeeds (afterFeeds p ss) rs
 unfolding afterFeeds textFeeds
 text-append p [] rs = refl
-text-append p (s ∷ ss) rs = ap (λ (t : List ℕ). lineOf p s ++ t) (text-append (stepOf p s) ss rs) ∙ sym (append-assoc (lineOf p s) (textFeeds (stepOf p s) ss) (textFeeds (afterFeeds (stepOf p s) ss) rs))
+text-append p (s ∷ ss) rs = ap (λ (t : List ℕ). feedLine p s ++ t) (text-append (afterFeed p s) ss rs) ∙ sym (append-assoc (feedLine p s) (textFeeds (afterFeed p s) ss) (textFeeds (afterFeeds (afterFeed p s) ss) rs))
 
 -- ---- one Feed
 
-step-by : (p : Progress) (s : ℕ) (t : Bool) → p .ended ≡ t → (stepOf p s ≡ cond t p (answered p (nextOf (p .reader) s) (answerOf (p .reader) s))) × (lineOf p s ≡ cond t [] (lineFor (stepOf p s .elements) (answerOf (p .reader) s)))
-unfolding stepOf lineOf
-step-by p s t e = (ap (λ (t : Bool). cond t p (answered p (nextOf (p .reader) s) (answerOf (p .reader) s))) e, ap (λ (t : Bool). cond t [] (lineFor (stepOf p s .elements) (answerOf (p .reader) s))) e)
+step-by : (p : Progress) (s : ℕ) (t : Bool) → p .ended ≡ t → (afterFeed p s ≡ cond t p (answered p (nextOf (p .reader) s) (answerOf (p .reader) s))) × (feedLine p s ≡ cond t [] (answerLine (afterFeed p s .elements) (answerOf (p .reader) s)))
+unfolding afterFeed feedLine
+step-by p s t e = (ap (λ (t : Bool). cond t p (answered p (nextOf (p .reader) s) (answerOf (p .reader) s))) e, ap (λ (t : Bool). cond t [] (answerLine (afterFeed p s .elements) (answerOf (p .reader) s))) e)
 
-pub step-fed : (p : Progress) (s : ℕ) → p .ended ≡ false → (stepOf p s ≡ answered p (nextOf (p .reader) s) (answerOf (p .reader) s)) × (lineOf p s ≡ lineFor (stepOf p s .elements) (answerOf (p .reader) s))
+pub step-fed : (p : Progress) (s : ℕ) → p .ended ≡ false → (afterFeed p s ≡ answered p (nextOf (p .reader) s) (answerOf (p .reader) s)) × (feedLine p s ≡ answerLine (afterFeed p s .elements) (answerOf (p .reader) s))
 step-fed p s g = step-by p s false g
 
 -- a Feed by its answer, the reader after it and the progress
-pub one-fed : (p : Progress) (s : ℕ) (next : Reader) (a : Answer) (q : Progress) → p .ended ≡ false → a ≡ answerOf (p .reader) s → next ≡ nextOf (p .reader) s → q ≡ answered p next a → (q ≡ stepOf p s) × (lineFor (q .elements) a ≡ lineOf p s)
-one-fed p s next a q g said fed moved =
+pub one-fed : (p : Progress) (s : ℕ) (next : Reader) (a : Answer) (q : Progress) → p .ended ≡ false → a ≡ answerOf (p .reader) s → next ≡ nextOf (p .reader) s → q ≡ answered p next a → (q ≡ afterFeed p s) × (answerLine (q .elements) a ≡ feedLine p s)
+one-fed p s next a q g answer-is fed moved =
     let step = step-fed p s g in
-    let is : q ≡ stepOf p s = moved ∙ sym (step .0 ∙ rw (said, fed)) in
-    (is, sym (step .1 ∙ rw (is, said)))
+    let is : q ≡ afterFeed p s = moved ∙ sym (step .0 ∙ rw (answer-is, fed)) in
+    (is, sym (step .1 ∙ rw (is, answer-is)))
 
-pub going-on : (p : Progress) → p .ended ≡ false → goingOn (p .reader) (p .elements) (p .reports) ≡ p
-going-on p g = ap (λ (e : Bool). record { reader = p .reader; elements = p .elements; reports = p .reports; ended = e }) (sym g)
+pub running-at : (p : Progress) → p .ended ≡ false → runningAt (p .reader) (p .elements) (p .reports) ≡ p
+running-at p g = ap (λ (e : Bool). record { reader = p .reader; elements = p .elements; reports = p .reports; ended = e }) (sym g)
 
 -- ---- after the end
 
@@ -68,7 +68,7 @@ unfolding afterFeeds
 ended-stays p [] e = refl
 ended-stays p (s ∷ ss) e = rw (step-by p s true e .0) (ended-stays p ss e)
 
-pub ended-silent : (p : Progress) (ss : List ℕ) → p .ended ≡ true → [] ≡ textFeeds p ss
+pub ended-no-text : (p : Progress) (ss : List ℕ) → p .ended ≡ true → [] ≡ textFeeds p ss
 unfolding textFeeds
-ended-silent p [] e = refl
-ended-silent p (s ∷ ss) e = rw (step-by p s true e .1, step-by p s true e .0) (ended-silent p ss e)
+ended-no-text p [] e = refl
+ended-no-text p (s ∷ ss) e = rw (step-by p s true e .1, step-by p s true e .0) (ended-no-text p ss e)

@@ -1,4 +1,4 @@
-// timeread's progress: what one Feed makes of it, and the line that its answer is told by.
+// timeread's progress: what one Feed makes of it, and the line of its answer.
 ghost use mathlib.Core.Path.{_≡_};
 ghost use mathlib.Core.Bool.{false};
 ghost use mathlib.Core.List.{_++_};
@@ -6,7 +6,7 @@ ghost use Prim.Native.Nat.{_+_, _≤_};
 ghost use lib.ListN.{length, take};
 ghost use Rattle.timecode.specs.Answers.{refusalNumber};
 ghost use Rattle.lines.specs.Text.{reportLine, refusedLine};
-ghost use Rattle.progress.specs.Progress.{goingOn, oneMore, moreBy, answered, lineFor, stepOf, lineOf};
+ghost use Rattle.progress.specs.Progress.{runningAt, oneMore, moreBy, answered, answerLine, afterFeed, feedLine};
 use lines::put_text;
 use lines::refused_line;
 use lines::report_line;
@@ -27,13 +27,13 @@ pub struct Progress {
 }
 
 // The progress after some bytes, and where their lines end.
-pub struct Told {
+pub struct Progressed {
     pub progress: Progress,
     pub filled: usize,
 }
 
 pub fn progress_at(reader: Reader, elements: u64, reports: u64) -> Progress
-    ensures { λ r. ⌜ r ≡ goingOn reader elements reports ⌝ }
+    ensures { λ r. ⌜ r ≡ runningAt reader elements reports ⌝ }
 {
     Progress {
         reader: reader,
@@ -110,7 +110,7 @@ fn put_refused(out: &mut [u8], at: usize, refusal: Refusal) -> usize
 
 fn put_line(out: &mut [u8], at: usize, element: u64, answer: Answer) -> usize
     requires { ⌜ (at + 64 ≤ 65536) × (length (now out) ≡ 65536) ⌝ }
-    ensures { λ r. ⌜ (r ≤ at + 64) × (length (now (out .exit)) ≡ 65536) × (take r (now (out .exit)) ≡ take at (now (out .entry)) ++ lineFor element answer) ⌝ }
+    ensures { λ r. ⌜ (r ≤ at + 64) × (length (now (out .exit)) ≡ 65536) × (take r (now (out .exit)) ≡ take at (now (out .entry)) ++ answerLine element answer) ⌝ }
 {
     match answer {
         Answer::Quiet => at,
@@ -119,24 +119,24 @@ fn put_line(out: &mut [u8], at: usize, element: u64, answer: Answer) -> usize
     }
 }
 
-pub fn told_at(progress: Progress, filled: usize) -> Told
+pub fn progressed_at(progress: Progress, filled: usize) -> Progressed
     ensures { λ r. ⌜ (r .progress ≡ progress) × (r .filled ≡ filled) ⌝ }
 {
-    Told {
+    Progressed {
         progress: progress,
         filled: filled,
     }
 }
 
 // One Feed by itself, with its line.
-pub fn feed_one(progress: Progress, symbol: u8, out: &mut [u8], at: usize) -> Told
+pub fn feed_one(progress: Progress, symbol: u8, out: &mut [u8], at: usize) -> Progressed
     requires { ⌜ (progress .ended ≡ false) × (at + 64 ≤ 65536) × (length (now out) ≡ 65536) ⌝ }
-    ensures { λ r. ⌜ (r .filled ≤ at + 64) × (length (now (out .exit)) ≡ 65536) × (r .progress ≡ stepOf progress symbol) × (take (r .filled) (now (out .exit)) ≡ take at (now (out .entry)) ++ lineOf progress symbol) ⌝ }
+    ensures { λ r. ⌜ (r .filled ≤ at + 64) × (length (now (out .exit)) ≡ 65536) × (r .progress ≡ afterFeed progress symbol) × (take (r .filled) (now (out .exit)) ≡ take at (now (out .entry)) ++ feedLine progress symbol) ⌝ }
 {
     let reader = progress.reader;
     let answer = answer_to(reader, symbol);
     let next = next_reader(reader, symbol);
     let current = advance(progress, next, answer);
     let filled = put_line(out, at, current.elements, answer);
-    told_at(current, filled)
+    progressed_at(current, filled)
 }

@@ -12,7 +12,7 @@ use Rattle.hearing.proofs.hear_symbols.Tie as tie
 use Rattle.hearing.proofs.hear_symbols.Reads as reads
 use Rattle.hearing.proofs.hear_symbols.Lts as lts
 use Rattle.hearing.proofs.hear_block.Reads as hear-block-reads
-use Rattle.progress.proofs.told_at.Reads as told-at-reads
+use Rattle.progress.proofs.progressed_at.Reads as progressed-at-reads
 
 abbrev Inv-loop : tie.InvT-loop
 Inv-loop symbols out₀ at current₀ taken₀ filled₀ out current taken filled = HeardTo current₀ symbols (take at out₀) taken current (take filled out) × (filled ≤ at + 64 * taken) × (length out ≡ 65536)
@@ -49,8 +49,8 @@ loop-again c =
     let few : c .before .before .before .before .hear-block .result .taken ≤ length (c .before .before .before .before .before .before .before .before .before .before .before .before .before .args .symbols .now) - c .before .before .before .before .before .before .before .before .before .before .loop .taken = omega (arith, heard .1, length-rest (c .before .before .before .before .before .before .before .before .before .before .before .before .before .args .symbols .now) (c .before .before .before .before .before .before .before .before .before .before .loop .taken)) in
     (heard-turn (c .before .before .before .before .before .before .before .before .before .before .loop .inv .0) _ _ _ few (heard .4) (heard .5), omega (arith, heard .2, c .before .before .before .before .before .before .before .before .before .before .loop .inv .1), heard .3)
 
-told-at-requires : tie.Need-told-at-requires Inv-loop μ-loop
-told-at-requires c κs = search needs
+progressed-at-requires : tie.Need-progressed-at-requires Inv-loop μ-loop
+progressed-at-requires c κs = search needs
 
 same-length : tie.Need-same-length Inv-loop μ-loop
 same-length c = omega (arith, c .before .before .loop .inv .2, c .before .before .before .before .before .pre .2)
@@ -59,7 +59,7 @@ returns : tie.Need-returns Inv-loop μ-loop
 returns c =
     let heard = c .before .before .loop .inv .0 in
     let all = ⊎-elim (λ w. heard-ended heard (not-false _ (w .2 .left))) (λ w. heard-all heard (omega (arith, w))) (c .before .loop-test .came) in
-    let is = c .told-at .ensures in
+    let is = c .progressed-at .ensures in
     (omega (arith, is .1, c .before .before .loop .inv .1, heard .within, c .before .before .before .before .before .pre .0, c .before .before .before .before .before .pre .1), c .before .before .loop .inv .2, is .0 ∙ all .0, rw (is .1) (all .1))
 
 pub hear-symbols-spec : {M : Type 1} → statement M
@@ -76,6 +76,6 @@ hear-symbols-spec =
     add-taken
     loop-less
     loop-again
-    told-at-requires
+    progressed-at-requires
     same-length
     returns)

@@ -60,16 +60,16 @@ loop-again c =
     let start = c .before .before .before .before .before .before .before .before .before .before .before in
     let n = c .before .before .before .before .before .before .before .before .before .frame-size in
     let reached = c .before .before .before .before .before .before .before .loop in
-    let said = sym (part-at (start .args .format) (start .args .recording .now) (reached .place) (n .result) (n .ensures .0)) ∙ sym (c .before .before .read .ensures) ∙ c .enum-told .given .1 in
-    (omega arith, reached .inv .1 ∙ refused-here (start .args .format) (start .args .recording .now) (reached .place) (omega (arith, n .ensures .0)) _ said)
+    let answer-is = sym (part-at (start .args .format) (start .args .recording .now) (reached .place) (n .result) (n .ensures .0)) ∙ sym (c .before .before .read .ensures) ∙ c .enum-told .given .1 in
+    (omega arith, reached .inv .1 ∙ refused-here (start .args .format) (start .args .recording .now) (reached .place) (omega (arith, n .ensures .0)) _ answer-is)
 
 returns-2 : tie.Need-returns-2 Inv-loop μ-loop
 returns-2 c =
     let start = c .before .before .before .before .before .before .before .before .before .before .before .before in
     let n = c .before .before .before .before .before .before .before .before .before .before .frame-size in
     let reached = c .before .before .before .before .before .before .before .before .loop in
-    let said = sym (part-at (start .args .format) (start .args .recording .now) (reached .place) (n .result) (n .ensures .0)) ∙ sym (c .before .before .before .read .ensures) ∙ c .before .time .given .1 in
-    sym (reached .inv .1 ∙ found-here (start .args .format) (start .args .recording .now) (reached .place) (omega (arith, n .ensures .0)) (sym (c .before .before .before .before .before .before .marks-meet .ensures) ∙ c .before .before .before .before .before .if2 .taken) _ _ said)
+    let answer-is = sym (part-at (start .args .format) (start .args .recording .now) (reached .place) (n .result) (n .ensures .0)) ∙ sym (c .before .before .before .read .ensures) ∙ c .before .time .given .1 in
+    sym (reached .inv .1 ∙ found-here (start .args .format) (start .args .recording .now) (reached .place) (omega (arith, n .ensures .0)) (sym (c .before .before .before .before .before .before .marks-meet .ensures) ∙ c .before .before .before .before .before .if2 .taken) _ _ answer-is)
 
 add-place-2 : tie.Need-add-place-2 Inv-loop μ-loop
 add-place-2 c = omega arith
