@@ -1,4 +1,4 @@
 pub mod Printed
-pub mod Calls
+pub mod Promises
 pub mod Parts
-pub mod Whole
+pub mod InParts

@@ -13,13 +13,13 @@ use Rattle.progress.specs.declared.Progress.{Progress}
 
 -- ---- the lines of the bytes taken stand in the first places
 
-pub record Told (from p : Progress) (bytes out : List ℕ) (taken filled : ℕ) : Type 0 where
+pub record ListedTo (from p : Progress) (bytes out : List ℕ) (taken filled : ℕ) : Type 0 where
   pub reached : p ≡ afterOf from (take taken bytes)
-  pub told : take filled out ≡ textOf from (take taken bytes)
+  pub lines-are : take filled out ≡ textOf from (take taken bytes)
 
-pub told-start : (p : Progress) (bytes out : List ℕ) → Told p p bytes out 0 0
+pub listed-start : (p : Progress) (bytes out : List ℕ) → ListedTo p p bytes out 0 0
 unfolding feedsOf afterFeeds textFeeds
-told-start p bytes out = record { reached = refl; told = refl }
+listed-start p bytes out = record { reached = refl; lines-are = refl }
 
 pub reached-start : (p : Progress) (bytes : List ℕ) → p ≡ afterOf p (take 0 bytes)
 unfolding feedsOf afterFeeds
@@ -34,13 +34,13 @@ module _ (from p q : Progress) (bytes : List ℕ) (taken k : ℕ) (before : p �
   pub reached-turn : q ≡ afterOf p (take k (restOf bytes taken)) → q ≡ afterOf from (take (taken + k) bytes)
   reached-turn reached = reached-next (reached ∙ ap (λ (xs : List ℕ). afterOf p (take k xs)) (rest-is bytes taken))
 
-pub told-turn : (from p q : Progress) (bytes out out′ : List ℕ) (taken filled end filled′ : ℕ) → taken ≤ end → Told from p bytes out taken filled → q ≡ afterOf p (take (end - taken) (drop taken bytes)) → take filled′ out′ ≡ take filled out ++ textOf p (take (end - taken) (drop taken bytes)) → Told from q bytes out′ end filled′
-told-turn from p q bytes out out′ taken filled end filled′ h t reached put =
+pub listed-turn : (from p q : Progress) (bytes out out′ : List ℕ) (taken filled end filled′ : ℕ) → taken ≤ end → ListedTo from p bytes out taken filled → q ≡ afterOf p (take (end - taken) (drop taken bytes)) → take filled′ out′ ≡ take filled out ++ textOf p (take (end - taken) (drop taken bytes)) → ListedTo from q bytes out′ end filled′
+listed-turn from p q bytes out out′ taken filled end filled′ h t reached put =
     let k = end - taken in
     let whole : taken + (end - taken) ≡ end = omega arith in
     record {
       reached = rw whole at (reached-next from p q bytes taken k (t .reached) reached);
-      told = rw (← whole) (sym (rw (take-add taken k bytes) (text-parts from (take taken bytes) (take k (drop taken bytes)) ∙ rw (put, t .told, t .reached))));
+      lines-are = rw (← whole) (sym (rw (take-add taken k bytes) (text-parts from (take taken bytes) (take k (drop taken bytes)) ∙ rw (put, t .lines-are, t .reached))));
     }
 
 -- all of them

@@ -4,7 +4,7 @@ ghost use Prim.Native.Nat.{_≤_};
 ghost use lib.ListN.{length, take};
 ghost use Rattle.lines.specs.Text.{countsLine};
 ghost use Rattle.progress.specs.Progress.{runningAt};
-ghost use Rattle.listing.specs.Calls.{begunOf, Lists, Ends};
+ghost use Rattle.listing.specs.Promises.{madeFromHead, ListsBytes, PutsLastLine};
 use hearing::hear;
 use lines::counts_line;
 use lines::put_text;
@@ -28,7 +28,7 @@ pub struct Listed {
 
 // The first line, of which the input's first three bytes decide: a fresh reader of its format, or number 1.
 pub fn begin(head: &[u8]) -> Made
-    ensures { λ r. ⌜ r ≡ begunOf (now (head .entry)) ⌝ }
+    ensures { λ r. ⌜ r ≡ madeFromHead (now (head .entry)) ⌝ }
 {
     if 3 <= head.len() {
         if head[2] == b'\n' {
@@ -53,16 +53,16 @@ pub fn start(reader: Reader) -> Progress
 // A part has no more reports than symbols: below half of the lent memory there is room for their lines.
 fn fill(progress: Progress, bytes: &[u8], out: &mut [u8]) -> Listed
     requires { ⌜ length (now out) ≡ 65536 ⌝ }
-    ensures { λ r. ⌜ Lists progress (now (bytes .entry)) r (now (out .exit)) ⌝ }
+    ensures { λ r. ⌜ ListsBytes progress (now (bytes .entry)) r (now (out .exit)) ⌝ }
 {
     let mut current = progress;
     let mut taken = 0;
     let mut filled = 0;
     while taken < bytes.len() && filled <= LAST_START {
         let end = part_end(taken, bytes.len());
-        let told = hear(current, &bytes[taken..end], out, filled);
-        current = told.progress;
-        filled = told.filled;
+        let after = hear(current, &bytes[taken..end], out, filled);
+        current = after.progress;
+        filled = after.filled;
         taken = end;
     }
     Listed {
@@ -74,7 +74,7 @@ fn fill(progress: Progress, bytes: &[u8], out: &mut [u8]) -> Listed
 
 // Puts the lines of the bytes taken: all of them, unless about half of the lent memory is filled.
 pub fn list(progress: Progress, bytes: &[u8], out: &mut [u8; 65536]) -> Listed
-    ensures { λ r. ⌜ Lists progress (now (bytes .entry)) r (now (out .exit)) ⌝ }
+    ensures { λ r. ⌜ ListsBytes progress (now (bytes .entry)) r (now (out .exit)) ⌝ }
 {
     fill(progress, bytes, out)
 }
@@ -90,7 +90,7 @@ fn put_counts(out: &mut [u8], elements: u64, reports: u64) -> usize
 
 fn end(progress: Progress, out: &mut [u8]) -> usize
     requires { ⌜ length (now out) ≡ 65536 ⌝ }
-    ensures { λ r. ⌜ Ends progress r (now (out .exit)) ⌝ }
+    ensures { λ r. ⌜ PutsLastLine progress r (now (out .exit)) ⌝ }
 {
     if progress.ended {
         return 0;
@@ -100,7 +100,7 @@ fn end(progress: Progress, out: &mut [u8]) -> usize
 
 // Puts the last line: how many elements and reports there were, unless a refusal was the last.
 pub fn finish(progress: Progress, out: &mut [u8; 65536]) -> usize
-    ensures { λ r. ⌜ Ends progress r (now (out .exit)) ⌝ }
+    ensures { λ r. ⌜ PutsLastLine progress r (now (out .exit)) ⌝ }
 {
     end(progress, out)
 }

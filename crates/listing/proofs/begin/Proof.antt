@@ -3,7 +3,7 @@ use borrow.Author.Needs.{needs}
 use mathlib.Core.Path.{_∙_}
 use borrow.Author.Tests.{eq-eqb, ne-eqb, le-leb, lt-leb}
 use Rattle.listing.specs.Printed.{isFirstLine}
-use Rattle.listing.specs.Calls.{begunOf}
+use Rattle.listing.specs.Promises.{madeFromHead}
 use Rattle.stream.specs.Feeding.{madeOf}
 use Rattle.listing.proofs.begin.Statement.{statement}
 use Rattle.listing.proofs.begin.Tie as tie
@@ -30,19 +30,19 @@ fresh-requires : tie.Need-fresh-requires
 fresh-requires c κs = search needs
 
 returns : tie.Need-returns
-unfolding begunOf isFirstLine madeOf
+unfolding madeFromHead isFirstLine madeOf
 returns c = c .fresh .ensures ∙ rw (le-leb _ _ (c .before .before .before .before .before .before .before .if1 .taken), eq-eqb _ _ (c .before .before .before .before .before .if2 .taken), le-leb _ _ (c .before .before .before .if3 .taken))
 
 returns-2 : tie.Need-returns-2
-unfolding begunOf isFirstLine
+unfolding madeFromHead isFirstLine
 returns-2 c = rw (le-leb _ _ (c .before .before .before .before .if1 .taken), eq-eqb _ _ (c .before .before .if2 .taken), lt-leb _ _ (c .if3 .left))
 
 returns-3 : tie.Need-returns-3
-unfolding begunOf isFirstLine
+unfolding madeFromHead isFirstLine
 returns-3 c = rw (le-leb _ _ (c .before .before .if1 .taken), ne-eqb _ _ (c .if2 .left))
 
 returns-4 : tie.Need-returns-4
-unfolding begunOf isFirstLine
+unfolding madeFromHead isFirstLine
 returns-4 c = rw (lt-leb _ _ (c .if1 .left))
 
 pub begin-spec : {M : Type 1} → statement M

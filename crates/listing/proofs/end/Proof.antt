@@ -1,7 +1,7 @@
 -- `end` meets its contract.
 use borrow.Author.Needs.{needs}
 use native.Mathlib.Omega.{arith}
-use Rattle.listing.specs.Calls.{endingOf}
+use Rattle.listing.specs.Promises.{endingOf}
 use Rattle.listing.proofs.end.Statement.{statement}
 use Rattle.listing.proofs.end.Tie as tie
 use Rattle.listing.proofs.end.Reads as reads

@@ -15,8 +15,8 @@ use Rattle.progress.specs.declared.Progress.{Progress}
 use Rattle.listing.specs.declared.Listed.{Listed}
 
 -- the reader that the first line asks for, or number 1
-unfoldable pub begunOf : List ℕ → Made
-begunOf bytes = check Made.Refused UnknownFormat (isFirstLine bytes) (Made.Fresh (freshReader (formatIn bytes)))
+unfoldable pub madeFromHead : List ℕ → Made
+madeFromHead bytes = check Made.Refused UnknownFormat (isFirstLine bytes) (Made.Fresh (freshReader (formatIn bytes)))
 
 -- the last line, unless a refusal was it
 unfoldable pub endingOf : Progress → List ℕ
@@ -24,8 +24,8 @@ endingOf p = cond (p .ended) [] (countsLine (p .elements) (p .reports))
 
 -- What a call that lists some bytes leaves: the lines of the bytes taken at the start of 65,536 bytes, and the progress after them.
 -- It takes all, unless about half of the memory is filled, and at least one. What stands behind the lines is free.
-abbrev pub Lists : Progress → List ℕ → Listed → List ℕ → Type 0
-Lists p bytes r out =
+abbrev pub ListsBytes : Progress → List ℕ → Listed → List ℕ → Type 0
+ListsBytes p bytes r out =
     (length out ≡ 65536)
     × (r .progress ≡ afterOf p (take (r .taken) bytes))
     × (take (r .filled) out ≡ textOf p (take (r .taken) bytes))
@@ -35,5 +35,5 @@ Lists p bytes r out =
     × (1 ≤ length bytes → 1 ≤ r .taken)
 
 -- and one that puts the last line
-abbrev pub Ends : Progress → ℕ → List ℕ → Type 0
-Ends p filled out = (length out ≡ 65536) × (filled ≤ 65536) × (take filled out ≡ endingOf p)
+abbrev pub PutsLastLine : Progress → ℕ → List ℕ → Type 0
+PutsLastLine p filled out = (length out ≡ 65536) × (filled ≤ 65536) × (take filled out ≡ endingOf p)

@@ -24,16 +24,16 @@ use Rattle.progress.specs.Progress.{runningAt, oneMore, answered, answerLine, a
 use Rattle.progress.specs.Steps.{step-fed, ended-stays, ended-no-text}
 use Rattle.hearing.specs.Bytes.{afterOf, textOf, after-parts, text-parts}
 use Rattle.listing.specs.Printed.{formatIn, isFirstLine, printedFor, printed}
-use Rattle.listing.specs.Calls.{begunOf, endingOf}
+use Rattle.listing.specs.Promises.{madeFromHead, endingOf}
 use Rattle.progress.specs.declared.Progress.{Progress}
 
 -- what is printed from a progress on: the lines of a list of Feeds and the last line
-unfoldable pub restFor : Progress → List ℕ → List ℕ
-restFor p ss = textFeeds p ss ++ endingOf (afterFeeds p ss)
+unfoldable pub remainingFor : Progress → List ℕ → List ℕ
+remainingFor p ss = textFeeds p ss ++ endingOf (afterFeeds p ss)
 
 -- of a list of bytes
-abbrev pub restPrinted : Progress → List ℕ → List ℕ
-restPrinted p bytes = restFor p (feedsOf bytes)
+abbrev pub remainingPrinted : Progress → List ℕ → List ℕ
+remainingPrinted p bytes = remainingFor p (feedsOf bytes)
 
 -- no 64-bit count comes to its end
 pub record Room (p : Progress) (k : ℕ) : Type 0 where
@@ -44,26 +44,26 @@ more-is : (k : ℕ) → k + 1 < 18446744073709551616 → oneMore k ≡ suc k
 unfolding oneMore
 more-is k h = rw (lt-ltb k 18446744073709551615 (omega arith))
 
-rest-step : (p : Progress) (s : ℕ) (ss : List ℕ) → restFor p (s ∷ ss) ≡ feedLine p s ++ restFor (afterFeed p s) ss
-unfolding restFor textFeeds afterFeeds
-rest-step p s ss = append-assoc (feedLine p s) (textFeeds (afterFeed p s) ss) (endingOf (afterFeeds (afterFeed p s) ss))
+remaining-step : (p : Progress) (s : ℕ) (ss : List ℕ) → remainingFor p (s ∷ ss) ≡ feedLine p s ++ remainingFor (afterFeed p s) ss
+unfolding remainingFor textFeeds afterFeeds
+remaining-step p s ss = append-assoc (feedLine p s) (textFeeds (afterFeed p s) ss) (endingOf (afterFeeds (afterFeed p s) ss))
 
-rest-ended : (p : Progress) (ss : List ℕ) → p .ended ≡ true → restFor p ss ≡ []
-unfolding restFor endingOf
-rest-ended p ss e = rw (← ended-no-text p ss e, ← ended-stays p ss e, e)
+remaining-ended : (p : Progress) (ss : List ℕ) → p .ended ≡ true → remainingFor p ss ≡ []
+unfolding remainingFor endingOf
+remaining-ended p ss e = rw (← ended-no-text p ss e, ← ended-stays p ss e, e)
 
-rest-nothing : (p : Progress) → p .ended ≡ false → printedFor (p .elements) (p .reports) [] ≡ restFor p []
-unfolding restFor textFeeds afterFeeds endingOf printedFor
-rest-nothing p g = rw g
+remaining-nothing : (p : Progress) → p .ended ≡ false → printedFor (p .elements) (p .reports) [] ≡ remainingFor p []
+unfolding remainingFor textFeeds afterFeeds endingOf printedFor
+remaining-nothing p g = rw g
 
-rest-fed : (p : Progress) (s : ℕ) (ss : List ℕ) → p .ended ≡ false → (a : Answer) → answerOf (p .reader) s ≡ a → restFor p (s ∷ ss) ≡ answerLine (answered p (nextOf (p .reader) s) a .elements) a ++ restFor (answered p (nextOf (p .reader) s) a) ss
-rest-fed p s ss g a e = let step = step-fed p s g in rest-step p s ss ∙ rw (step .1, step .0, e)
+remaining-fed : (p : Progress) (s : ℕ) (ss : List ℕ) → p .ended ≡ false → (a : Answer) → answerOf (p .reader) s ≡ a → remainingFor p (s ∷ ss) ≡ answerLine (answered p (nextOf (p .reader) s) a .elements) a ++ remainingFor (answered p (nextOf (p .reader) s) a) ss
+remaining-fed p s ss g a e = let step = step-fed p s g in remaining-step p s ss ∙ rw (step .1, step .0, e)
 
 -- ---- from any progress on, what is printed is what the answers to the rest of the Feeds say
 
 -- of these Feeds, from any progress on
-abbrev Agrees : List ℕ → Type 0
-Agrees ss = (p : Progress) → p .ended ≡ false → Room p (length ss) → printedFor (p .elements) (p .reports) (answers (p .reader) ss) ≡ restFor p ss
+abbrev PrintsAnswers : List ℕ → Type 0
+PrintsAnswers ss = (p : Progress) → p .ended ≡ false → Room p (length ss) → printedFor (p .elements) (p .reports) (answers (p .reader) ss) ≡ remainingFor p ss
 
 module _ (e m : ℕ) (as′ : List Answer) where
   printed-quiet : printedFor e m (Quiet ∷ as′) ≡ printedFor (suc e) m as′
@@ -78,7 +78,7 @@ module _ (e m : ℕ) (as′ : List Answer) where
   unfolding printedFor
   printed-refused x = refl
 
-module _ (s : ℕ) (ss : List ℕ) (rest : Agrees ss) (p : Progress) (g : p .ended ≡ false) (room : Room p (suc (length ss))) where
+module _ (s : ℕ) (ss : List ℕ) (rest : PrintsAnswers ss) (p : Progress) (g : p .ended ≡ false) (room : Room p (suc (length ss))) where
   abbrev r : Reader
   r = nextOf (p .reader) s
 
@@ -92,28 +92,28 @@ module _ (s : ℕ) (ss : List ℕ) (rest : Agrees ss) (p : Progress) (g : p .end
   unfolding answers feedOf
   fed-answers a e = ap (λ (x : Answer). printedFor (p .elements) (p .reports) (x ∷ answers r ss)) e
 
-  fed-agrees : (a : Answer) → answerOf (p .reader) s ≡ a → printedFor (p .elements) (p .reports) (answers (p .reader) (s ∷ ss)) ≡ restFor p (s ∷ ss)
+  fed-agrees : (a : Answer) → answerOf (p .reader) s ≡ a → printedFor (p .elements) (p .reports) (answers (p .reader) (s ∷ ss)) ≡ remainingFor p (s ∷ ss)
   fed-agrees Quiet e =
       fed-answers Quiet e
       ∙ printed-quiet (p .elements) (p .reports) (answers r ss)
       ∙ rw (← more) (rest (answered p r Quiet) refl (record { elements-room = omega (arith, more, room .elements-room); reports-room = omega (arith, room .reports-room) }))
-      ∙ sym (rest-fed p s ss g Quiet e)
+      ∙ sym (remaining-fed p s ss g Quiet e)
   fed-agrees (Report t w) e =
       fed-answers (Report t w) e
       ∙ printed-report (p .elements) (p .reports) (answers r ss) t w
       ∙ rw (← more, ← reports)
       (ap (λ (l : List ℕ). reportLine (oneMore (p .elements)) t w ++ l) (rest (answered p r (Report t w)) refl (record { elements-room = omega (arith, more, room .elements-room); reports-room = omega (arith, reports, room .reports-room) })))
-      ∙ sym (rest-fed p s ss g (Report t w) e)
+      ∙ sym (remaining-fed p s ss g (Report t w) e)
   fed-agrees (Answer.Refused x) e =
       fed-answers (Answer.Refused x) e
       ∙ printed-refused (p .elements) (p .reports) (answers r ss) x
-      ∙ sym (rest-fed p s ss g (Answer.Refused x) e ∙ rw (rest-ended (answered p r (Answer.Refused x)) ss refl) (append-nil (refusedLine (refusalNumber x))))
+      ∙ sym (remaining-fed p s ss g (Answer.Refused x) e ∙ rw (remaining-ended (answered p r (Answer.Refused x)) ss refl) (append-nil (refusedLine (refusalNumber x))))
 
-nothing-agrees : (p : Progress) → p .ended ≡ false → printedFor (p .elements) (p .reports) (answers (p .reader) []) ≡ restFor p []
+nothing-agrees : (p : Progress) → p .ended ≡ false → printedFor (p .elements) (p .reports) (answers (p .reader) []) ≡ remainingFor p []
 unfolding answers
-nothing-agrees p g = rest-nothing p g
+nothing-agrees p g = remaining-nothing p g
 
-rest-is : (ss : List ℕ) → Agrees ss
+rest-is : (ss : List ℕ) → PrintsAnswers ss
 rest-is [] p g room = nothing-agrees p g
 rest-is (s ∷ ss) p g room = fed-agrees s ss (rest-is ss) p g room (answerOf (p .reader) s) refl
 
@@ -128,7 +128,7 @@ module _ (bytes : List ℕ) (first : isFirstLine bytes ≡ true) (short : length
       (and-right (leb 3 (length bytes)) (eqb (getD bytes 2 0) 10 && (leb 48 (getD bytes 1 0) && known (formatIn bytes))) first))
 
   -- After a first line that is so, the lines put while the bytes behind it are read and the last line are what document 01 says.
-  pub listing-is-printed : printed bytes ≡ restPrinted (runningAt (freshReader (formatIn bytes)) 0 0) (drop 3 bytes)
+  pub listing-is-printed : printed bytes ≡ remainingPrinted (runningAt (freshReader (formatIn bytes)) 0 0) (drop 3 bytes)
   unfolding printed
   listing-is-printed =
       rw (first, ← answers-are-plain (formatIn bytes) format-known (feedsOf (drop 3 bytes)))
@@ -140,8 +140,8 @@ unfolding printed
 other-line-refused bytes n = rw n
 
 -- The first three bytes decide of the first line.
-pub begun-by-three : (bytes : List ℕ) → begunOf (take 3 bytes) ≡ begunOf bytes
-unfolding begunOf isFirstLine
+pub begun-by-three : (bytes : List ℕ) → madeFromHead (take 3 bytes) ≡ madeFromHead bytes
+unfolding madeFromHead isFirstLine
 begun-by-three [] = refl
 begun-by-three (a ∷ []) = refl
 begun-by-three (a ∷ b ∷ []) = refl
@@ -152,8 +152,8 @@ unfoldable pub partsPrinted : Progress → List (List ℕ) → List ℕ
 partsPrinted p [] = endingOf p
 partsPrinted p (part ∷ parts) = textOf p part ++ partsPrinted (afterOf p part) parts
 
-pub parts-are-whole : (p : Progress) (parts : List (List ℕ)) → partsPrinted p parts ≡ restPrinted p (together parts)
-unfolding partsPrinted restFor feedsOf textFeeds afterFeeds
+pub parts-are-whole : (p : Progress) (parts : List (List ℕ)) → partsPrinted p parts ≡ remainingPrinted p (together parts)
+unfolding partsPrinted remainingFor feedsOf textFeeds afterFeeds
 parts-are-whole p [] = refl
 parts-are-whole p (part ∷ parts) =
     ap (λ (t : List ℕ). textOf p part ++ t) (parts-are-whole (afterOf p part) parts)
