@@ -32,12 +32,12 @@ frameText i [] = newline ∷ []
 frameText i (s ∷ ss) = elementText i s ++ frameText (suc i) ss
 
 -- the line of the frame that Write writes
-unfoldable pub lineOf : Format → Time → ℕ → List ℕ
-lineOf f t w = frameText 0 (written f t w)
+unfoldable pub frameLine : Format → Time → ℕ → List ℕ
+frameLine f t w = frameText 0 (written f t w)
 
 -- what Write answers for a lent frame of n bytes, which the written one has
-unfoldable pub takenOf : Format → Time → ℕ → Written
-takenOf f t w = writeOf f t w (written f t w)
+unfoldable pub writeAnswer : Format → Time → ℕ → Written
+writeAnswer f t w = writeOf f t w (written f t w)
 
 -- the length of the line, or Write's refusal
 abbrev pub lined : Written → ℕ → Lined
@@ -45,7 +45,7 @@ lined Done k = Line k
 lined (Written.Refused x) k = Lined.Refused x
 
 unfoldable pub linedOf : Format → Time → ℕ → Lined
-linedOf f t w = lined (takenOf f t w) (length (lineOf f t w))
+linedOf f t w = lined (writeAnswer f t w) (length (frameLine f t w))
 
 -- The lent line afterwards: the text at its start, what lies behind being free; or as it was, where nothing is put.
 abbrev pub Stands : Lined → List ℕ → List ℕ → List ℕ → Type 0
@@ -59,7 +59,7 @@ firstLine f = f .letter ∷ (48 + f .expression % 10) ∷ newline ∷ []
 -- the lines of a list of frames
 unfoldable pub framesText : Format → List Sent → List ℕ
 framesText f [] = []
-framesText f (s ∷ ss) = lineOf f (s .time) (s .control) ++ framesText f ss
+framesText f (s ∷ ss) = frameLine f (s .time) (s .control) ++ framesText f ss
 
 -- the whole recording
 unfoldable pub recordingText : Format → List Sent → List ℕ

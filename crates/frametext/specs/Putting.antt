@@ -16,7 +16,7 @@ use Rattle.timecode.specs.declared.Time.{Time}
 use Rattle.timecode.specs.declared.Written.{Written}
 use Rattle.timecode.specs.declared.Written.the-variants.{Done}
 use Rattle.lines.specs.Text.{space, newline}
-use Rattle.frametext.specs.Characters.{characterOf, opensGroup, elementText, frameText, lineOf, takenOf, linedOf}
+use Rattle.frametext.specs.Characters.{characterOf, opensGroup, elementText, frameText, frameLine, writeAnswer, linedOf}
 use Rattle.frametext.specs.declared.Lined.{Lined}
 use Rattle.frametext.specs.declared.Lined.the-variants.{Line}
 
@@ -50,8 +50,8 @@ frame-done before frame whole i e p =
 -- ---- Write, lent the first n bytes
 
 -- its answer is the same for every frame of n bytes
-pub taken-by-length : (f : Format) (t : Time) (w : ℕ) (lent : List ℕ) → length lent ≡ size f → writeOf f t w lent ≡ takenOf f t w
-unfolding takenOf writeOf
+pub taken-by-length : (f : Format) (t : Time) (w : ℕ) (lent : List ℕ) → length lent ≡ size f → writeOf f t w lent ≡ writeAnswer f t w
+unfolding writeAnswer writeOf
 taken-by-length f t w lent n = rw (n, length-written f t w)
 
 length-left : (a : Written) (new old : List ℕ) → length new ≡ length old → length (left a new old) ≡ length old
@@ -66,7 +66,7 @@ module _ (f : Format) (t : Time) (w : ℕ) (lent after : List ℕ) (n : ℕ) (si
   unfolding writeLeaves
   length-after = ap length leaves-it ∙ length-left (writeOf f t w (take n lent)) (written f t w) (take n lent) (length-written f t w ∙ sym front)
 
-  pub part-taken : writeOf f t w (take n lent) ≡ takenOf f t w
+  pub part-taken : writeOf f t w (take n lent) ≡ writeAnswer f t w
   part-taken = taken-by-length f t w (take n lent) front
 
   pub part-length : length (after ++ drop n lent) ≡ length lent
@@ -77,14 +77,14 @@ module _ (f : Format) (t : Time) (w : ℕ) (lent after : List ℕ) (n : ℕ) (si
 
 -- ---- the answers
 
-pub line-text : (f : Format) (t : Time) (w : ℕ) (frame : List ℕ) → frame ≡ written f t w → frameText 0 frame ≡ lineOf f t w
-unfolding lineOf
+pub line-text : (f : Format) (t : Time) (w : ℕ) (frame : List ℕ) → frame ≡ written f t w → frameText 0 frame ≡ frameLine f t w
+unfolding frameLine
 line-text f t w frame e = ap (frameText 0) e
 
-pub line-done : (f : Format) (t : Time) (w k : ℕ) (line : List ℕ) → takenOf f t w ≡ Done → k ≤ length line → take k line ≡ lineOf f t w → Line k ≡ linedOf f t w
+pub line-done : (f : Format) (t : Time) (w k : ℕ) (line : List ℕ) → writeAnswer f t w ≡ Done → k ≤ length line → take k line ≡ frameLine f t w → Line k ≡ linedOf f t w
 unfolding linedOf
 line-done f t w k line d room e = rw d (ap Line (sym (length-take-le k line room) ∙ ap length e))
 
-pub line-refused : (f : Format) (t : Time) (w : ℕ) (x : Refusal) → takenOf f t w ≡ Written.Refused x → Lined.Refused x ≡ linedOf f t w
+pub line-refused : (f : Format) (t : Time) (w : ℕ) (x : Refusal) → writeAnswer f t w ≡ Written.Refused x → Lined.Refused x ≡ linedOf f t w
 unfolding linedOf
 line-refused f t w x r = rw r

@@ -6,7 +6,7 @@ ghost use lib.ListN.{length, take};
 ghost use Rattle.timecode.specs.Formats.{size};
 ghost use Rattle.timecode.specs.Frames.{written};
 ghost use Rattle.timecode.specs.declared.Written.the-variants.{Done};
-ghost use Rattle.frametext.specs.Characters.{characterOf, opensGroup, elementText, frameText, lineOf, takenOf, linedOf, Stands, firstLine};
+ghost use Rattle.frametext.specs.Characters.{characterOf, opensGroup, elementText, frameText, frameLine, writeAnswer, linedOf, Stands, firstLine};
 use frame::write;
 use layout::frame_size;
 use lines::put;
@@ -78,14 +78,14 @@ fn put_frame(line: &mut [u8], frame: &[u8]) -> usize
 // Writes a frame into the first n bytes lent.
 fn write_part(format: Format, time: Time, control: u64, lent: &mut [u8], n: usize) -> Written
     requires { ⌜ (n ≡ size format) × (n ≤ 100) × (length (now lent) ≡ 100) ⌝ }
-    ensures { λ r. ⌜ (r ≡ takenOf format time control) × (length (now (lent .exit)) ≡ 100) × (r ≡ Done → take n (now (lent .exit)) ≡ written format time control) ⌝ }
+    ensures { λ r. ⌜ (r ≡ writeAnswer format time control) × (length (now (lent .exit)) ≡ 100) × (r ≡ Done → take n (now (lent .exit)) ≡ written format time control) ⌝ }
 {
     write(format, time, control, &mut lent[..n])
 }
 
 fn put_line(format: Format, time: Time, control: u64, line: &mut [u8]) -> Lined
     requires { ⌜ length (now line) ≡ 256 ⌝ }
-    ensures { λ r. ⌜ (r ≡ linedOf format time control) × (length (now (line .exit)) ≡ 256) × Stands r (lineOf format time control) (now (line .exit)) (now (line .entry)) ⌝ }
+    ensures { λ r. ⌜ (r ≡ linedOf format time control) × (length (now (line .exit)) ≡ 256) × Stands r (frameLine format time control) (now (line .exit)) (now (line .entry)) ⌝ }
 {
     let n = frame_size(format);
     let mut frame = [0u8; 100];
@@ -98,7 +98,7 @@ fn put_line(format: Format, time: Time, control: u64, line: &mut [u8]) -> Lined
 
 // Puts the line of the frame that Write writes, and refuses as Write does.
 pub fn frame_line(format: Format, time: Time, control: u64, line: &mut [u8; 256]) -> Lined
-    ensures { λ r. ⌜ (r ≡ linedOf format time control) × (length (now (line .exit)) ≡ 256) × Stands r (lineOf format time control) (now (line .exit)) (now (line .entry)) ⌝ }
+    ensures { λ r. ⌜ (r ≡ linedOf format time control) × (length (now (line .exit)) ≡ 256) × Stands r (frameLine format time control) (now (line .exit)) (now (line .entry)) ⌝ }
 {
     put_line(format, time, control, line)
 }

@@ -1,3 +1,3 @@
 pub mod Sending
-pub mod Turns
-pub mod Whole
+pub mod Lines
+pub mod Generators

@@ -13,7 +13,7 @@ use Rattle.timecode.specs.declared.Stepped.the-variants.{To}
 use Rattle.timecode.specs.declared.Time.{Time}
 use Rattle.timecode.specs.declared.Written.{Written}
 use Rattle.timecode.specs.declared.Written.the-variants.{Done}
-use Rattle.frametext.specs.Characters.{lineOf, takenOf}
+use Rattle.frametext.specs.Characters.{frameLine, writeAnswer}
 use Rattle.generator.specs.declared.Generated.{Generated}
 use Rattle.generator.specs.declared.Start.{Start}
 
@@ -24,7 +24,7 @@ begun Done (Stepped.Refused x) = Written.Refused x
 begun (Written.Refused x) s = Written.Refused x
 
 unfoldable pub begunOf : Format → Start → ℕ → ℕ → Written
-begunOf f s w year = begun (takenOf f (s .time) w) (stepOf f (s .time) year (s .kind))
+begunOf f s w year = begun (writeAnswer f (s .time) w) (stepOf f (s .time) year (s .kind))
 
 -- the kind of the next frame's day: the same on the same day, else usual
 unfoldable pub kindAfter : Time → Time → ℕ → ℕ
@@ -44,13 +44,13 @@ startOf f s year zero = s
 startOf f s year (suc k) = nextStart f (startOf f s year k) year
 
 -- the line of a frame; where Write refuses, nothing
-unfoldable pub lineFor : Format → Time → ℕ → List ℕ
-lineFor f t w = left (takenOf f t w) (lineOf f t w) []
+unfoldable pub frameLineFor : Format → Time → ℕ → List ℕ
+frameLineFor f t w = left (writeAnswer f t w) (frameLine f t w) []
 
 -- the lines of the first k frames
 unfoldable pub linesOf : Format → Start → ℕ → ℕ → ℕ → List ℕ
 linesOf f s w year zero = []
-linesOf f s w year (suc k) = linesOf f s w year k ++ lineFor f (startOf f s year k .time) w
+linesOf f s w year (suc k) = linesOf f s w year k ++ frameLineFor f (startOf f s year k .time) w
 
 -- the first k frames
 unfoldable pub framesOf : Format → Start → ℕ → ℕ → ℕ → List Sent

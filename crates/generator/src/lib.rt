@@ -5,7 +5,7 @@ ghost use mathlib.Core.List.{_++_};
 ghost use Prim.Native.Nat.{_+_, _≤_};
 ghost use lib.ListN.{take};
 ghost use Rattle.timecode.specs.declared.Written.the-variants.{Done};
-ghost use Rattle.generator.specs.Sending.{begun, begunOf, kindAfter, nextStart, lineFor, Generates};
+ghost use Rattle.generator.specs.Sending.{begun, begunOf, kindAfter, nextStart, frameLineFor, Generates};
 use clock::step;
 use frametext::Lined;
 use frametext::frame_line;
@@ -79,7 +79,7 @@ fn next_start(format: Format, start: Start, year: u16) -> Start
 
 fn put_next(out: &mut [u8; 65536], at: usize, format: Format, time: Time, control: u64) -> usize
     requires { ⌜ at + 256 ≤ 65536 ⌝ }
-    ensures { λ r. ⌜ (r ≤ 65536) × (take r (now (out .exit)) ≡ take at (now (out .entry)) ++ lineFor format time control) ⌝ }
+    ensures { λ r. ⌜ (r ≤ 65536) × (take r (now (out .exit)) ≡ take at (now (out .entry)) ++ frameLineFor format time control) ⌝ }
 {
     let mut line = [0u8; 256];
     let lined = frame_line(format, time, control, &mut line);

@@ -19,9 +19,9 @@ use Rattle.lines.specs.Text.{space, newline}
 use Rattle.listing.specs.Printed.{formatIn, isFirstLine, printedFor, printed}
 use Rattle.characters.specs.Symbols.{isSkipped, symbolOf, feedsOf}
 use Rattle.generator.specs.Sending.{begunOf, linesOf, framesOf}
-use Rattle.generator.specs.Whole.{valid, lines-are}
+use Rattle.generator.specs.Generators.{valid, lines-are}
 use Rattle.generator.specs.declared.Start.{Start}
-use Rattle.frametext.specs.Characters.{characterOf, opensGroup, elementText, frameText, lineOf, firstLine, framesText, recordingText}
+use Rattle.frametext.specs.Characters.{characterOf, opensGroup, elementText, frameText, frameLine, firstLine, framesText, recordingText}
 
 -- ---- a character is read as the symbol that it was put for
 
@@ -63,7 +63,7 @@ feeds-of-frame i (s ∷ ss) rest h =
 
 -- The lines of frames, any times and control words, are read as their elements.
 pub feeds-of-frames : (f : Format) (sent : List Sent) → feedsOf (framesText f sent) ≡ elements f sent
-unfolding framesText elements lineOf feedsOf
+unfolding framesText elements frameLine feedsOf
 feeds-of-frames f [] = refl
 feeds-of-frames f (s ∷ ss) =
     feeds-of-frame 0 (written f (s .time) (s .control)) (framesText f ss) (written-symbols f (s .time) (s .control))

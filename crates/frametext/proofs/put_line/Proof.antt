@@ -41,9 +41,9 @@ same-length c = search needs
 
 returns : tie.Need-returns
 returns c =
-    let told = c .before .before .before .before .before .enum-told .given .1 in
-    let text = c .before .before .put-frame .ensures .2 ∙ line-text _ _ _ _ (c .before .before .before .before .before .before .before .before .write-part .ensures .2 told) in
-    (line-done _ _ _ _ _ (sym (c .before .before .before .before .before .before .before .before .write-part .ensures .0) ∙ told) (omega (arith, c .before .before .put-frame .ensures .0, c .before .before .put-frame .ensures .1)) text, c .before .before .put-frame .ensures .1, (c .before .before .put-frame .ensures .0, text))
+    let done-is = c .before .before .before .before .before .enum-told .given .1 in
+    let text = c .before .before .put-frame .ensures .2 ∙ line-text _ _ _ _ (c .before .before .before .before .before .before .before .before .write-part .ensures .2 done-is) in
+    (line-done _ _ _ _ _ (sym (c .before .before .before .before .before .before .before .before .write-part .ensures .0) ∙ done-is) (omega (arith, c .before .before .put-frame .ensures .0, c .before .before .put-frame .ensures .1)) text, c .before .before .put-frame .ensures .1, (c .before .before .put-frame .ensures .0, text))
 
 returns-2 : tie.Need-returns-2
 returns-2 c = (line-refused _ _ _ _ (sym (c .before .before .before .before .write-part .ensures .0) ∙ c .before .answer .given .1), c .before .before .before .before .before .before .before .before .pre, refl)

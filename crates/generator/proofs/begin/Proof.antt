@@ -5,7 +5,7 @@ use Rattle.timecode.specs.declared.Stepped.{Stepped}
 use Rattle.timecode.specs.declared.Written.the-variants.{Done}
 use Rattle.frametext.specs.declared.Lined.{Lined}
 use Rattle.generator.specs.Sending.{begun}
-use Rattle.generator.specs.Turns.{answerOf, taken-is, begun-step, begun-refused}
+use Rattle.generator.specs.Lines.{steppedAnswer, taken-is, begun-step, begun-refused}
 use Rattle.generator.proofs.begin.Statement.{statement}
 use Rattle.generator.proofs.begin.Tie as tie
 use Rattle.generator.proofs.begin.Reads as reads
@@ -30,10 +30,10 @@ enum-known-lined : tie.Need-enum-known-lined
 enum-known-lined c = search needs
 
 returns : tie.Need-returns
-returns c = c .check-step .ensures ∙ ap (λ (s : Stepped). begun Done s) (c .before .step .ensures) ∙ begun-step _ _ _ _ (taken-is _ _ _ _ (c .before .before .before .before .frame-line .ensures .0) ∙ ap (λ (a : Lined). answerOf a) (c .before .before .enum-told .given .1))
+returns c = c .check-step .ensures ∙ ap (λ (s : Stepped). begun Done s) (c .before .step .ensures) ∙ begun-step _ _ _ _ (taken-is _ _ _ _ (c .before .before .before .before .frame-line .ensures .0) ∙ ap (λ (a : Lined). steppedAnswer a) (c .before .before .enum-told .given .1))
 
 returns-2 : tie.Need-returns-2
-returns-2 c = begun-refused _ _ _ _ _ (taken-is _ _ _ _ (c .before .before .before .frame-line .ensures .0) ∙ ap (λ (a : Lined). answerOf a) (c .before .lined .given .1))
+returns-2 c = begun-refused _ _ _ _ _ (taken-is _ _ _ _ (c .before .before .before .frame-line .ensures .0) ∙ ap (λ (a : Lined). steppedAnswer a) (c .before .lined .given .1))
 
 pub begin-spec : {M : Type 1} → statement M
 begin-spec =

@@ -5,7 +5,7 @@ use native.Mathlib.Nat.{le-trans}
 use borrow.Author.Tests.{leb-true, leb-false}
 use mathlib.Core.Path.{_≡_, refl}
 use Prim.Native.Nat.{_≤_}
-use Rattle.generator.specs.Turns.{PutSoFar, put-start, put-turn, some-put}
+use Rattle.generator.specs.Lines.{PutSoFar, put-start, put-turn, some-put}
 use Rattle.generator.proofs.generate.Statement.{statement}
 use Rattle.generator.proofs.generate.Tie as tie
 use Rattle.generator.proofs.generate.Reads as reads

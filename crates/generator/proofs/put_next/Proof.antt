@@ -4,7 +4,7 @@ use native.Mathlib.Omega.{arith}
 use mathlib.Core.Path.{sym, ap, _∙_}
 use mathlib.Core.List.{append-nil}
 use Rattle.frametext.specs.declared.Lined.{Lined}
-use Rattle.generator.specs.Turns.{answerOf, taken-is, line-put, line-none, part-length}
+use Rattle.generator.specs.Lines.{steppedAnswer, taken-is, line-put, line-none, part-length}
 use Rattle.generator.proofs.put_next.Statement.{statement}
 use Rattle.generator.proofs.put_next.Tie as tie
 use Rattle.generator.proofs.put_next.Reads as reads
@@ -31,10 +31,10 @@ enum-told : tie.Need-enum-told
 enum-told c = search needs
 
 returns : tie.Need-returns
-returns c = let line = rw (c .before .before .before .before .lined .given .1) at (c .before .before .before .before .before .before .frame-line .ensures .2) in (omega (arith, c .put-text .ensures .0, line .0, c .before .before .before .before .before .before .before .before .pre, part-length _ (c .before .before .before .before .before .before .frame-line .last .1 .1 .1 .0) (line .0) (c .before .before .before .before .before .before .frame-line .ensures .1)), rw (← line-put _ _ _ (taken-is _ _ _ _ (c .before .before .before .before .before .before .frame-line .ensures .0) ∙ ap (λ (a : Lined). answerOf a) (c .before .before .before .before .lined .given .1)), ← line .1) (c .put-text .ensures .2))
+returns c = let line = rw (c .before .before .before .before .lined .given .1) at (c .before .before .before .before .before .before .frame-line .ensures .2) in (omega (arith, c .put-text .ensures .0, line .0, c .before .before .before .before .before .before .before .before .pre, part-length _ (c .before .before .before .before .before .before .frame-line .last .1 .1 .1 .0) (line .0) (c .before .before .before .before .before .before .frame-line .ensures .1)), rw (← line-put _ _ _ (taken-is _ _ _ _ (c .before .before .before .before .before .before .frame-line .ensures .0) ∙ ap (λ (a : Lined). steppedAnswer a) (c .before .before .before .before .lined .given .1)), ← line .1) (c .put-text .ensures .2))
 
 returns-2 : tie.Need-returns-2
-returns-2 c = (omega (arith, c .before .before .before .before .pre), rw (← line-none _ _ _ _ (taken-is _ _ _ _ (c .before .before .frame-line .ensures .0) ∙ ap (λ (a : Lined). answerOf a) (c .enum-told .given .1))) (sym (append-nil _)))
+returns-2 c = (omega (arith, c .before .before .before .before .pre), rw (← line-none _ _ _ _ (taken-is _ _ _ _ (c .before .before .frame-line .ensures .0) ∙ ap (λ (a : Lined). steppedAnswer a) (c .enum-told .given .1))) (sym (append-nil _)))
 
 pub put-next-spec : {M : Type 1} → statement M
 put-next-spec =

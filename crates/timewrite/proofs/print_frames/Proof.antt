@@ -4,8 +4,8 @@ use native.Mathlib.Omega.{arith}
 use mathlib.Core.Path.{_≡_}
 use Prim.Native.Nat.{_-_, _≤_}
 use Rattle.generator.specs.Sending.{startOf}
-use Rattle.generator.specs.Turns.{starts-first}
-use Rattle.generator.specs.Whole.{starts-turn}
+use Rattle.generator.specs.Lines.{starts-first}
+use Rattle.generator.specs.Generators.{starts-turn}
 use Rattle.timewrite.proofs.print_frames.Statement.{statement}
 use Rattle.timewrite.proofs.print_frames.Tie as tie
 use Rattle.timewrite.proofs.print_frames.Reads as reads

@@ -22,8 +22,8 @@ use Rattle.timecode.specs.declared.Stepped.the-variants.{To}
 use Rattle.timecode.specs.declared.Time.{Time}
 use Rattle.timecode.specs.declared.Written.{Written}
 use Rattle.timecode.specs.declared.Written.the-variants.{Done}
-use Rattle.frametext.specs.Characters.{lineOf, takenOf, framesText}
-use Rattle.generator.specs.Sending.{begun, begunOf, kindAfter, stepped, nextStart, startOf, lineFor, linesOf, framesOf}
+use Rattle.frametext.specs.Characters.{frameLine, writeAnswer, framesText}
+use Rattle.generator.specs.Sending.{begun, begunOf, kindAfter, stepped, nextStart, startOf, frameLineFor, linesOf, framesOf}
 use Rattle.generator.specs.declared.Start.{Start}
 
 -- ---- parts
@@ -45,7 +45,7 @@ lines-parts f s w year a zero = ap (linesOf f s w year) (plus-none a) ∙ sym (a
 lines-parts f s w year a (suc b) =
     ap (linesOf f s w year) (plus-more a b)
     ∙ rw (lines-parts f s w year a b, starts-parts f s year a b)
-    (append-assoc (linesOf f s w year a) (linesOf f (startOf f s year a) w year b) (lineFor f (startOf f (startOf f s year a) year b .time) w))
+    (append-assoc (linesOf f s w year a) (linesOf f (startOf f s year a) w year b) (frameLineFor f (startOf f (startOf f s year a) year b .time) w))
 
 parts-sum : (frames left left′ : ℕ) → left ≤ frames → left′ ≤ left → frames - left + (left - left′) ≡ frames - left′
 parts-sum frames left left′ a b = omega arith
@@ -116,9 +116,9 @@ usual-stays : (b : Bool) → cond b usual usual ≡ usual
 usual-stays true = refl
 usual-stays false = refl
 
-kind-turn : (b : Bool) (first day next told kind : ℕ) → kind ≡ cond b told usual → (b ≡ true → first ≡ day) → cond (eqb day next) kind usual ≡ cond (b && eqb first next) told usual
-kind-turn true first day next told kind p q = rw (p, q refl)
-kind-turn false first day next told kind p q = rw p (usual-stays (eqb day next))
+kind-turn : (b : Bool) (first day next given-kind kind : ℕ) → kind ≡ cond b given-kind usual → (b ≡ true → first ≡ day) → cond (eqb day next) kind usual ≡ cond (b && eqb first next) given-kind usual
+kind-turn true first day next given-kind kind p q = rw (p, q refl)
+kind-turn false first day next given-kind kind p q = rw p (usual-stays (eqb day next))
 
 pub kind-at : (f : Format) (s : Start) (year k : ℕ) → startOf f s year k .kind ≡ cond (ofFirstDay f s year k) (s .kind) usual
 unfolding ofFirstDay startOf kindAfter
@@ -132,21 +132,21 @@ kind-at f s year (suc k) =
 text-append : (f : Format) (xs ys : List Sent) → framesText f (xs ++ ys) ≡ framesText f xs ++ framesText f ys
 unfolding framesText
 text-append f [] ys = refl
-text-append f (x ∷ xs) ys = ap (λ (s : List ℕ). lineOf f (x .time) (x .control) ++ s) (text-append f xs ys) ∙ sym (append-assoc (lineOf f (x .time) (x .control)) (framesText f xs) (framesText f ys))
+text-append f (x ∷ xs) ys = ap (λ (s : List ℕ). frameLine f (x .time) (x .control) ++ s) (text-append f xs ys) ∙ sym (append-assoc (frameLine f (x .time) (x .control)) (framesText f xs) (framesText f ys))
 
-text-one : (f : Format) (s : Sent) → framesText f (s ∷ []) ≡ lineOf f (s .time) (s .control)
+text-one : (f : Format) (s : Sent) → framesText f (s ∷ []) ≡ frameLine f (s .time) (s .control)
 unfolding framesText
-text-one f s = append-nil (lineOf f (s .time) (s .control))
+text-one f s = append-nil (frameLine f (s .time) (s .control))
 
 -- ---- after `begin`'s checks
 
 module _ (f : Format) (s : Start) (w year : ℕ) (b : begunOf f s w year ≡ Done) where
-  begins : (takenOf f (s .time) w ≡ Done) × Steps f s year
+  begins : (writeAnswer f (s .time) w ≡ Done) × Steps f s year
   unfolding begunOf
-  begins = begun-done (takenOf f (s .time) w) (stepOf f (s .time) year (s .kind)) b
+  begins = begun-done (writeAnswer f (s .time) w) (stepOf f (s .time) year (s .kind)) b
 
   pub valid : Valid f (s .time) w
-  unfolding takenOf
+  unfolding writeAnswer
   valid = taken f (s .time) w (written f (s .time) w) (begins .0) .0
 
   steps-at : (k : ℕ) → Steps f (startOf f s year k) year
@@ -168,8 +168,8 @@ module _ (f : Format) (s : Start) (w year : ℕ) (b : begunOf f s w year ≡ Don
   abbrev frame : ℕ → Sent
   frame k = record { time = timeAt k; control = w }
 
-  line-at : (k : ℕ) → lineFor f (timeAt k) w ≡ lineOf f (timeAt k) w
-  unfolding lineFor takenOf
+  line-at : (k : ℕ) → frameLineFor f (timeAt k) w ≡ frameLine f (timeAt k) w
+  unfolding frameLineFor writeAnswer
   line-at k = rw (takes f (timeAt k) w (written f (timeAt k) w) (valid-at k) (length-written f (timeAt k) w))
 
   -- every frame's line is put

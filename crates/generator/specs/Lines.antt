@@ -12,32 +12,32 @@ use Rattle.timecode.specs.declared.Refusal.{Refusal}
 use Rattle.timecode.specs.declared.Time.{Time}
 use Rattle.timecode.specs.declared.Written.{Written}
 use Rattle.timecode.specs.declared.Written.the-variants.{Done}
-use Rattle.frametext.specs.Characters.{lineOf, takenOf, lined, linedOf}
+use Rattle.frametext.specs.Characters.{frameLine, writeAnswer, lined, linedOf}
 use Rattle.frametext.specs.declared.Lined.{Lined}
 use Rattle.frametext.specs.declared.Lined.the-variants.{Line}
-use Rattle.generator.specs.Sending.{begun, begunOf, nextStart, startOf, lineFor, linesOf}
+use Rattle.generator.specs.Sending.{begun, begunOf, nextStart, startOf, frameLineFor, linesOf}
 use Rattle.generator.specs.declared.Start.{Start}
 
 -- ---- frame_line's answer is Write's
 
-abbrev pub answerOf : Lined → Written
-answerOf (Line k) = Done
-answerOf (Lined.Refused x) = Written.Refused x
+abbrev pub steppedAnswer : Lined → Written
+steppedAnswer (Line k) = Done
+steppedAnswer (Lined.Refused x) = Written.Refused x
 
-lined-back : (a : Written) (k : ℕ) → a ≡ answerOf (lined a k)
+lined-back : (a : Written) (k : ℕ) → a ≡ steppedAnswer (lined a k)
 lined-back Done k = refl
 lined-back (Written.Refused x) k = refl
 
-pub taken-is : (f : Format) (t : Time) (w : ℕ) (a : Lined) → a ≡ linedOf f t w → takenOf f t w ≡ answerOf a
+pub taken-is : (f : Format) (t : Time) (w : ℕ) (a : Lined) → a ≡ linedOf f t w → writeAnswer f t w ≡ steppedAnswer a
 unfolding linedOf
-taken-is f t w a h = lined-back (takenOf f t w) (length (lineOf f t w)) ∙ ap answerOf (sym h)
+taken-is f t w a h = lined-back (writeAnswer f t w) (length (frameLine f t w)) ∙ ap steppedAnswer (sym h)
 
-pub line-put : (f : Format) (t : Time) (w : ℕ) → takenOf f t w ≡ Done → lineOf f t w ≡ lineFor f t w
-unfolding lineFor
+pub line-put : (f : Format) (t : Time) (w : ℕ) → writeAnswer f t w ≡ Done → frameLine f t w ≡ frameLineFor f t w
+unfolding frameLineFor
 line-put f t w d = rw d
 
-pub line-none : (f : Format) (t : Time) (w : ℕ) (x : Refusal) → takenOf f t w ≡ Written.Refused x → [] ≡ lineFor f t w
-unfolding lineFor
+pub line-none : (f : Format) (t : Time) (w : ℕ) (x : Refusal) → writeAnswer f t w ≡ Written.Refused x → [] ≡ frameLineFor f t w
+unfolding frameLineFor
 line-none f t w x r = rw r
 
 -- the part of the line that is put
@@ -46,11 +46,11 @@ part-length k line h n = length-take-le k line (omega arith)
 
 -- ---- the checks
 
-pub begun-step : (f : Format) (s : Start) (w year : ℕ) → takenOf f (s .time) w ≡ Done → begun Done (stepOf f (s .time) year (s .kind)) ≡ begunOf f s w year
+pub begun-step : (f : Format) (s : Start) (w year : ℕ) → writeAnswer f (s .time) w ≡ Done → begun Done (stepOf f (s .time) year (s .kind)) ≡ begunOf f s w year
 unfolding begunOf
 begun-step f s w year d = rw d
 
-pub begun-refused : (f : Format) (s : Start) (w year : ℕ) (x : Refusal) → takenOf f (s .time) w ≡ Written.Refused x → Written.Refused x ≡ begunOf f s w year
+pub begun-refused : (f : Format) (s : Start) (w year : ℕ) (x : Refusal) → writeAnswer f (s .time) w ≡ Written.Refused x → Written.Refused x ≡ begunOf f s w year
 unfolding begunOf
 begun-refused f s w year x r = rw r
 
@@ -79,12 +79,12 @@ next-start : (f : Format) (s : Start) (year k : ℕ) → startOf f s year (suc k
 unfolding startOf
 next-start f s year k = refl
 
-next-line : (f : Format) (s : Start) (w year k : ℕ) → linesOf f s w year (suc k) ≡ linesOf f s w year k ++ lineFor f (startOf f s year k .time) w
+next-line : (f : Format) (s : Start) (w year k : ℕ) → linesOf f s w year (suc k) ≡ linesOf f s w year k ++ frameLineFor f (startOf f s year k .time) w
 unfolding linesOf
 next-line f s w year k = refl
 
 pub put-turn : (f : Format) (s : Start) (w year frames left : ℕ) (now now′ : Start) (filled filled′ : ℕ) (out out′ : List ℕ) → 0 < left → left ≤ frames → PutSoFar f s w year frames left now filled out
-    → take filled′ out′ ≡ take filled out ++ lineFor f (now .time) w → now′ ≡ nextStart f now year → PutSoFar f s w year frames (left - 1) now′ filled′ out′
+    → take filled′ out′ ≡ take filled out ++ frameLineFor f (now .time) w → now′ ≡ nextStart f now year → PutSoFar f s w year frames (left - 1) now′ filled′ out′
 put-turn f s w year frames left now now′ filled filled′ out out′ a b h p q =
     record {
       reached = q ∙ rw (one-more frames left a b, next-start f s year (frames - left), h .reached);
