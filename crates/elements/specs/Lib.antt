@@ -1,4 +1,4 @@
-pub mod Stamps
-pub mod Turns
-pub mod Packing
+pub mod Stores
+pub mod RunLoops
+pub mod RunBits
 pub mod Tens

@@ -14,8 +14,8 @@ use Rattle.timecode.specs.Laws.Runs.{length-tabulate, getD-tabulate, tabulate-s
 use Rattle.timecode.specs.Laws.Tests.{by-test, everyBelow, below-every}
 use Rattle.timecode.specs.Layout.{isMark, tabulate}
 use Rattle.layout.specs.Tables.{markPlaces}
-use Rattle.elements.specs.Packing.{elementAt, low-bit}
-use Rattle.elements.specs.Stamps.{stamp, stamped, stamp-step, set-tabulate}
+use Rattle.elements.specs.RunBits.{elementAt, low-bit}
+use Rattle.elements.specs.Stores.{bitsStored, storedAt, bits-stored-step, set-tabulate}
 
 -- a frame's length
 abbrev pub IsFrame : ℕ → Type 0
@@ -76,11 +76,11 @@ module _ (frame : List ℕ) (k x : ℕ) where
   nineAt i = cond (eqb (i / 10) k) (cond (eqb (i % 10) 9) 2 (x / 2 ^ (i % 10) % 2)) (getD frame i 0)
 
   -- nine bits, and a mark behind them
-  nine-put : set (set (stamp frame (10 * k) 8 x) (10 * k + 8) (x / 256 % 2)) (10 * k + 9) 2 ≡ tabulate (length frame) 0 nineAt
-  unfolding stamp
+  nine-put : set (set (bitsStored frame (10 * k) 8 x) (10 * k + 8) (x / 256 % 2)) (10 * k + 9) 2 ≡ tabulate (length frame) 0 nineAt
+  unfolding bitsStored
   nine-put =
-      ap (λ (ss : List ℕ). set ss (10 * k + 9) 2) (stamp-step frame (10 * k) 8 x)
-      ∙ set-tabulate (length frame) (10 * k + 9) 2 (stamped frame (10 * k) 9 x) nineAt
+      ap (λ (ss : List ℕ). set ss (10 * k + 9) 2) (bits-stored-step frame (10 * k) 8 x)
+      ∙ set-tabulate (length frame) (10 * k + 9) 2 (storedAt frame (10 * k) 9 x) nineAt
       (λ h. rw (eq-eqb ((10 * k + 9) / 10) k (omega arith), eq-eqb ((10 * k + 9) % 10) 9 (omega arith)))
       (λ i h o.
       by-test (leb (10 * k) i)
@@ -99,13 +99,13 @@ module _ (frame : List ℕ) (k x : ℕ) where
   unfolding isMark
   later-nine i o = rw (ne-eqb i 0 o)
 
-  pub first-ten : k ≡ 0 → set (set (set (stamp frame (10 * k) 8 x) (10 * k + 8) (x / 256 % 2)) (10 * k + 9) 2) 0 2 ≡ ten frame k x
+  pub first-ten : k ≡ 0 → set (set (set (bitsStored frame (10 * k) 8 x) (10 * k + 8) (x / 256 % 2)) (10 * k + 9) 2) 0 2 ≡ ten frame k x
   unfolding ten isMark
   first-ten z =
       ap (λ (ss : List ℕ). set ss 0 2) nine-put
       ∙ set-tabulate (length frame) 0 2 nineAt (tenAt frame k x) (λ h. rw (eq-eqb 0 k (sym z))) (λ i h o. later-nine i o)
 
-  pub later-ten : (k ≡ 0 → ⊥) → set (set (stamp frame (10 * k) 8 x) (10 * k + 8) (x / 256 % 2)) (10 * k + 9) 2 ≡ ten frame k x
+  pub later-ten : (k ≡ 0 → ⊥) → set (set (bitsStored frame (10 * k) 8 x) (10 * k + 8) (x / 256 % 2)) (10 * k + 9) 2 ≡ ten frame k x
   unfolding ten
   later-ten o =
       nine-put

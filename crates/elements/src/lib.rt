@@ -9,7 +9,7 @@ ghost use Rattle.timecode.specs.Layout.{isMark, filler, encode, value, Small, d
 ghost use Rattle.timecode.specs.declared.Format.{Format};
 ghost use Rattle.layout.specs.Tables.{startsOf, widthsOf, markPlaces};
 ghost use Rattle.layout.specs.Runs.{codeRuns};
-ghost use Rattle.elements.specs.Packing.{placedAt, packed};
+ghost use Rattle.elements.specs.RunBits.{placedAt, packed};
 ghost use Rattle.elements.specs.Tens.{fourElements, ten, tens, IsFrame};
 use layout::mark_places;
 use layout::run_starts;
@@ -36,7 +36,7 @@ const FOURS: [u32; 16] = [
     0x0101_0101,
 ];
 
-fn wide(x: u8) -> usize
+fn to_usize(x: u8) -> usize
     ensures { λ r. ⌜ r ≡ x ⌝ }
 {
     x as usize
@@ -93,9 +93,9 @@ fn put_ten(fours: &[u32], places: &[u8], frame: &mut [u8], k: usize, x: u64)
         j += 1;
     }
     frame[at + 8] = (x / 256 % 2) as u8;
-    frame[wide(places[k + 1])] = MARK;
+    frame[to_usize(places[k + 1])] = MARK;
     if k == 0 {
-        frame[wide(places[k])] = MARK;
+        frame[to_usize(places[k])] = MARK;
     }
 }
 
@@ -150,7 +150,7 @@ pub fn digits_in(format: Format, widths: &[u8], frame: &[u8]) -> [u64; 18]
     let mut digits = [0u64; 18];
     let mut j = 0;
     while j < 18 {
-        digits[j] = digit_at(frame, wide(starts[j]), wide(widths[j]));
+        digits[j] = digit_at(frame, to_usize(starts[j]), to_usize(widths[j]));
         j += 1;
     }
     digits

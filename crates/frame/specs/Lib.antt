@@ -1,2 +1,2 @@
 pub mod Offences
-pub mod Ways
+pub mod Exits

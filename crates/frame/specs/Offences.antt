@@ -54,9 +54,9 @@ unfoldable pub offenceIn : Format → List ℕ → Offence
 offenceIn f frame = cond (areSymbols frame) (offendedOf (shape f) frame) (At UnknownSymbol)
 
 -- the answer, where an offence refuses
-abbrev pub settled : Offence → Reading → Reading
-settled Nothing answer = answer
-settled (At r) answer = Reading.Refused r
+abbrev pub refusedOr : Offence → Reading → Reading
+refusedOr Nothing answer = answer
+refusedOr (At r) answer = Reading.Refused r
 
 -- ---- turns of the loop
 
@@ -130,12 +130,12 @@ shape-fits f i s h = rw (shape-at f i h) (by-test (covered (codeRuns f) i) (λ y
 
 found-elements : (fillers : ℕ → ℕ) (rs : List Run) (i : ℕ) (form frame : List ℕ) (a : Reading) → length frame ≤ length form
     → ((k s : ℕ) → k < length frame → (agreesWith (getD form k 0) s ≡ marksAgree fillers rs (i + k) s) × (fitsIn (getD form k 0) s ≡ elementFits fillers rs (i + k) s))
-    → checkElements fillers rs i frame a ≡ settled (offendedFrom i form frame) a
+    → checkElements fillers rs i frame a ≡ refusedOr (offendedFrom i form frame) a
 unfolding checkElements offendedFrom
 found-elements fillers rs i form [] a l same = refl
 found-elements fillers rs i [] (s ∷ ss) a l same = absurd (not-suc-le-zero l)
 found-elements fillers rs i (m ∷ ms) (s ∷ ss) a l same =
-    let later : checkElements fillers rs (suc i) ss a ≡ settled (offendedFrom (suc i) ms ss) a =
+    let later : checkElements fillers rs (suc i) ss a ≡ refusedOr (offendedFrom (suc i) ms ss) a =
     found-elements fillers rs (suc i) ms ss a (omega arith) (λ k x b. rw (suc-add i k, ← add-suc i k) (same (suc k) x (omega arith))) in
     let here : (agreesWith m s ≡ marksAgree fillers rs i s) × (fitsIn m s ≡ elementFits fillers rs i s) = rw (add-zero i) at (same 0 s (omega arith)) in
     rw (← here .0, ← here .1)
@@ -143,7 +143,7 @@ found-elements fillers rs i (m ∷ ms) (s ∷ ss) a l same =
     (λ y. rw y (by-test (fitsIn m s) (λ z. rw z later) (λ z. rw z)))
     (λ n. rw n))
 
-pub offended-refuses : (f : Format) (frame : List ℕ) → length frame ≤ 100 → (a : Reading) → checkElements (filler f) (runs f) 0 frame a ≡ settled (offendedOf (shape f) frame) a
+pub offended-refuses : (f : Format) (frame : List ℕ) → length frame ≤ 100 → (a : Reading) → checkElements (filler f) (runs f) 0 frame a ≡ refusedOr (offendedOf (shape f) frame) a
 offended-refuses f frame h a =
     sym (code-elements f 0 frame a)
     ∙ found-elements (filler f) (codeRuns f) 0 (shape f) frame a (omega (arith, length-shape f)) (λ i s l. rw (zero-add i) (shape-agrees f i s (omega arith), shape-fits f i s (omega arith)))

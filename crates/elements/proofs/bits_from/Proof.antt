@@ -7,8 +7,8 @@ use lib.ListN.{getD, drop}
 use Rattle.timecode.specs.declared.Format.{Format}
 use Rattle.timecode.specs.Formats.{A}
 use Rattle.layout.specs.Tables.{startsOf, with-letter}
-use Rattle.elements.specs.Packing.{placedAt, packed, packed-start, packed-turn}
-use Rattle.elements.specs.Turns.{length-starts}
+use Rattle.elements.specs.RunBits.{placedAt, packed, packed-start, packed-turn}
+use Rattle.elements.specs.RunLoops.{length-starts}
 use Rattle.elements.proofs.bits_from.Statement.{statement}
 use Rattle.elements.proofs.bits_from.Tie as tie
 

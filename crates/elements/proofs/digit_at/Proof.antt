@@ -6,7 +6,7 @@ use lib.Pow.{pow-mono}
 use lib.ListN.{getD}
 use native.Mathlib.Nat.{two-pow-succ}
 use Rattle.timecode.specs.Layout.{value}
-use Rattle.elements.specs.Turns.{value-start, value-turn, value-end}
+use Rattle.elements.specs.RunLoops.{value-start, value-turn, value-end}
 use Rattle.elements.proofs.digit_at.Statement.{statement}
 use Rattle.elements.proofs.digit_at.Tie as tie
 

@@ -5,9 +5,9 @@ use native.Mathlib.Omega.{arith}
 use lib.ListN.{length}
 use Rattle.timecode.specs.Layout.{tabulate}
 use Rattle.layout.specs.Tables.{startsOf}
-use Rattle.elements.specs.Packing.{packed, elementAt, digits-put}
+use Rattle.elements.specs.RunBits.{packed, elementAt, digits-put}
 use Rattle.elements.specs.Tens.{frame-range, not-100, tens, length-tens, frame-of-60, frame-of-100}
-use Rattle.elements.specs.Turns.{head-starts}
+use Rattle.elements.specs.RunLoops.{head-starts}
 use Rattle.elements.proofs.put_digits.Statement.{statement}
 use Rattle.elements.proofs.put_digits.Tie as tie
 

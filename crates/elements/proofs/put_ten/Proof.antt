@@ -4,13 +4,13 @@ use mathlib.Core.Path.{_≡_, refl, ap, ap₂, _∙_}
 use Prim.Native.Nat.{_+_, _*_, _-_, _/_, _%_, _^_, _≤_}
 use native.Mathlib.Omega.{arith}
 use lib.ListN.{getD, length, set, length-set}
-use Rattle.elements.specs.Stamps.{stamp, stamp-none, stamp-step}
+use Rattle.elements.specs.Stores.{bitsStored, bits-stored-none, bits-stored-step}
 use Rattle.elements.specs.Tens.{mark-place, first-ten, later-ten}
 use Rattle.elements.proofs.put_ten.Statement.{statement}
 use Rattle.elements.proofs.put_ten.Tie as tie
 
 abbrev Inv-loop : tie.InvT-loop
-Inv-loop fours places frame₀ k x at j₀ frame j = (j ≤ 8) × (length frame ≡ length frame₀) × (frame ≡ stamp frame₀ at j x)
+Inv-loop fours places frame₀ k x at j₀ frame j = (j ≤ 8) × (length frame ≡ length frame₀) × (frame ≡ bitsStored frame₀ at j x)
 
 abbrev μ-loop : tie.MeasureT-loop
 μ-loop fours places frame₀ k x at j₀ frame j = 8 - j
@@ -19,7 +19,7 @@ mul-at : tie.Need-mul-at Inv-loop μ-loop
 mul-at c = omega arith
 
 loop-holds : tie.Need-loop-holds Inv-loop μ-loop
-loop-holds c = (omega arith, refl, stamp-none (c .before .before .before .args .frame .now) (10 * c .before .before .before .args .k) (c .before .before .before .args .x))
+loop-holds c = (omega arith, refl, bits-stored-none (c .before .before .before .args .frame .now) (10 * c .before .before .before .args .k) (c .before .before .before .args .x))
 
 element-requires : tie.Need-element-requires Inv-loop μ-loop
 element-requires c κs = (c .before .before .before .before .before .pre .0, omega arith)
@@ -43,7 +43,7 @@ loop-again c =
     let frame = c .before .before .loop .frame in (
       omega arith,
       simp length-set (c .before .before .loop .inv .1),
-      ap (λ v. set frame (10 * a .k + j) v) (c .element .ensures) ∙ ap (λ l. set l (10 * a .k + j) (a .x / 2 ^ j % 2)) (c .before .before .loop .inv .2) ∙ stamp-step (a .frame .now) (10 * a .k) j (a .x),
+      ap (λ v. set frame (10 * a .k + j) v) (c .element .ensures) ∙ ap (λ l. set l (10 * a .k + j) (a .x / 2 ^ j % 2)) (c .before .before .loop .inv .2) ∙ bits-stored-step (a .frame .now) (10 * a .k) j (a .x),
     )
 
 cast-frame : tie.Need-cast-frame Inv-loop μ-loop
@@ -55,30 +55,30 @@ add-frame-2 c = omega arith
 slice-write-frame-2 : tie.Need-slice-write-frame-2 Inv-loop μ-loop
 slice-write-frame-2 c = omega arith
 
-add-wide : tie.Need-add-wide Inv-loop μ-loop
-add-wide c = omega arith
+add-to-usize : tie.Need-add-to-usize Inv-loop μ-loop
+add-to-usize c = omega arith
 
-shared-slice-read-wide : tie.Need-shared-slice-read-wide Inv-loop μ-loop
-shared-slice-read-wide c = let n : length (c .before .before .before .before .before .before .args .places .now) ≡ 11 = rw (c .before .before .before .before .before .before .pre .1) refl in omega arith
+shared-slice-read-to-usize : tie.Need-shared-slice-read-to-usize Inv-loop μ-loop
+shared-slice-read-to-usize c = let n : length (c .before .before .before .before .before .before .args .places .now) ≡ 11 = rw (c .before .before .before .before .before .before .pre .1) refl in omega arith
 
-wide-requires : tie.Need-wide-requires Inv-loop μ-loop
-wide-requires c κs = search needs
+to-usize-requires : tie.Need-to-usize-requires Inv-loop μ-loop
+to-usize-requires c κs = search needs
 
 slice-write-frame-3 : tie.Need-slice-write-frame-3 Inv-loop μ-loop
 slice-write-frame-3 c =
     let a = c .before .before .before .before .before .before .before .args in
-    let place : c .wide .result ≡ 10 * a .k + 9 = c .wide .ensures ∙ ap (λ ps. getD ps (a .k + 1) 0) (c .before .before .before .before .before .before .before .pre .1) ∙ mark-place (a .k) (omega arith) in
+    let place : c .to-usize .result ≡ 10 * a .k + 9 = c .to-usize .ensures ∙ ap (λ ps. getD ps (a .k + 1) 0) (c .before .before .before .before .before .before .before .pre .1) ∙ mark-place (a .k) (omega arith) in
     rw place (simp length-set (omega arith))
 
-shared-slice-read-wide-2 : tie.Need-shared-slice-read-wide-2 Inv-loop μ-loop
-shared-slice-read-wide-2 c = let n : length (c .before .before .before .before .before .before .before .before .before .args .places .now) ≡ 11 = rw (c .before .before .before .before .before .before .before .before .before .pre .1) refl in omega arith
+shared-slice-read-to-usize-2 : tie.Need-shared-slice-read-to-usize-2 Inv-loop μ-loop
+shared-slice-read-to-usize-2 c = let n : length (c .before .before .before .before .before .before .before .before .before .args .places .now) ≡ 11 = rw (c .before .before .before .before .before .before .before .before .before .pre .1) refl in omega arith
 
-wide-requires-2 : tie.Need-wide-requires-2 Inv-loop μ-loop
-wide-requires-2 c κs = search needs
+to-usize-requires-2 : tie.Need-to-usize-requires-2 Inv-loop μ-loop
+to-usize-requires-2 c κs = search needs
 
 slice-write-frame-4 : tie.Need-slice-write-frame-4 Inv-loop μ-loop
 slice-write-frame-4 c =
-    let first : c .wide2 .result ≡ 0 = c .wide2 .ensures ∙ ap₂ (λ ps k. getD ps k 0) (c .before .before .before .before .before .before .before .before .before .before .pre .1) (c .before .before .if1 .taken) in
+    let first : c .to-usize2 .result ≡ 0 = c .to-usize2 .ensures ∙ ap₂ (λ ps k. getD ps k 0) (c .before .before .before .before .before .before .before .before .before .before .pre .1) (c .before .before .if1 .taken) in
     rw first (simp length-set (omega arith))
 
 same-length : tie.Need-same-length Inv-loop μ-loop
@@ -87,10 +87,10 @@ same-length c = simp length-set (c .before .before .before .before .before .befo
 returns : tie.Need-returns Inv-loop μ-loop
 returns c =
     let a = c .before .before .before .before .before .before .before .before .before .before .args in
-    let place : c .before .before .before .wide .result ≡ 10 * a .k + 9 = c .before .before .before .wide .ensures ∙ ap (λ ps. getD ps (a .k + 1) 0) (c .before .before .before .before .before .before .before .before .before .before .pre .1) ∙ mark-place (a .k) (omega arith) in
-    let first : c .wide2 .result ≡ 0 = c .wide2 .ensures ∙ ap₂ (λ ps k. getD ps k 0) (c .before .before .before .before .before .before .before .before .before .before .pre .1) (c .before .before .if1 .taken) in
+    let place : c .before .before .before .to-usize .result ≡ 10 * a .k + 9 = c .before .before .before .to-usize .ensures ∙ ap (λ ps. getD ps (a .k + 1) 0) (c .before .before .before .before .before .before .before .before .before .before .pre .1) ∙ mark-place (a .k) (omega arith) in
+    let first : c .to-usize2 .result ≡ 0 = c .to-usize2 .ensures ∙ ap₂ (λ ps k. getD ps k 0) (c .before .before .before .before .before .before .before .before .before .before .pre .1) (c .before .before .if1 .taken) in
     let all : c .before .before .before .before .before .before .loop .j ≡ 8 = omega arith in
-    let eight : c .before .before .before .before .before .before .loop .frame ≡ stamp (a .frame .now) (10 * a .k) 8 (a .x) = rw all at (c .before .before .before .before .before .before .loop .inv .2) in
+    let eight : c .before .before .before .before .before .before .loop .frame ≡ bitsStored (a .frame .now) (10 * a .k) 8 (a .x) = rw all at (c .before .before .before .before .before .before .loop .inv .2) in
     ap₂ (λ p q. set (set (set (c .before .before .before .before .before .before .loop .frame) (10 * a .k + 8) (a .x / 256 % 2)) p 2) q 2) place first
     ∙ ap (λ l. set (set (set l (10 * a .k + 8) (a .x / 256 % 2)) (10 * a .k + 9) 2) 0 2) eight ∙ first-ten (a .frame .now) (a .k) (a .x) (c .before .before .if1 .taken)
 
@@ -100,9 +100,9 @@ same-length-2 c = simp length-set (c .before .before .before .before .loop .inv 
 returns-2 : tie.Need-returns-2 Inv-loop μ-loop
 returns-2 c =
     let a = c .before .before .before .before .before .before .before .before .args in
-    let place : c .before .wide .result ≡ 10 * a .k + 9 = c .before .wide .ensures ∙ ap (λ ps. getD ps (a .k + 1) 0) (c .before .before .before .before .before .before .before .before .pre .1) ∙ mark-place (a .k) (omega arith) in
+    let place : c .before .to-usize .result ≡ 10 * a .k + 9 = c .before .to-usize .ensures ∙ ap (λ ps. getD ps (a .k + 1) 0) (c .before .before .before .before .before .before .before .before .pre .1) ∙ mark-place (a .k) (omega arith) in
     let all : c .before .before .before .before .loop .j ≡ 8 = omega arith in
-    let eight : c .before .before .before .before .loop .frame ≡ stamp (a .frame .now) (10 * a .k) 8 (a .x) = rw all at (c .before .before .before .before .loop .inv .2) in
+    let eight : c .before .before .before .before .loop .frame ≡ bitsStored (a .frame .now) (10 * a .k) 8 (a .x) = rw all at (c .before .before .before .before .loop .inv .2) in
     ap (λ p. set (set (c .before .before .before .before .loop .frame) (10 * a .k + 8) (a .x / 256 % 2)) p 2) place
     ∙ ap (λ l. set (set l (10 * a .k + 8) (a .x / 256 % 2)) (10 * a .k + 9) 2) eight ∙ later-ten (a .frame .now) (a .k) (a .x) (c .if1 .left)
 
@@ -123,12 +123,12 @@ put-ten-spec =
     cast-frame
     add-frame-2
     slice-write-frame-2
-    add-wide
-    shared-slice-read-wide
-    wide-requires
+    add-to-usize
+    shared-slice-read-to-usize
+    to-usize-requires
     slice-write-frame-3
-    shared-slice-read-wide-2
-    wide-requires-2
+    shared-slice-read-to-usize-2
+    to-usize-requires-2
     slice-write-frame-4
     same-length
     returns

@@ -9,7 +9,7 @@ use Prim.Native.Nat.{ℕ, _-_, _≤_, _<_}
 use lib.Dec.{eqb}
 use lib.ListN.{getD, length}
 use Rattle.timecode.specs.Laws.Tests.{and-left, and-right}
-use Rattle.frame.specs.Ways.{agree-turn}
+use Rattle.frame.specs.Exits.{agree-turn}
 use Rattle.frame.proofs.agree.Statement.{statement}
 use Rattle.frame.proofs.agree.Tie as tie
 

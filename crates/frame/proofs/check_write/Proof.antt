@@ -2,7 +2,7 @@
 use borrow.Author.Needs.{needs}
 use mathlib.Core.Path.{sym, _∙_}
 use borrow.Author.Tests.{eq-eqb, ne-eqb}
-use Rattle.frame.specs.Ways.{are-widths}
+use Rattle.frame.specs.Exits.{are-widths}
 use Rattle.timecode.specs.Frames.{writeOf}
 use Rattle.frame.proofs.check_write.Statement.{statement}
 use Rattle.frame.proofs.check_write.Tie as tie

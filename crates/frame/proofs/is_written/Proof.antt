@@ -6,8 +6,8 @@ use mathlib.Core.Path.{refl, ap, _∙_}
 use lib.ListN.{length, length-map}
 use Rattle.timecode.specs.Laws.Table.{size-range}
 use Rattle.layout.specs.Runs.{codeRuns}
-use Rattle.elements.specs.Turns.{length-runs}
-use Rattle.frame.specs.Ways.{as-written}
+use Rattle.elements.specs.RunLoops.{length-runs}
+use Rattle.frame.specs.Exits.{as-written}
 use Rattle.frame.proofs.is_written.Statement.{statement}
 use Rattle.frame.proofs.is_written.Tie as tie
 

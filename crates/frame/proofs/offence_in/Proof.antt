@@ -7,7 +7,7 @@ use Prim.Native.Nat.{ℕ}
 use lib.ListN.{length}
 use Rattle.timecode.specs.Laws.Table.{size-range}
 use Rattle.frame.specs.Offences.{length-shape, offendedOf, offenceIn}
-use Rattle.frame.specs.Ways.{written-nothing}
+use Rattle.frame.specs.Exits.{written-nothing}
 use Rattle.frame.proofs.offence_in.Statement.{statement}
 use Rattle.frame.proofs.offence_in.Tie as tie
 

@@ -4,7 +4,7 @@ use mathlib.Core.Path.{_≡_, sym, ap₂, subst, _∙_}
 use lib.ListN.{length}
 use Rattle.timecode.specs.Layout.{filler, encode, Small}
 use Rattle.layout.specs.Runs.{codeRuns, code-small, code-written}
-use Rattle.frame.specs.Ways.{are-widths, is-frame}
+use Rattle.frame.specs.Exits.{are-widths, is-frame}
 use Rattle.frame.proofs.put_frame.Statement.{statement}
 use Rattle.frame.proofs.put_frame.Tie as tie
 

@@ -3,8 +3,8 @@ use borrow.Author.Needs.{needs}
 use mathlib.Core.Path.{sym, ap, subst, _∙_}
 use Rattle.digits.specs.Meaning.{meaningOf}
 use Rattle.digits.specs.Splitting.{Digits}
-use Rattle.frame.specs.Offences.{settled}
-use Rattle.frame.specs.Ways.{are-widths, are-digits, read-settled, finds-nothing}
+use Rattle.frame.specs.Offences.{refusedOr}
+use Rattle.frame.specs.Exits.{are-widths, are-digits, read-refused-or, finds-nothing}
 use Rattle.timecode.specs.Layout.{decode}
 use Rattle.layout.specs.Runs.{codeRuns}
 use Rattle.frame.proofs.read_frame.Statement.{statement}
@@ -54,7 +54,7 @@ returns c =
     let start = c .before .before .before .before .before .before .before .before .before .before in
     let f = start .args .format in
     let frame = start .args .frame .now in
-    sym (read-settled f frame (start .pre .0) (start .pre .1) ∙ ap (λ o. settled o (meaningOf f (decode (codeRuns f) frame))) (sym (c .before .before .before .offence-in .ensures) ∙ c .before .offence .given .1))
+    sym (read-refused-or f frame (start .pre .0) (start .pre .1) ∙ ap (λ o. refusedOr o (meaningOf f (decode (codeRuns f) frame))) (sym (c .before .before .before .offence-in .ensures) ∙ c .before .offence .given .1))
 
 returns-2 : tie.Need-returns-2
 returns-2 c =
@@ -62,7 +62,7 @@ returns-2 c =
     let f = start .args .format in
     let frame = start .args .frame .now in
     c .meaning .ensures ∙ ap (meaningOf f) (c .before .before .before .before .before .before .before .before .digits-in .ensures)
-    ∙ sym (read-settled f frame (start .pre .0) (start .pre .1) ∙ ap (λ o. settled o (meaningOf f (decode (codeRuns f) frame))) (sym (c .before .before .before .before .before .offence-in .ensures) ∙ c .before .before .before .enum-told .given .1))
+    ∙ sym (read-refused-or f frame (start .pre .0) (start .pre .1) ∙ ap (λ o. refusedOr o (meaningOf f (decode (codeRuns f) frame))) (sym (c .before .before .before .before .before .offence-in .ensures) ∙ c .before .before .before .enum-told .given .1))
 
 pub read-frame-spec : {M : Type 1} → statement M
 read-frame-spec =

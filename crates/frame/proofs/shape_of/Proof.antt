@@ -6,7 +6,7 @@ use lib.ListN.{length}
 use Rattle.timecode.specs.Layout.{filler, encode, Small}
 use Rattle.layout.specs.Runs.{codeRuns}
 use Rattle.frame.specs.Offences.{shape, greatest-small}
-use Rattle.frame.specs.Ways.{are-widths}
+use Rattle.frame.specs.Exits.{are-widths}
 use Rattle.frame.proofs.shape_of.Statement.{statement}
 use Rattle.frame.proofs.shape_of.Tie as tie
 

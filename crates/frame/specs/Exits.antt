@@ -1,4 +1,4 @@
--- The ways out of Write and Read, and what the calls within them need.
+-- Where Write and Read return, and what the calls within them need.
 use mathlib.Core.Path.{_≡_, refl, sym, ap, _∙_}
 use mathlib.Core.Bool.{true, false}
 use mathlib.Core.List.{List}
@@ -21,10 +21,10 @@ use Rattle.timecode.specs.declared.Refusal.the-variants.{UnknownSymbol}
 use Rattle.layout.specs.Tables.{widthsOf}
 use Rattle.layout.specs.Runs.{codeRuns, code-proper}
 use Rattle.elements.specs.Tens.{IsFrame}
-use Rattle.elements.specs.Turns.{runs-narrow, length-runs, length-widths, width-small, small-digit}
+use Rattle.elements.specs.RunLoops.{runs-narrow, length-runs, length-widths, width-small, small-digit}
 use Rattle.digits.specs.Meaning.{meaningOf, meaning-is}
 use Rattle.digits.specs.Splitting.{Widths, Digits}
-use Rattle.frame.specs.Offences.{offenceIn, settled, some-offence, offended-refuses, offended-clean, clean-offended}
+use Rattle.frame.specs.Offences.{offenceIn, refusedOr, some-offence, offended-refuses, offended-clean, clean-offended}
 use Rattle.frame.specs.declared.Offence.the-variants.{Nothing}
 
 pub are-widths : (f : Format) → known f ≡ true → (ws : List ℕ) → ws ≡ widthsOf f → Widths ws
@@ -43,9 +43,9 @@ module _ (f : Format) (frame : List ℕ) (k : known f ≡ true) (n : length fram
 
   -- ---- Read is what offends, or what the digits say
 
-  pub read-settled : readOf f frame ≡ settled (offenceIn f frame) (meaningOf f (decode (codeRuns f) frame))
+  pub read-refused-or : readOf f frame ≡ refusedOr (offenceIn f frame) (meaningOf f (decode (codeRuns f) frame))
   unfolding readOf offenceIn
-  read-settled =
+  read-refused-or =
       rw (k, eq-eqb (length frame) (size f) n)
       (by-test (areSymbols frame)
       (λ y. rw (y, meaning-is f frame) (offended-refuses f frame (omega (arith, size-range f)) _))

@@ -20,7 +20,7 @@ use Rattle.timecode.specs.Layout.{Run, seconds, minutes, hours, days, tenths, h
 use Rattle.timecode.specs.declared.Format.{Format}
 use Rattle.layout.specs.Tables.{startsOf}
 use Rattle.layout.specs.Runs.{codeRange, codeControl, codeFields, codeRuns, code-proper}
-use Rattle.elements.specs.Turns.{Narrow, runs-narrow}
+use Rattle.elements.specs.RunLoops.{Narrow, runs-narrow}
 
 -- the filler where a mark counts as 0
 abbrev zeros : ℕ → ℕ

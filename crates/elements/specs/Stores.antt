@@ -33,25 +33,25 @@ set-tabulate n i v g h p q =
 
 -- ---- the bits of a digit
 
-abbrev pub stamped : List ℕ → ℕ → ℕ → ℕ → ℕ → ℕ
-stamped frame start width x i = cond (inRun (record { start = start; width = width; radix = 1 }) i) (x / 2 ^ (i - start) % 2) (getD frame i 0)
+abbrev pub storedAt : List ℕ → ℕ → ℕ → ℕ → ℕ → ℕ
+storedAt frame start width x i = cond (inRun (record { start = start; width = width; radix = 1 }) i) (x / 2 ^ (i - start) % 2) (getD frame i 0)
 
 -- the frame with the low bits of x at a run
-unfoldable pub stamp : List ℕ → ℕ → ℕ → ℕ → List ℕ
-stamp frame start width x = tabulate (length frame) 0 (stamped frame start width x)
+unfoldable pub bitsStored : List ℕ → ℕ → ℕ → ℕ → List ℕ
+bitsStored frame start width x = tabulate (length frame) 0 (storedAt frame start width x)
 
-pub stamp-none : (frame : List ℕ) (s x : ℕ) → frame ≡ stamp frame s 0 x
-unfolding stamp
-stamp-none frame s x =
+pub bits-stored-none : (frame : List ℕ) (s x : ℕ) → frame ≡ bitsStored frame s 0 x
+unfolding bitsStored
+bits-stored-none frame s x =
     sym (tabulate-self frame)
-    ∙ tabulate-same (length frame) (λ i. getD frame i 0) (stamped frame s 0 x)
+    ∙ tabulate-same (length frame) (λ i. getD frame i 0) (storedAt frame s 0 x)
     (λ k m. by-test (leb s k) (λ y. let p = leb-true s k y in rw (y, le-ltb k (s + 0) (omega arith))) (λ z. rw z))
 
-pub stamp-step : (frame : List ℕ) (s k x : ℕ) → set (stamp frame s k x) (s + k) (x / 2 ^ k % 2) ≡ stamp frame s (k + 1) x
-unfolding stamp
-stamp-step frame s k x =
+pub bits-stored-step : (frame : List ℕ) (s k x : ℕ) → set (bitsStored frame s k x) (s + k) (x / 2 ^ k % 2) ≡ bitsStored frame s (k + 1) x
+unfolding bitsStored
+bits-stored-step frame s k x =
     let e : s + k - s ≡ k = omega arith in
-    set-tabulate (length frame) (s + k) (x / 2 ^ k % 2) (stamped frame s k x) (stamped frame s (k + 1) x)
+    set-tabulate (length frame) (s + k) (x / 2 ^ k % 2) (storedAt frame s k x) (storedAt frame s (k + 1) x)
     (λ h. rw (le-leb s (s + k) (omega arith), lt-ltb (s + k) (s + (k + 1)) (omega arith), e))
     (λ i m o.
     by-test (leb s i)

@@ -107,10 +107,10 @@ head-starts f = near-at 50 60 (startsOf f) refl
 -- ---- reading, from the first run to the last
 
 -- the digit at run j
-abbrev pub digitAt : Format → List ℕ → ℕ → ℕ
-digitAt f frame j = value (getD (widthsOf f) j 0) (λ b. getD frame (getD (startsOf f) j 0 + b) 0)
+abbrev pub runDigit : Format → List ℕ → ℕ → ℕ
+runDigit f frame j = value (getD (widthsOf f) j 0) (λ b. getD frame (getD (startsOf f) j 0 + b) 0)
 
-pub decode-tabulate : (f : Format) (frame : List ℕ) → tabulate 18 0 (digitAt f frame) ≡ decode (codeRuns f) frame
+pub decode-tabulate : (f : Format) (frame : List ℕ) → tabulate 18 0 (runDigit f frame) ≡ decode (codeRuns f) frame
 unfolding widthsOf startsOf codeRuns codeFields timeFields seconds minutes hours days tenths hundredths straightSeconds codeControl
 decode-tabulate f frame = refl
 
