@@ -16,7 +16,7 @@ use Rattle.stream.specs.declared.Fed.{Fed}
 use Rattle.stream.specs.declared.Reader.{Reader}
 use Rattle.block.specs.Blocks.{Lists, blockResult, feedBlockOf}
 use Rattle.block.specs.declared.FedBlock.{FedBlock}
-use Rattle.pulse_feed.specs.Pulses.{feedPulseOf}
+use Rattle.pulse_feed.specs.PulseFeeds.{feedPulseOf}
 
 -- ---- What a call says to the caller's numbers: document 01's answer, as its number and its values
 

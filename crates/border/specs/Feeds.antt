@@ -23,7 +23,7 @@ use Rattle.stream.specs.declared.Reader.{Reader}
 use Rattle.block.specs.Blocks.{Lists, listsLeft, blockResult, blockFor, feedBlockOf}
 use Rattle.block.specs.Folds.{refused-block-leaves}
 use Rattle.block.specs.declared.BlockAnswer.{BlockAnswer}
-use Rattle.pulse_feed.specs.Pulses.{feedPulseOf, refused-pulse-same-reader}
+use Rattle.pulse_feed.specs.PulseFeeds.{feedPulseOf, refused-pulse-same-reader}
 use Rattle.reader_calls.specs.MixedCalls.{call-reader, calls-are-plain}
 use Rattle.reader_calls.specs.ReaderCalls.{ReaderCall, symbol, symbolInPlace, pulse, block, CallResult, symbolCallResult, inPlaceCallResult, pulseCallResult, blockCallResult, symbolsFed, allFed, allAnswers, callResult, readerOf, callResults, readerAfterCalls, plainCallResults}
 use Rattle.border.specs.Border.{unlessRefused, formatOf, fedResult, fedWith, wordsFor, byteIn, readerIn, freshLeft, feedWords, feedPulseWords, wordsLeft, feedBlockWords, blockWordsLeft}

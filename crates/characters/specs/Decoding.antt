@@ -11,20 +11,20 @@ use lib.Dec.{eqb}
 use lib.ListN.{getD, length, take, set, length-set, length-append}
 use lib.Seq.{take-suc, take-suc-set, take-set-le, take-length}
 use Rattle.timecode.specs.Laws.Tests.{by-test}
-use Rattle.characters.specs.Symbols.{isSkipped, symbolOf, feedsOf, symbolsIn}
+use Rattle.characters.specs.ByteSymbols.{isSkipped, symbolOfByte, feedsOf, symbolsIn}
 
 -- ---- characters
 
 -- the characters 0 and 1
-pub digit-symbol : (b : ℕ) → b / 2 ≡ 24 → b % 2 ≡ symbolOf b
-unfolding symbolOf
+pub digit-symbol : (b : ℕ) → b / 2 ≡ 24 → b % 2 ≡ symbolOfByte b
+unfolding symbolOfByte
 digit-symbol b h =
     by-test (eqb b 48)
     (λ e. rw (eqb-true b 48 e))
     (λ n. let is : b ≡ 49 = omega (arith, eqb-false b 48 n) in rw is)
 
-pub other-symbol : (b : ℕ) → ¬ (b / 2 ≡ 24) → symbolOf b ≡ cond (eqb b 80) 2 (cond (eqb b 45) 3 4)
-unfolding symbolOf
+pub other-symbol : (b : ℕ) → ¬ (b / 2 ≡ 24) → symbolOfByte b ≡ cond (eqb b 80) 2 (cond (eqb b 45) 3 4)
+unfolding symbolOfByte
 other-symbol b h = rw (ne-eqb b 48 (λ e. h (rw e)), ne-eqb b 49 (λ e. h (rw e)))
 
 -- ---- lists of Feeds
@@ -32,7 +32,7 @@ other-symbol b h = rw (ne-eqb b 48 (λ e. h (rw e)), ne-eqb b 49 (λ e. h (rw e)
 pub feeds-append : (xs ys : List ℕ) → feedsOf (xs ++ ys) ≡ feedsOf xs ++ feedsOf ys
 unfolding feedsOf
 feeds-append [] ys = refl
-feeds-append (x ∷ xs) ys = by-test (isSkipped x) (λ y. rw y (feeds-append xs ys)) (λ n. rw n (ap (λ (ss : List ℕ). symbolOf x ∷ ss) (feeds-append xs ys)))
+feeds-append (x ∷ xs) ys = by-test (isSkipped x) (λ y. rw y (feeds-append xs ys)) (λ n. rw n (ap (λ (ss : List ℕ). symbolOfByte x ∷ ss) (feeds-append xs ys)))
 
 pub feeds-few : (bytes : List ℕ) → length (feedsOf bytes) ≤ length bytes
 unfolding feedsOf
@@ -44,7 +44,7 @@ feeds-few (b ∷ bs) = by-test (isSkipped b) (λ y. rw y (omega (arith, feeds-fe
 pub symbols-few : (b : ℕ) → symbolsIn b ≤ 1
 symbols-few b = by-test (isSkipped b) (λ y. rw y (omega arith)) (λ n. rw n (omega arith))
 
-feeds-next : (bytes : List ℕ) (i : ℕ) → i < length bytes → feedsOf (take (i + 1) bytes) ≡ feedsOf (take i bytes) ++ cond (isSkipped (getD bytes i 0)) [] (symbolOf (getD bytes i 0) ∷ [])
+feeds-next : (bytes : List ℕ) (i : ℕ) → i < length bytes → feedsOf (take (i + 1) bytes) ≡ feedsOf (take i bytes) ++ cond (isSkipped (getD bytes i 0)) [] (symbolOfByte (getD bytes i 0) ∷ [])
 unfolding feedsOf
 feeds-next bytes i h = ap feedsOf (ap (λ (k : ℕ). take k bytes) (add-one i) ∙ take-suc bytes i 0 h) ∙ feeds-append (take i bytes) (getD bytes i 0 ∷ [])
 
@@ -61,11 +61,11 @@ unfolding feedsOf
 decoded-start entry bytes = record { within = omega arith; few = omega arith; counted = refl; first = refl; long = refl }
 
 pub decoded-turn : (entry bytes : List ℕ) (i count : ℕ) (symbols : List ℕ) → i < length bytes → length bytes ≤ length entry → DecodedTo entry bytes i count symbols
-    → DecodedTo entry bytes (i + 1) (count + symbolsIn (getD bytes i 0)) (set symbols count (symbolOf (getD bytes i 0)))
+    → DecodedTo entry bytes (i + 1) (count + symbolsIn (getD bytes i 0)) (set symbols count (symbolOfByte (getD bytes i 0)))
 decoded-turn entry bytes i count symbols h room to =
     let b = getD bytes i 0 in
     let ss = feedsOf (take i bytes) in
-    let long : length (set symbols count (symbolOf b)) ≡ length entry = length-set symbols count (symbolOf b) ∙ to .long in
+    let long : length (set symbols count (symbolOfByte b)) ≡ length entry = length-set symbols count (symbolOfByte b) ∙ to .long in
     by-test (isSkipped b)
     (λ y.
     let same : feedsOf (take (i + 1) bytes) ≡ ss = feeds-next bytes i h ∙ rw y (append-nil ss) in
@@ -73,16 +73,16 @@ decoded-turn entry bytes i count symbols h room to =
       within = omega arith;
       few = rw y (omega (arith, to .few));
       counted = rw (y, same) (add-zero count ∙ to .counted);
-      first = rw (y, same, add-zero count) (take-set-le count symbols count (symbolOf b) (omega arith) ∙ to .first);
+      first = rw (y, same, add-zero count) (take-set-le count symbols count (symbolOfByte b) (omega arith) ∙ to .first);
       long = long;
     })
     (λ n.
-    let more : feedsOf (take (i + 1) bytes) ≡ ss ++ (symbolOf b ∷ []) = feeds-next bytes i h ∙ rw n in
+    let more : feedsOf (take (i + 1) bytes) ≡ ss ++ (symbolOfByte b ∷ []) = feeds-next bytes i h ∙ rw n in
     record {
       within = omega arith;
       few = rw n (omega (arith, to .few));
-      counted = rw (n, more, length-append ss (symbolOf b ∷ [])) (ap (λ (k : ℕ). k + 1) (to .counted));
-      first = rw (n, more, add-one count) (take-suc-set symbols count (symbolOf b) (omega (arith, to .few, to .long)) ∙ ap (λ (xs : List ℕ). xs ++ (symbolOf b ∷ [])) (to .first));
+      counted = rw (n, more, length-append ss (symbolOfByte b ∷ [])) (ap (λ (k : ℕ). k + 1) (to .counted));
+      first = rw (n, more, add-one count) (take-suc-set symbols count (symbolOfByte b) (omega (arith, to .few, to .long)) ∙ ap (λ (xs : List ℕ). xs ++ (symbolOfByte b ∷ [])) (to .first));
       long = long;
     })
 

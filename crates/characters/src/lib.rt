@@ -2,7 +2,7 @@
 ghost use mathlib.Core.Path.{_≡_};
 ghost use Prim.Native.Nat.{_≤_};
 ghost use lib.ListN.{length, take};
-ghost use Rattle.characters.specs.Symbols.{isSkipped, symbolOf, feedsOf, symbolsIn};
+ghost use Rattle.characters.specs.ByteSymbols.{isSkipped, symbolOfByte, feedsOf, symbolsIn};
 use timecode::MARK;
 use timecode::SPOILED;
 
@@ -19,8 +19,8 @@ fn is_skipped(byte: u8) -> bool
 }
 
 // A character that stands for no symbol gives 4, which Feed refuses. The digits are most of a recording, so they come first.
-fn symbol_of(byte: u8) -> u8
-    ensures { λ r. ⌜ r ≡ symbolOf byte ⌝ }
+fn symbol_of_byte(byte: u8) -> u8
+    ensures { λ r. ⌜ r ≡ symbolOfByte byte ⌝ }
 {
     if byte / 2 == b'0' / 2 {
         return byte % 2;
@@ -54,7 +54,7 @@ pub fn decode(bytes: &[u8], symbols: &mut [u8]) -> usize
     let mut i = 0;
     while i < bytes.len() {
         let byte = bytes[i];
-        symbols[count] = symbol_of(byte);
+        symbols[count] = symbol_of_byte(byte);
         count += symbols_in(byte);
         i += 1;
     }

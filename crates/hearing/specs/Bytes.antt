@@ -2,7 +2,7 @@
 use mathlib.Core.Path.{_≡_, ap, _∙_}
 use mathlib.Core.List.{List, _++_}
 use Prim.Native.Nat.{ℕ}
-use Rattle.characters.specs.Symbols.{feedsOf}
+use Rattle.characters.specs.ByteSymbols.{feedsOf}
 use Rattle.characters.specs.Decoding.{feeds-append}
 use Rattle.progress.specs.Progress.{afterFeeds, textFeeds}
 use Rattle.progress.specs.Steps.{after-append, text-append}

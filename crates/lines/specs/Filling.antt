@@ -13,7 +13,7 @@ use lib.Seq.{take-suc, take-length, ext-getD, getD-set-same, getD-set-other, get
 use Rattle.timecode.specs.Laws.Runs.{length-tabulate, getD-tabulate}
 use Rattle.timecode.specs.Laws.Tests.{by-test}
 use Rattle.timecode.specs.Layout.{tabulate}
-use Rattle.lines.specs.Text.{glyph, digitAt, digitsOf, placesIn, placesOf, together}
+use Rattle.lines.specs.Text.{glyph, digitAt, digitsOf, placesIn, digitCount, together}
 
 -- xs became ys: what lies before `at` is kept, and of the width places from there the last i are set
 pub record Filled (xs ys : List ℕ) (at width i : ℕ) (g : ℕ → ℕ) : Type 0 where
@@ -122,10 +122,10 @@ pub record Counted (number rest k : ℕ) : Type 0 where
   pub some : 1 ≤ k
   pub few : k ≤ 20
   pub room : rest < 10 ^ (21 - k)
-  pub total : placesOf number ≡ k - 1 + placesIn (20 - k) rest
+  pub total : digitCount number ≡ k - 1 + placesIn (20 - k) rest
 
 pub counted-start : (number : ℕ) → number < 100000000000000000000 → Counted number number 1
-unfolding placesOf
+unfolding digitCount
 counted-start number h = record { some = omega arith; few = omega arith; room = h; total = sym (zero-add (placesIn 19 number)) }
 
 one-more : (k n : ℕ) → 1 ≤ k → k - 1 + suc n ≡ k + 1 - 1 + n
@@ -144,7 +144,7 @@ counted-turn number rest k h c = go (ℕ-discrete k 20)
         let turned : placesIn (20 - k) rest ≡ suc (placesIn (20 - (k + 1)) (rest / 10)) = rw fuel (places-turn (20 - (k + 1)) rest h) in
         (below, record { some = omega arith; few = omega arith; room = div-lt-iff-lt-mul {k = 10} {x = rest} {y = 10 ^ (21 - (k + 1))} (omega arith) .1 wide; total = c .total ∙ ap (λ (n : ℕ). k - 1 + n) turned ∙ one-more k (placesIn (20 - (k + 1)) (rest / 10)) (c .some) })
 
-pub counted-end : (number rest k : ℕ) → rest < 10 → Counted number rest k → k ≡ placesOf number
+pub counted-end : (number rest k : ℕ) → rest < 10 → Counted number rest k → k ≡ digitCount number
 counted-end number rest k h c = omega (arith, c .total, c .some, places-last (20 - k) rest h)
 
 -- ---- a number below 10^20 has so many digits, and no fewer do: the first is no zero, but where it is the only one
@@ -183,6 +183,6 @@ fewest-in (suc k) number h =
       λ b. rw (suc-pred (placesIn k (number / 10))) (no-zero k number ten (more .1)),
     ))
 
-pub fewest : (number : ℕ) → number < 10 ^ 20 → (number < 10 ^ placesOf number) × (1 < placesOf number → 10 ^ (placesOf number - 1) ≤ number)
-unfolding placesOf
+pub fewest : (number : ℕ) → number < 10 ^ 20 → (number < 10 ^ digitCount number) × (1 < digitCount number → 10 ^ (digitCount number - 1) ≤ number)
+unfolding digitCount
 fewest number h = fewest-in 19 number h

@@ -22,11 +22,11 @@ unfoldable pub placesIn : ℕ → ℕ → ℕ
 placesIn zero number = 1
 placesIn (suc k) number = cond (ltb number 10) 1 (suc (placesIn k (number / 10)))
 
-unfoldable pub placesOf : ℕ → ℕ
-placesOf number = placesIn 19 number
+unfoldable pub digitCount : ℕ → ℕ
+digitCount number = placesIn 19 number
 
 unfoldable pub decimal : ℕ → List ℕ
-decimal number = digitsOf 10 (placesOf number) number
+decimal number = digitsOf 10 (digitCount number) number
 
 abbrev pub space : ℕ
 space = 32

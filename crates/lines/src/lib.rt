@@ -4,7 +4,7 @@ ghost use mathlib.Core.Path.{_≡_};
 ghost use mathlib.Core.List.{[], _∷_, _++_};
 ghost use Prim.Native.Nat.{_+_, _≤_, _<_};
 ghost use lib.ListN.{length, take};
-ghost use Rattle.lines.specs.Text.{glyph, digitsOf, placesOf, decimal, pairOf, clockOf, reportLine, countsLine, refusedLine};
+ghost use Rattle.lines.specs.Text.{glyph, digitsOf, digitCount, decimal, pairOf, clockOf, reportLine, countsLine, refusedLine};
 use timecode::Time;
 
 // Puts a byte behind what stands before the place, in any lent memory that has room for it.
@@ -28,7 +28,7 @@ fn glyph_of(digit: u64) -> u8
 }
 
 // The last digits of a number, as many as the width, the highest first.
-fn put_digits(line: &mut [u8], at: usize, number: u64, base: u64, width: usize) -> usize
+fn put_numeral(line: &mut [u8], at: usize, number: u64, base: u64, width: usize) -> usize
     requires { ⌜ (at + width ≤ 64) × (2 ≤ base) × (base ≤ 16) × (length (now line) ≡ 64) ⌝ }
     ensures { λ r. ⌜ (r ≡ at + width) × (length (now (line .exit)) ≡ 64) × (take r (now (line .exit)) ≡ take at (now (line .entry)) ++ digitsOf base width number) ⌝ }
 {
@@ -43,8 +43,8 @@ fn put_digits(line: &mut [u8], at: usize, number: u64, base: u64, width: usize) 
 }
 
 // How many decimal digits a number has, with no zero in front.
-fn places(number: u64) -> usize
-    ensures { λ r. ⌜ (r ≡ placesOf number) × (1 ≤ r) × (r ≤ 20) ⌝ }
+fn digit_count(number: u64) -> usize
+    ensures { λ r. ⌜ (r ≡ digitCount number) × (1 ≤ r) × (r ≤ 20) ⌝ }
 {
     let mut rest = number;
     let mut k = 1;
@@ -59,7 +59,7 @@ fn put_decimal(line: &mut [u8], at: usize, number: u64) -> usize
     requires { ⌜ (at + 20 ≤ 64) × (length (now line) ≡ 64) ⌝ }
     ensures { λ r. ⌜ (r ≤ at + 20) × (length (now (line .exit)) ≡ 64) × (take r (now (line .exit)) ≡ take at (now (line .entry)) ++ decimal number) ⌝ }
 {
-    put_digits(line, at, number, 10, places(number))
+    put_numeral(line, at, number, 10, digit_count(number))
 }
 
 // Two digits and what separates them from the next.
@@ -67,8 +67,8 @@ fn put_pair(line: &mut [u8], at: usize, number: u64, separator: u8) -> usize
     requires { ⌜ (at + 3 ≤ 64) × (length (now line) ≡ 64) ⌝ }
     ensures { λ r. ⌜ (r ≡ at + 3) × (length (now (line .exit)) ≡ 64) × (take r (now (line .exit)) ≡ take at (now (line .entry)) ++ pairOf number separator) ⌝ }
 {
-    let behind = put_digits(line, at, number, 10, 2);
-    put(line, behind, separator)
+    let next = put_numeral(line, at, number, 10, 2);
+    put(line, next, separator)
 }
 
 // hh:mm:ss.cc and a space; the added second is one more than the second before it, 23:59:60.
@@ -92,10 +92,10 @@ fn put_report(line: &mut [u8], element: u64, time: Time, control: u64) -> usize
     let day = time.day as u64;
     let number = put_decimal(line, 0, element);
     let first = put(line, number, b' ');
-    let days = put_digits(line, first, day, 10, 3);
+    let days = put_numeral(line, first, day, 10, 3);
     let second = put(line, days, b' ');
     let clock = put_clock(line, second, time.hundredths);
-    let word = put_digits(line, clock, control, 16, 12);
+    let word = put_numeral(line, clock, control, 16, 12);
     put(line, word, b'\n')
 }
 

@@ -18,7 +18,7 @@ use Rattle.lines.specs.Text.{reportLine, refusedLine, together}
 use Rattle.stream.specs.Feeding.{nextOf, answerOf, feedOf, freshReader}
 use Rattle.stream.specs.Refinement.{answers, answers-are-plain}
 use Rattle.stream.specs.declared.Reader.{Reader}
-use Rattle.characters.specs.Symbols.{feedsOf}
+use Rattle.characters.specs.ByteSymbols.{feedsOf}
 use Rattle.characters.specs.Decoding.{feeds-few}
 use Rattle.progress.specs.Progress.{runningAt, oneMore, answered, answerLine, afterFeed, feedLine, afterFeeds, textFeeds}
 use Rattle.progress.specs.Steps.{step-fed, ended-stays, ended-no-text}

@@ -5,7 +5,7 @@ use Prim.Native.Nat.{ℕ, zero, suc, _+_, _-_, _<_, _≤_}
 use native.Mathlib.Omega.{arith}
 use lib.ListN.{length, take, drop}
 use lib.Seq.{take-length, take-add}
-use Rattle.characters.specs.Symbols.{feedsOf}
+use Rattle.characters.specs.ByteSymbols.{feedsOf}
 use Rattle.progress.specs.Progress.{afterFeeds, textFeeds}
 use Rattle.hearing.specs.Bytes.{afterOf, textOf, after-parts, text-parts}
 use Rattle.hearing.specs.Hearing.{restOf, rest-is}

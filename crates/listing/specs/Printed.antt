@@ -11,7 +11,7 @@ use Rattle.timecode.specs.declared.Answer.{Answer}
 use Rattle.timecode.specs.declared.Answer.the-variants.{Quiet, Report}
 use Rattle.timecode.specs.declared.Format.{Format}
 use Rattle.lines.specs.Text.{reportLine, countsLine, refusedLine}
-use Rattle.characters.specs.Symbols.{feedsOf}
+use Rattle.characters.specs.ByteSymbols.{feedsOf}
 
 -- ---- the first line: letter, expression digit, newline
 

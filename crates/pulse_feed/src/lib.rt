@@ -1,6 +1,6 @@
 // One pulse classified and fed: the classifier's refusal first, else one Feed of the pulse's symbol.
 ghost use mathlib.Core.Path.{_≡_};
-ghost use Rattle.pulse_feed.specs.Pulses.{refusedFeed, feedPulseOf};
+ghost use Rattle.pulse_feed.specs.PulseFeeds.{refusedFeed, feedPulseOf};
 use pulse::classify;
 use stream::Fed;
 use stream::Reader;

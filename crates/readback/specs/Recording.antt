@@ -17,7 +17,7 @@ use Rattle.timecode.specs.declared.Format.{Format}
 use Rattle.timecode.specs.declared.Written.the-variants.{Done}
 use Rattle.lines.specs.Text.{space, newline}
 use Rattle.listing.specs.Printed.{formatIn, isFirstLine, printedFor, printed}
-use Rattle.characters.specs.Symbols.{isSkipped, symbolOf, feedsOf}
+use Rattle.characters.specs.ByteSymbols.{isSkipped, symbolOfByte, feedsOf}
 use Rattle.generator.specs.Sending.{begunOf, linesOf, framesOf}
 use Rattle.generator.specs.Generators.{valid, lines-are}
 use Rattle.generator.specs.declared.Start.{Start}
@@ -25,8 +25,8 @@ use Rattle.frametext.specs.Characters.{characterOf, opensGroup, elementText, fr
 
 -- ---- a character is read as the symbol that it was put for
 
-character-back : (s : ℕ) → s ≤ 3 → (isSkipped (characterOf s) ≡ false) × (symbolOf (characterOf s) ≡ s)
-unfolding characterOf isSkipped symbolOf
+character-back : (s : ℕ) → s ≤ 3 → (isSkipped (characterOf s) ≡ false) × (symbolOfByte (characterOf s) ≡ s)
+unfolding characterOf isSkipped symbolOfByte
 character-back zero h = (refl, refl)
 character-back (suc zero) h = (refl, refl)
 character-back (suc (suc zero)) h = (refl, refl)

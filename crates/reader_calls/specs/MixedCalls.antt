@@ -16,7 +16,7 @@ use Rattle.stream.specs.Refinement.{answers, readerAfter, Receives, fresh-recei
 use Rattle.stream.specs.declared.Reader.{Reader}
 use Rattle.block.specs.Blocks.{Lists, roomIn, areRecords, fieldLeft, listsLeft, blockFor, blockAnswer, feedBlockOf}
 use Rattle.block.specs.Folds.{Takes, block-takes, block-answers}
-use Rattle.pulse_feed.specs.Pulses.{feedPulseOf}
+use Rattle.pulse_feed.specs.PulseFeeds.{feedPulseOf}
 use Rattle.reader_calls.specs.ReaderCalls.{ReaderCall, symbol, symbolInPlace, pulse, block, CallResult, symbolCallResult, inPlaceCallResult, pulseCallResult, blockCallResult, symbolsFed, answersGiven, allFed, allAnswers, callResult, readerOf, callResults, readerAfterCalls, plainBlock, plainCallResult, plainCallResults}
 
 -- ---- one call, of any reader

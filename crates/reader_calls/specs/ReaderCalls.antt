@@ -12,7 +12,7 @@ use Rattle.stream.specs.Feeding.{feedOf}
 use Rattle.stream.specs.declared.Reader.{Reader}
 use Rattle.block.specs.Blocks.{Block, blockIn, Lists, roomIn, areRecords, listsLeft, recordsIn, answersFrom, blockFor, feedBlockOf}
 use Rattle.block.specs.declared.BlockAnswer.{BlockAnswer}
-use Rattle.pulse_feed.specs.Pulses.{feedPulseOf}
+use Rattle.pulse_feed.specs.PulseFeeds.{feedPulseOf}
 
 -- A symbol fed by value; a symbol fed in place; a pulse classified and fed (interval, width, period); a block of symbols, with the lent list for its reports.
 pub data ReaderCall : Type 0 where

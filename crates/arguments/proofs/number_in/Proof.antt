@@ -4,7 +4,7 @@ use native.Mathlib.Omega.{arith}
 use mathlib.Core.Path.{_≡_}
 use Prim.Native.Nat.{_-_, _≤_, _<_}
 use lib.ListN.{length}
-use Rattle.arguments.specs.Digits.{Read, read-start, read-turn, read-none, read-other, read-all}
+use Rattle.arguments.specs.DigitBytes.{Read, read-start, read-turn, read-none, read-other, read-all}
 use Rattle.arguments.proofs.number_in.Statement.{statement}
 use Rattle.arguments.proofs.number_in.Tie as tie
 use Rattle.arguments.proofs.number_in.Reads as reads

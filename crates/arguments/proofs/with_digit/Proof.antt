@@ -1,7 +1,7 @@
 -- `with_digit` meets its contract.
 use borrow.Author.Needs.{needs}
 use native.Mathlib.Omega.{arith}
-use Rattle.arguments.specs.Digits.{limited-small, limited-large, digit-fits, digit-over}
+use Rattle.arguments.specs.DigitBytes.{limited-small, limited-large, digit-fits, digit-over}
 use Rattle.arguments.proofs.with_digit.Statement.{statement}
 use Rattle.arguments.proofs.with_digit.Tie as tie
 use Rattle.arguments.proofs.with_digit.Reads as reads

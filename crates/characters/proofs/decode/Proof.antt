@@ -8,7 +8,7 @@ use Rattle.characters.proofs.decode.Statement.{statement}
 use Rattle.characters.proofs.decode.Tie as tie
 use Rattle.characters.proofs.decode.Reads as reads
 use Rattle.characters.proofs.decode.Lts as lts
-use Rattle.characters.proofs.symbol_of.Reads as symbol-of-reads
+use Rattle.characters.proofs.symbol_of_byte.Reads as symbol-of-byte-reads
 use Rattle.characters.proofs.symbols_in.Reads as symbols-in-reads
 
 abbrev Inv-loop : tie.InvT-loop
@@ -23,8 +23,8 @@ loop-holds c = decoded-start _ _
 shared-slice-read-byte : tie.Need-shared-slice-read-byte Inv-loop μ-loop
 shared-slice-read-byte c = search needs
 
-symbol-of-requires : tie.Need-symbol-of-requires Inv-loop μ-loop
-symbol-of-requires c κs = search needs
+symbol-of-byte-requires : tie.Need-symbol-of-byte-requires Inv-loop μ-loop
+symbol-of-byte-requires c κs = search needs
 
 slice-write-symbols : tie.Need-slice-write-symbols Inv-loop μ-loop
 slice-write-symbols c = search needs
@@ -42,7 +42,7 @@ loop-less : tie.Need-loop-less Inv-loop μ-loop
 loop-less c = search needs
 
 loop-again : tie.Need-loop-again Inv-loop μ-loop
-loop-again c = rw (c .symbols-in .ensures, c .before .symbol-of .ensures) (decoded-turn _ _ _ _ _ (c .before .before .before .loop-test .taken) (c .before .before .before .before .before .before .before .pre) (c .before .before .before .before .loop .inv))
+loop-again c = rw (c .symbols-in .ensures, c .before .symbol-of-byte .ensures) (decoded-turn _ _ _ _ _ (c .before .before .before .loop-test .taken) (c .before .before .before .before .before .before .before .pre) (c .before .before .before .before .loop .inv))
 
 same-length : tie.Need-same-length Inv-loop μ-loop
 same-length c = search needs
@@ -58,7 +58,7 @@ decode-spec =
     μ-loop
     loop-holds
     shared-slice-read-byte
-    symbol-of-requires
+    symbol-of-byte-requires
     slice-write-symbols
     symbols-in-requires
     add-count

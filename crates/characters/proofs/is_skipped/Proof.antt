@@ -1,6 +1,6 @@
 -- `is_skipped` meets its contract.
 use borrow.Author.Tests.{eq-eqb, ne-eqb}
-use Rattle.characters.specs.Symbols.{isSkipped}
+use Rattle.characters.specs.ByteSymbols.{isSkipped}
 use Rattle.characters.proofs.is_skipped.Statement.{statement}
 use Rattle.characters.proofs.is_skipped.Tie as tie
 use Rattle.characters.proofs.is_skipped.Reads as reads

@@ -5,11 +5,11 @@ use Rattle.lines.specs.Text.{decimal}
 use Rattle.lines.proofs.put_decimal.Statement.{statement}
 use Rattle.lines.proofs.put_decimal.Tie as tie
 
-places-requires : tie.Need-places-requires
-places-requires c κs = search needs
+digit-count-requires : tie.Need-digit-count-requires
+digit-count-requires c κs = search needs
 
-put-digits-requires : tie.Need-put-digits-requires
-put-digits-requires c κs = search needs
+put-numeral-requires : tie.Need-put-numeral-requires
+put-numeral-requires c κs = search needs
 
 same-length : tie.Need-same-length
 same-length c = search needs
@@ -17,9 +17,9 @@ same-length c = search needs
 returns : tie.Need-returns
 unfolding decimal
 returns c =
-    let e = c .before .before .put-digits .ensures in
-    let n = c .before .before .before .places .ensures in
+    let e = c .before .before .put-numeral .ensures in
+    let n = c .before .before .before .digit-count .ensures in
     (omega (arith, e .0, n .2), e .1, rw (← n .0) (e .2))
 
 pub put-decimal-spec : {M : Type 1} → statement M
-put-decimal-spec = tie.close (tie.spec places-requires put-digits-requires same-length returns)
+put-decimal-spec = tie.close (tie.spec digit-count-requires put-numeral-requires same-length returns)

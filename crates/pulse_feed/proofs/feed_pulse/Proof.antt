@@ -1,7 +1,7 @@
 -- `feed_pulse` meets its contract: by the classifier's answer.
 use borrow.Author.Needs.{needs}
 use mathlib.Core.Path.{sym, ap, _∙_}
-use Rattle.pulse_feed.specs.Pulses.{fedBy, fed-by}
+use Rattle.pulse_feed.specs.PulseFeeds.{fedBy, fed-by}
 use Rattle.pulse_feed.proofs.feed_pulse.Statement.{statement}
 use Rattle.pulse_feed.proofs.feed_pulse.Tie as tie
 

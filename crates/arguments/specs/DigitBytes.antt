@@ -45,17 +45,17 @@ limited-turn v base d h =
     (λ y. ap (λ (u : ℕ). limited (u * base + d)) (sym (limited-small v (leb-true v last y))))
     (λ n.
     let over = leb-false v last n in
-    ap (λ (u : ℕ). limited (u * base + d)) (sym (limited-large v over)) ∙ sym (limited-most (last * base + d) (grows last base d h)) ∙ limited-large (v * base + d) (past v base d h over))
+    ap (λ (u : ℕ). limited (u * base + d)) (sym (limited-large v over)) ∙ sym (limited-most (last * base + d) (grows last base d h)) ∙ limited-large (v * base + d) (above v base d h over))
   where
-    past : (v base d : ℕ) → 2 ≤ base → last < v → last < v * base + d
-    past v base d h o = omega (arith, grows v base d h)
+    above : (v base d : ℕ) → 2 ≤ base → last < v → last < v * base + d
+    above v base d h o = omega (arith, grows v base d h)
 
 -- ---- the loop
 
-value-behind : (base v : ℕ) (xs ys : List ℕ) → valueFrom base v (xs ++ ys) ≡ valueFrom base (valueFrom base v xs) ys
+value-append : (base v : ℕ) (xs ys : List ℕ) → valueFrom base v (xs ++ ys) ≡ valueFrom base (valueFrom base v xs) ys
 unfolding valueFrom
-value-behind base v [] ys = refl
-value-behind base v (x ∷ xs) ys = value-behind base (v * base + digitOf x) xs ys
+value-append base v [] ys = refl
+value-append base v (x ∷ xs) ys = value-append base (v * base + digitOf x) xs ys
 
 value-one : (base v b : ℕ) → valueFrom base v (b ∷ []) ≡ v * base + digitOf b
 unfolding valueFrom
@@ -83,7 +83,7 @@ read-turn base text i value value′ d h b r p q v =
           ∙ ap limited
           (ap (λ (x : ℕ). valueFrom base 0 (take i text) * base + x) p
           ∙ sym (value-one base (valueFrom base 0 (take i text)) (getD text i 0))
-          ∙ sym (value-behind base 0 (take i text) (getD text i 0 ∷ []))
+          ∙ sym (value-append base 0 (take i text) (getD text i 0 ∷ []))
           ∙ ap (valueFrom base 0) (sym (ap (λ (k : ℕ). take k text) (add-one i) ∙ take-suc text i 0 b)));
       rest = r .rest ∙ digits-next base text i b ∙ rw (← p, lt-ltb d base q, add-one i);
     }

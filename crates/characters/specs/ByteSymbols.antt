@@ -11,13 +11,13 @@ unfoldable pub isSkipped : ℕ → Bool
 isSkipped b = eqb b 32 || (eqb b 13 || eqb b 10)
 
 -- Another character stands for no symbol: 4, which Feed refuses with the number 4.
-unfoldable pub symbolOf : ℕ → ℕ
-symbolOf b = cond (eqb b 48) 0 (cond (eqb b 49) 1 (cond (eqb b 80) 2 (cond (eqb b 45) 3 4)))
+unfoldable pub symbolOfByte : ℕ → ℕ
+symbolOfByte b = cond (eqb b 48) 0 (cond (eqb b 49) 1 (cond (eqb b 80) 2 (cond (eqb b 45) 3 4)))
 
 -- the list of Feeds that the bytes after the first line are
 unfoldable pub feedsOf : List ℕ → List ℕ
 feedsOf [] = []
-feedsOf (b ∷ bs) = cond (isSkipped b) (feedsOf bs) (symbolOf b ∷ feedsOf bs)
+feedsOf (b ∷ bs) = cond (isSkipped b) (feedsOf bs) (symbolOfByte b ∷ feedsOf bs)
 
 -- how many symbols a byte is
 abbrev pub symbolsIn : ℕ → ℕ

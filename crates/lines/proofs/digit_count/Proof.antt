@@ -1,8 +1,8 @@
--- `places` meets its contract: a digit for each turn, and one for what rests.
+-- `digit_count` meets its contract: a digit for each turn, and one for what rests.
 use native.Mathlib.Omega.{arith}
 use Rattle.lines.specs.Filling.{Counted, counted-start, counted-turn, counted-end}
-use Rattle.lines.proofs.places.Statement.{statement}
-use Rattle.lines.proofs.places.Tie as tie
+use Rattle.lines.proofs.digit_count.Statement.{statement}
+use Rattle.lines.proofs.digit_count.Tie as tie
 
 abbrev Inv-loop : tie.InvT-loop
 Inv-loop number rest₀ k₀ rest k = Counted number rest k
@@ -25,5 +25,5 @@ loop-again c = counted-turn (c .before .before .args .number) (c .before .loop .
 returns : tie.Need-returns Inv-loop μ-loop
 returns c = let e = counted-end (c .before .before .args .number) (c .before .loop .rest) (c .before .loop .k) (omega arith) (c .before .loop .inv) in (e, c .before .loop .inv .some, c .before .loop .inv .few)
 
-pub places-spec : {M : Type 1} → statement M
-places-spec = tie.close (tie.spec Inv-loop μ-loop loop-holds add-k loop-less loop-again returns)
+pub digit-count-spec : {M : Type 1} → statement M
+digit-count-spec = tie.close (tie.spec Inv-loop μ-loop loop-holds add-k loop-less loop-again returns)

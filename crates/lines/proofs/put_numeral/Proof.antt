@@ -1,11 +1,11 @@
--- `put_digits` meets its contract: the last i digits are put.
+-- `put_numeral` meets its contract: the last i digits are put.
 use native.Mathlib.Omega.{arith}
 use mathlib.Core.Path.{_≡_, refl, _∙_}
 use Prim.Native.Nat.{_-_, _/_, _^_, _≤_}
 use Rattle.lines.specs.Text.{digitAt}
 use Rattle.lines.specs.Filling.{Filled, filled-start, all-rests, next-rests, digit-small, digit-turn, digits-end}
-use Rattle.lines.proofs.put_digits.Statement.{statement}
-use Rattle.lines.proofs.put_digits.Tie as tie
+use Rattle.lines.proofs.put_numeral.Statement.{statement}
+use Rattle.lines.proofs.put_numeral.Tie as tie
 
 abbrev Inv-loop : tie.InvT-loop
 Inv-loop line₀ at number base width rest₀ i₀ line rest i = (i ≤ width) × (rest ≡ number / base ^ i) × Filled line₀ line at width i (digitAt base width number)
@@ -55,8 +55,8 @@ same-length c = c .before .loop .inv .2 .long
 returns : tie.Need-returns Inv-loop μ-loop
 returns c = (refl, c .before .loop .inv .2 .long ∙ c .before .before .before .pre .3, digits-end (c .before .before .before .args .line .now) (c .before .loop .line) (c .before .before .before .args .at) (c .before .before .before .args .width) (c .before .loop .i) (c .before .before .before .args .number) (c .before .before .before .args .base) (omega arith) (omega (arith, c .before .before .before .pre .0, c .before .before .before .pre .3)) (c .before .loop .inv .2))
 
-pub put-digits-spec : {M : Type 1} → statement M
-put-digits-spec =
+pub put-numeral-spec : {M : Type 1} → statement M
+put-numeral-spec =
     tie.close
     (tie.spec
     Inv-loop
