@@ -33,7 +33,7 @@ fn answer_first(line: &[u8; 4096], used: usize) {
 }
 
 // Answers each line that ends in these bytes; how much of an open line they leave.
-fn hear(bytes: &[u8], line: &mut [u8; 4096], used: usize) -> usize {
+fn take_bytes(bytes: &[u8], line: &mut [u8; 4096], used: usize) -> usize {
     let mut used = used;
     let mut i = 0;
     while i < bytes.len() {
@@ -48,23 +48,23 @@ fn hear(bytes: &[u8], line: &mut [u8; 4096], used: usize) -> usize {
     used
 }
 
-struct Heard {
+struct Taken {
     used: usize,
     open: bool,
 }
 
-fn turn(fd: i32, line: &mut [u8; 4096], used: usize) -> Heard {
+fn answer_read(fd: i32, line: &mut [u8; 4096], used: usize) -> Taken {
     let mut bytes = io::large_buffer();
     let got = libc::read(fd, &mut bytes);
     if got <= 0 {
-        return Heard {
+        return Taken {
             used: used,
             open: false,
         };
     }
     let n = io::count(got, &bytes);
-    let used = hear(&bytes[..n], line, used);
-    Heard {
+    let used = take_bytes(&bytes[..n], line, used);
+    Taken {
         used: used,
         open: true,
     }
@@ -73,18 +73,18 @@ fn turn(fd: i32, line: &mut [u8; 4096], used: usize) -> Heard {
 // A proved loop has to end: the turns are counted down from a number that no file uses up.
 fn answer_lines(fd: i32) {
     let mut line = io::buffer();
-    let mut heard = Heard {
+    let mut taken = Taken {
         used: 0,
         open: true,
     };
     let mut left = u64::MAX;
-    while 0 < left && heard.open {
-        heard = turn(fd, &mut line, heard.used);
+    while 0 < left && taken.open {
+        taken = answer_read(fd, &mut line, taken.used);
         left -= 1;
     }
     // a last line with no end
-    if 0 < heard.used {
-        answer_first(&line, heard.used);
+    if 0 < taken.used {
+        answer_first(&line, taken.used);
     }
 }
 

@@ -4,10 +4,10 @@ use Rattle.calls.proofs.answer_lines.Statement.{statement}
 use Rattle.calls.proofs.answer_lines.Tie as tie
 
 abbrev Inv-loop : tie.InvT-loop
-Inv-loop fd line₀ heard₀ left₀ line heard left = Unit {0}
+Inv-loop fd line₀ taken₀ left₀ line taken left = Unit {0}
 
 abbrev μ-loop : tie.MeasureT-loop
-μ-loop fd line₀ heard₀ left₀ line heard left = left
+μ-loop fd line₀ taken₀ left₀ line taken left = left
 
 buffer-requires : tie.Need-buffer-requires Inv-loop μ-loop
 buffer-requires c κs = search needs
@@ -15,8 +15,8 @@ buffer-requires c κs = search needs
 loop-holds : tie.Need-loop-holds Inv-loop μ-loop
 loop-holds c = search needs
 
-turn-requires : tie.Need-turn-requires Inv-loop μ-loop
-turn-requires c κs = search needs
+answer-read-requires : tie.Need-answer-read-requires Inv-loop μ-loop
+answer-read-requires c κs = search needs
 
 sub-left : tie.Need-sub-left Inv-loop μ-loop
 sub-left c = search needs
@@ -44,7 +44,7 @@ answer-lines-spec =
     μ-loop
     buffer-requires
     loop-holds
-    turn-requires
+    answer-read-requires
     sub-left
     loop-less
     loop-again

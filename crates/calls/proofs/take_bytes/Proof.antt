@@ -1,9 +1,9 @@
--- `hear` is safe and ends.
+-- `take_bytes` is safe and ends.
 use borrow.Author.Needs.{needs}
 use lib.ListN.{length}
 use Prim.Native.Nat.{_-_, _≤_}
-use Rattle.calls.proofs.hear.Statement.{statement}
-use Rattle.calls.proofs.hear.Tie as tie
+use Rattle.calls.proofs.take_bytes.Statement.{statement}
+use Rattle.calls.proofs.take_bytes.Tie as tie
 
 abbrev Inv-loop : tie.InvT-loop
 Inv-loop bytes line₀ used used₀ i₀ line used' i = (i ≤ length bytes)
@@ -38,8 +38,8 @@ loop-again c = search needs
 returns : tie.Need-returns Inv-loop μ-loop
 returns c = search needs
 
-pub hear-spec : {M : Type 1} → statement M
-hear-spec =
+pub take-bytes-spec : {M : Type 1} → statement M
+take-bytes-spec =
     tie.close
     (tie.spec
     Inv-loop

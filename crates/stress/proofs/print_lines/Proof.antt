@@ -1,8 +1,8 @@
 -- `print_lines` is safe and ends.
 use borrow.Author.Needs.{needs}
 use Prim.Native.Nat.{_-_}
-use Rattle.hostile.proofs.print_lines.Statement.{statement}
-use Rattle.hostile.proofs.print_lines.Tie as tie
+use Rattle.stress.proofs.print_lines.Statement.{statement}
+use Rattle.stress.proofs.print_lines.Tie as tie
 
 abbrev Inv-loop : tie.InvT-loop
 Inv-loop name case i₀ i = Unit {0}
@@ -16,8 +16,8 @@ loop-holds c = search needs
 format-at-requires : tie.Need-format-at-requires Inv-loop μ-loop
 format-at-requires c κs = search needs
 
-heard-in-requires : tie.Need-heard-in-requires Inv-loop μ-loop
-heard-in-requires c κs = search needs
+received-in-requires : tie.Need-received-in-requires Inv-loop μ-loop
+received-in-requires c κs = search needs
 
 print-line-requires : tie.Need-print-line-requires Inv-loop μ-loop
 print-line-requires c κs = search needs
@@ -42,7 +42,7 @@ print-lines-spec =
     μ-loop
     loop-holds
     format-at-requires
-    heard-in-requires
+    received-in-requires
     print-line-requires
     add-i
     loop-less

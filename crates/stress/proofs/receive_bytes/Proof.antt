@@ -1,8 +1,8 @@
--- `hear_bytes` is safe and ends.
+-- `receive_bytes` is safe and ends.
 use borrow.Author.Needs.{needs}
 use Prim.Native.Nat.{_-_}
-use Rattle.hostile.proofs.hear_bytes.Statement.{statement}
-use Rattle.hostile.proofs.hear_bytes.Tie as tie
+use Rattle.stress.proofs.receive_bytes.Statement.{statement}
+use Rattle.stress.proofs.receive_bytes.Tie as tie
 
 abbrev Inv-loop : tie.InvT-loop
 Inv-loop tally₀ i₀ tally i = Unit {0}
@@ -13,11 +13,11 @@ abbrev μ-loop : tie.MeasureT-loop
 loop-holds : tie.Need-loop-holds Inv-loop μ-loop
 loop-holds c = search needs
 
-cast-hear : tie.Need-cast-hear Inv-loop μ-loop
-cast-hear c = search needs
+cast-receive : tie.Need-cast-receive Inv-loop μ-loop
+cast-receive c = search needs
 
-hear-requires : tie.Need-hear-requires Inv-loop μ-loop
-hear-requires c κs = search needs
+receive-requires : tie.Need-receive-requires Inv-loop μ-loop
+receive-requires c κs = search needs
 
 add-i : tie.Need-add-i Inv-loop μ-loop
 add-i c = search needs
@@ -31,15 +31,15 @@ loop-again c = search needs
 returns : tie.Need-returns Inv-loop μ-loop
 returns c = search needs
 
-pub hear-bytes-spec : {M : Type 1} → statement M
-hear-bytes-spec =
+pub receive-bytes-spec : {M : Type 1} → statement M
+receive-bytes-spec =
     tie.close
     (tie.spec
     Inv-loop
     μ-loop
     loop-holds
-    cast-hear
-    hear-requires
+    cast-receive
+    receive-requires
     add-i
     loop-less
     loop-again

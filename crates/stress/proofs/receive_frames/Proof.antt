@@ -1,8 +1,8 @@
--- `hear_frames` is safe and ends.
+-- `receive_frames` is safe and ends.
 use borrow.Author.Needs.{needs}
 use Prim.Native.Nat.{_-_}
-use Rattle.hostile.proofs.hear_frames.Statement.{statement}
-use Rattle.hostile.proofs.hear_frames.Tie as tie
+use Rattle.stress.proofs.receive_frames.Statement.{statement}
+use Rattle.stress.proofs.receive_frames.Tie as tie
 
 abbrev Inv-loop : tie.InvT-loop
 Inv-loop case format n tally₀ time₀ k₀ j₀ tally time k j = Unit {0}
@@ -28,8 +28,8 @@ control-of-requires c κs = search needs
 write-first-requires : tie.Need-write-first-requires Inv-loop μ-loop
 write-first-requires c κs = search needs
 
-hear-frame-requires : tie.Need-hear-frame-requires Inv-loop μ-loop
-hear-frame-requires c κs = search needs
+receive-frame-requires : tie.Need-receive-frame-requires Inv-loop μ-loop
+receive-frame-requires c κs = search needs
 
 year-of-requires : tie.Need-year-of-requires Inv-loop μ-loop
 year-of-requires c κs = search needs
@@ -52,8 +52,8 @@ loop-again c = search needs
 returns : tie.Need-returns Inv-loop μ-loop
 returns c = search needs
 
-pub hear-frames-spec : {M : Type 1} → statement M
-hear-frames-spec =
+pub receive-frames-spec : {M : Type 1} → statement M
+receive-frames-spec =
     tie.close
     (tie.spec
     Inv-loop
@@ -64,7 +64,7 @@ hear-frames-spec =
     loop-holds
     control-of-requires
     write-first-requires
-    hear-frame-requires
+    receive-frame-requires
     year-of-requires
     time-after-requires
     wrapping-add-u64-requires

@@ -1,8 +1,8 @@
--- `hear_frame` is safe and ends.
+-- `receive_frame` is safe and ends.
 use borrow.Author.Needs.{needs}
 use Prim.Native.Nat.{_-_}
-use Rattle.hostile.proofs.hear_frame.Statement.{statement}
-use Rattle.hostile.proofs.hear_frame.Tie as tie
+use Rattle.stress.proofs.receive_frame.Statement.{statement}
+use Rattle.stress.proofs.receive_frame.Tie as tie
 
 abbrev Inv-loop : tie.InvT-loop
 Inv-loop case frame n k tally₀ i₀ tally i = Unit {0}
@@ -34,8 +34,8 @@ loop-again c = search needs
 returns : tie.Need-returns Inv-loop μ-loop
 returns c = search needs
 
-pub hear-frame-spec : {M : Type 1} → statement M
-hear-frame-spec =
+pub receive-frame-spec : {M : Type 1} → statement M
+receive-frame-spec =
     tie.close
     (tie.spec
     Inv-loop

@@ -1,17 +1,14 @@
--- `hear_symbols` is safe and ends.
+-- `receive_random` is safe and ends.
 use borrow.Author.Needs.{needs}
 use Prim.Native.Nat.{_-_}
-use Rattle.hostile.proofs.hear_symbols.Statement.{statement}
-use Rattle.hostile.proofs.hear_symbols.Tie as tie
+use Rattle.stress.proofs.receive_random.Statement.{statement}
+use Rattle.stress.proofs.receive_random.Tie as tie
 
 abbrev Inv-loop : tie.InvT-loop
-Inv-loop case count n tally₀ i₀ tally i = Unit {0}
+Inv-loop tally₀ x₀ i₀ tally x i = Unit {0}
 
 abbrev μ-loop : tie.MeasureT-loop
-μ-loop case count n tally₀ i₀ tally i = count - i
-
-frame-size-requires : tie.Need-frame-size-requires Inv-loop μ-loop
-frame-size-requires c κs = search needs
+μ-loop tally₀ x₀ i₀ tally x i = 200000 - i
 
 fresh-requires : tie.Need-fresh-requires Inv-loop μ-loop
 fresh-requires c κs = search needs
@@ -19,11 +16,14 @@ fresh-requires c κs = search needs
 loop-holds : tie.Need-loop-holds Inv-loop μ-loop
 loop-holds c = search needs
 
-symbol-of-requires : tie.Need-symbol-of-requires Inv-loop μ-loop
-symbol-of-requires c κs = search needs
+next-random-requires : tie.Need-next-random-requires Inv-loop μ-loop
+next-random-requires c κs = search needs
 
-hear-requires : tie.Need-hear-requires Inv-loop μ-loop
-hear-requires c κs = search needs
+cast-receive : tie.Need-cast-receive Inv-loop μ-loop
+cast-receive c = search needs
+
+receive-requires : tie.Need-receive-requires Inv-loop μ-loop
+receive-requires c κs = search needs
 
 add-i : tie.Need-add-i Inv-loop μ-loop
 add-i c = search needs
@@ -37,17 +37,17 @@ loop-again c = search needs
 returns : tie.Need-returns Inv-loop μ-loop
 returns c = search needs
 
-pub hear-symbols-spec : {M : Type 1} → statement M
-hear-symbols-spec =
+pub receive-random-spec : {M : Type 1} → statement M
+receive-random-spec =
     tie.close
     (tie.spec
     Inv-loop
     μ-loop
-    frame-size-requires
     fresh-requires
     loop-holds
-    symbol-of-requires
-    hear-requires
+    next-random-requires
+    cast-receive
+    receive-requires
     add-i
     loop-less
     loop-again

@@ -1,4 +1,4 @@
-//! What `crates/hostile` must print: each symbol is answered by the reader of this crate and by a plain machine that holds
+//! What `crates/stress` must print: each symbol is answered by the reader of this crate and by a plain machine that holds
 //! the whole list, and the two must agree.
 use reference::{next_after, read, step, write, Answer, Format, Reader, Time};
 

@@ -1,4 +1,4 @@
-// Long hostile streams: for each case and format how many symbols a reader accepts, reports and refuses, and a checksum
+// Long streams, most of them damaged: for each case and format how many symbols a reader accepts, reports and refuses, and a checksum
 // over its reports. The expected lines are from an independent plain version of the rules in another language.
 ghost use Prim.Native.Nat.{_≤_};
 use clock::step;
@@ -79,7 +79,7 @@ fn with_report(sum: u64, elements: u64, time: Time, control: u64) -> u64 {
 }
 
 // One Feed.
-fn hear(tally: Tally, symbol: u8) -> Tally {
+fn receive(tally: Tally, symbol: u8) -> Tally {
     let before = tally.reader;
     let answer = answer_to(before, symbol);
     let reader = next_reader(before, symbol);
@@ -121,7 +121,7 @@ fn tally_from(reader: Reader) -> Tally {
 
 // A reader that no call made: of any format, at any place.
 fn reader_at(format: Format, place: usize) -> Reader {
-    let heard = Register {
+    let received = Register {
         word0: 0,
         word1: 0,
         word2: 0,
@@ -133,7 +133,7 @@ fn reader_at(format: Format, place: usize) -> Reader {
     Reader {
         format: format,
         place: place,
-        received: heard,
+        received: received,
     }
 }
 
@@ -191,12 +191,12 @@ fn symbol_of(case: Case, i: u64, n: u64) -> u8
     }
 }
 
-fn hear_symbols(case: Case, format: Format, count: u64) -> Tally {
+fn receive_symbols(case: Case, format: Format, count: u64) -> Tally {
     let n = frame_size(format) as u64;
     let mut tally = fresh(format);
     let mut i = 0;
     while i < count {
-        tally = hear(tally, symbol_of(case, i, n));
+        tally = receive(tally, symbol_of(case, i, n));
         i += 1;
     }
     tally
@@ -207,24 +207,24 @@ fn next_random(x: u64) -> u64 {
 }
 
 // Two of six bytes are no symbols.
-fn hear_random(format: Format) -> Tally {
+fn receive_random(format: Format) -> Tally {
     let mut tally = fresh(format);
     let mut x = 1;
     let mut i = 0;
     while i < SYMBOLS {
         x = next_random(x);
-        tally = hear(tally, (x / 65_536 % 6) as u8);
+        tally = receive(tally, (x / 65_536 % 6) as u8);
         i += 1;
     }
     tally
 }
 
 // Every byte there is.
-fn hear_bytes(tally: Tally) -> Tally {
+fn receive_bytes(tally: Tally) -> Tally {
     let mut tally = tally;
     let mut i = 0u64;
     while i < 256 {
-        tally = hear(tally, i as u8);
+        tally = receive(tally, i as u8);
         i += 1;
     }
     tally
@@ -235,34 +235,34 @@ fn arrive(case: Case, tally: Tally, k: u64, element: u8) -> Tally {
     match case {
         Case::Damaged => {
             if k % 997 == 996 {
-                return hear(tally, SPOILED);
+                return receive(tally, SPOILED);
             }
-            hear(tally, element)
+            receive(tally, element)
         }
         Case::Lost => {
             if k % 997 == 996 {
                 return tally;
             }
-            hear(tally, element)
+            receive(tally, element)
         }
         Case::Added => {
             if k % 997 == 996 {
-                return hear(hear(tally, 1), element);
+                return receive(receive(tally, 1), element);
             }
-            hear(tally, element)
+            receive(tally, element)
         }
         Case::Interrupted => {
             if k % 50 == 49 {
-                return hear(hear(tally, 9), element);
+                return receive(receive(tally, 9), element);
             }
-            hear(tally, element)
+            receive(tally, element)
         }
-        _ => hear(tally, element),
+        _ => receive(tally, element),
     }
 }
 
 // A frame of n elements, the first of them element k of the stream.
-fn hear_frame(case: Case, tally: Tally, frame: &[u8; 100], n: usize, k: u64) -> Tally {
+fn receive_frame(case: Case, tally: Tally, frame: &[u8; 100], n: usize, k: u64) -> Tally {
     let mut tally = tally;
     let mut i = 0;
     while i < 100 {
@@ -343,7 +343,7 @@ fn time_after(format: Format, time: Time, year: u16) -> Time {
     }
 }
 
-fn hear_frames(case: Case, format: Format) -> Tally {
+fn receive_frames(case: Case, format: Format) -> Tally {
     let n = frame_size(format);
     let mut tally = fresh(format);
     let mut time = first_time(format);
@@ -352,7 +352,7 @@ fn hear_frames(case: Case, format: Format) -> Tally {
     while j < FRAMES {
         let mut frame = [LENT; 100];
         write_first(format, time, control_of(format, j), &mut frame, n);
-        tally = hear_frame(case, tally, &frame, n, k);
+        tally = receive_frame(case, tally, &frame, n, k);
         time = time_after(format, time, year_of(case, j));
         k = wrapping_add_u64(k, n as u64);
         j += 1;
@@ -360,7 +360,7 @@ fn hear_frames(case: Case, format: Format) -> Tally {
     tally
 }
 
-fn heard_in(case: Case, format: Format) -> Tally {
+fn received_in(case: Case, format: Format) -> Tally {
     match case {
         Case::Marks
         | Case::Spoiled
@@ -368,10 +368,10 @@ fn heard_in(case: Case, format: Format) -> Tally {
         | Case::Pairs
         | Case::Fours
         | Case::Refused
-        | Case::Shaped => hear_symbols(case, format, SYMBOLS),
-        Case::Random => hear_random(format),
-        Case::Place => hear_bytes(tally_from(reader_at(format, frame_size(format)))),
-        _ => hear_frames(case, format),
+        | Case::Shaped => receive_symbols(case, format, SYMBOLS),
+        Case::Random => receive_random(format),
+        Case::Place => receive_bytes(tally_from(reader_at(format, frame_size(format)))),
+        _ => receive_frames(case, format),
     }
 }
 
@@ -405,7 +405,7 @@ fn print_lines(name: &[u8], case: Case) {
     let mut i = 0;
     while i < FORMATS {
         let format = format_at(i);
-        print_line(name, format, heard_in(case, format));
+        print_line(name, format, received_in(case, format));
         i += 1;
     }
 }
@@ -415,12 +415,12 @@ fn print_more() {
         letter: b'B',
         expression: 0,
     };
-    print_line(b"million", b0, hear_symbols(Case::Marks, b0, 1_000_000));
+    print_line(b"million", b0, receive_symbols(Case::Marks, b0, 1_000_000));
     let c0 = Format {
         letter: b'C',
         expression: 0,
     };
-    print_line(b"unknown", c0, hear_bytes(fresh(c0)));
+    print_line(b"unknown", c0, receive_bytes(fresh(c0)));
 }
 
 fn main() {
