@@ -6,20 +6,20 @@ ghost use lib.IntN.{pos};
 ghost use Rattle.timecode.specs.Calls.{classifyListLeaves};
 ghost use Rattle.timecode.specs.Frames.{writeLeaves};
 ghost use Rattle.block.specs.Blocks.{lists, listsLeft, blockResult, blockFor};
-ghost use Rattle.border.specs.Border.{feedBlockWords, blockWordsLeft, readerIn, formatOf, timeOf, writeResult, readResult, stepResult, stepBackResult, differenceResult, classifyResult, classifyListResult, scanResult, freshResult, fedResult, valuesLeft, flagLeft, indexLeft, freshLeft, feedWords, feedPulseWords, wordsLeft};
+ghost use Rattle.ffi.specs.Interface.{feedBlockWords, blockWordsLeft, readerIn, formatOf, timeOf, writeResult, readResult, stepResult, stepBackResult, differenceResult, classifyResult, classifyListResult, scanResult, freshResult, fedResult, valuesLeft, flagLeft, indexLeft, freshLeft, feedWords, feedPulseWords, wordsLeft};
 use block_feed::feed_block;
-use border::format_of;
-use border::number_of_written;
-use border::put_block;
-use border::put_fed;
-use border::put_index;
-use border::put_stepped;
-use border::put_values;
-use border::reader_in;
-use border::time_of;
-use border::words_for;
 use clock::step;
 use clock::step_back;
+use ffi::format_of;
+use ffi::number_of_written;
+use ffi::put_block;
+use ffi::put_fed;
+use ffi::put_index;
+use ffi::put_stepped;
+use ffi::put_values;
+use ffi::reader_in;
+use ffi::time_of;
+use ffi::words_for;
 use frame::read;
 use frame::write;
 use pulse::classify;
@@ -176,20 +176,20 @@ pub extern "C" fn duskveyra_fresh(letter: u8, expression: u8, reader: &mut [u64;
 }
 
 // One Feed of a symbol that is no mark, which brings no report. Most symbols are none, and no reader is copied for them.
-fn feed_other(reader: &mut [u64; 10], symbol: u8, reported: &mut u8) -> u8
+fn feed_unmarked(reader: &mut [u64; 10], symbol: u8, reported: &mut u8) -> u8
     requires { ⌜ ¬ (symbol ≡ 2) ⌝ }
     ensures { λ r. ⌜ r ≡ fedResult (feedWords (now (reader .entry)) symbol) .number ⌝ }
     ensures { λ _. ⌜ now (reader .exit) ≡ wordsLeft (feedWords (now (reader .entry)) symbol) (now (reader .entry)) ⌝ }
     ensures { λ _. ⌜ now (reported .exit) ≡ flagLeft (fedResult (feedWords (now (reader .entry)) symbol)) (now (reported .entry)) ⌝ }
     ensures { λ _. ⌜ fedResult (feedWords (now (reader .entry)) symbol) .values ≡ [] ⌝ }
 {
-    let held = reader_in(*reader);
-    if let Passed::Next(next) = pass(held, symbol) {
+    let unpacked = reader_in(*reader);
+    if let Passed::Next(next) = pass(unpacked, symbol) {
         *reader = words_for(next);
         *reported = 0;
         return 0;
     }
-    if is_valid(held) {
+    if is_valid(unpacked) {
         return number_of(Refusal::UnknownSymbol);
     }
     number_of(Refusal::InvalidReader)
@@ -211,12 +211,12 @@ pub extern "C" fn duskveyra_feed(
     ensures { λ _. ⌜ pos (now (day .exit)) ∷ pos (now (hundredths .exit)) ∷ pos (now (control .exit)) ∷ [] ≡ valuesLeft (fedResult (feedWords (now (reader .entry)) symbol)) (pos (now (day .entry)) ∷ pos (now (hundredths .entry)) ∷ pos (now (control .entry)) ∷ []) ⌝ }
 {
     if symbol == MARK {
-        let held = reader_in(*reader);
-        let answer = answer_to(held, symbol);
-        let next = next_reader(held, symbol);
+        let unpacked = reader_in(*reader);
+        let answer = answer_to(unpacked, symbol);
+        let next = next_reader(unpacked, symbol);
         return put_fed(next, answer, reader, reported, day, hundredths, control);
     }
-    feed_other(reader, symbol, reported)
+    feed_unmarked(reader, symbol, reported)
 }
 
 // The classifier: the symbol of one pulse.

@@ -1,7 +1,7 @@
 -- `duskveyra_classify` meets its contract: the symbol, or the number and nothing set.
 use borrow.Author.Needs.{needs}
 use mathlib.Core.Path.{refl, sym, _∙_}
-use Rattle.border.specs.Laws.{refusal-numbered}
+use Rattle.ffi.specs.WordLaws.{refusal-numbered}
 use Rattle.recorder.proofs.duskveyra_classify.Statement.{statement}
 use Rattle.recorder.proofs.duskveyra_classify.Tie as tie
 

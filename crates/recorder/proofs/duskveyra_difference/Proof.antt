@@ -3,7 +3,7 @@ use borrow.Author.Needs.{needs}
 use mathlib.Core.Path.{refl, sym, ap, _∙_}
 use mathlib.Core.List.{[], _∷_}
 use lib.IntN.{ℤ}
-use Rattle.border.specs.Laws.{refusal-numbered}
+use Rattle.ffi.specs.WordLaws.{refusal-numbered}
 use Rattle.recorder.proofs.duskveyra_difference.Statement.{statement}
 use Rattle.recorder.proofs.duskveyra_difference.Tie as tie
 

@@ -5,8 +5,8 @@ use Rattle.recorder.proofs.duskveyra_feed_block.Tie as tie
 use Rattle.recorder.proofs.duskveyra_feed_block.Reads as reads
 use Rattle.recorder.proofs.duskveyra_feed_block.Lts as lts
 use Rattle.block_feed.proofs.feed_block.Reads as feed-block-reads
-use Rattle.border.proofs.put_block.Reads as put-block-reads
-use Rattle.border.proofs.reader_in.Reads as reader-in-reads
+use Rattle.ffi.proofs.put_block.Reads as put-block-reads
+use Rattle.ffi.proofs.reader_in.Reads as reader-in-reads
 
 reader-in-requires : tie.Need-reader-in-requires
 reader-in-requires c κs = search needs

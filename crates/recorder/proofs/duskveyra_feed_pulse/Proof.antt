@@ -5,8 +5,8 @@ use Rattle.recorder.proofs.duskveyra_feed_pulse.Tie as tie
 use Rattle.recorder.proofs.duskveyra_feed_pulse.Reads as reads
 use Rattle.recorder.proofs.duskveyra_feed_pulse.Lts as lts
 use Rattle.pulse_feed.proofs.feed_pulse.Reads as feed-pulse-reads
-use Rattle.border.proofs.put_fed.Reads as put-fed-reads
-use Rattle.border.proofs.reader_in.Reads as reader-in-reads
+use Rattle.ffi.proofs.put_fed.Reads as put-fed-reads
+use Rattle.ffi.proofs.reader_in.Reads as reader-in-reads
 
 reader-in-requires : tie.Need-reader-in-requires
 reader-in-requires c κs = search needs

@@ -1,8 +1,8 @@
 -- `duskveyra_fresh` meets its contract: the words of a fresh reader, or the number and nothing set.
 use borrow.Author.Needs.{needs}
 use mathlib.Core.Path.{refl, sym, ap, _∙_}
-use Rattle.border.specs.Border.{wordsFor}
-use Rattle.border.specs.Laws.{refusal-numbered, made-fresh}
+use Rattle.ffi.specs.Interface.{wordsFor}
+use Rattle.ffi.specs.WordLaws.{refusal-numbered, made-fresh}
 use Rattle.recorder.proofs.duskveyra_fresh.Statement.{statement}
 use Rattle.recorder.proofs.duskveyra_fresh.Tie as tie
 

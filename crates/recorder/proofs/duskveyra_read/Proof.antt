@@ -1,7 +1,7 @@
 -- `duskveyra_read` meets its contract: the values, or the number with its index.
 use borrow.Author.Needs.{needs}
 use mathlib.Core.Path.{refl, sym, _∙_}
-use Rattle.border.specs.Laws.{refusal-numbered}
+use Rattle.ffi.specs.WordLaws.{refusal-numbered}
 use Rattle.recorder.proofs.duskveyra_read.Statement.{statement}
 use Rattle.recorder.proofs.duskveyra_read.Tie as tie
 

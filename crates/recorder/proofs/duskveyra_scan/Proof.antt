@@ -1,7 +1,7 @@
 -- `duskveyra_scan` meets its contract: the frame found, none, or the number and nothing set.
 use borrow.Author.Needs.{needs}
 use mathlib.Core.Path.{refl, sym, _∙_}
-use Rattle.border.specs.Laws.{refusal-numbered}
+use Rattle.ffi.specs.WordLaws.{refusal-numbered}
 use Rattle.recorder.proofs.duskveyra_scan.Statement.{statement}
 use Rattle.recorder.proofs.duskveyra_scan.Tie as tie
 

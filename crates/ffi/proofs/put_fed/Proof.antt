@@ -1,13 +1,13 @@
 -- `put_fed` meets its contract: quiet, a report, or the number and nothing written.
 use borrow.Author.Needs.{needs}
 use mathlib.Core.Path.{refl}
-use Rattle.border.specs.Laws.{refusal-numbered}
-use Rattle.border.proofs.put_fed.Statement.{statement}
-use Rattle.border.proofs.put_fed.Tie as tie
-use Rattle.border.proofs.put_fed.Reads as reads
-use Rattle.border.proofs.put_fed.Lts as lts
-use Rattle.border.proofs.put_values.Reads as put-values-reads
-use Rattle.border.proofs.words_for.Reads as words-for-reads
+use Rattle.ffi.specs.WordLaws.{refusal-numbered}
+use Rattle.ffi.proofs.put_fed.Statement.{statement}
+use Rattle.ffi.proofs.put_fed.Tie as tie
+use Rattle.ffi.proofs.put_fed.Reads as reads
+use Rattle.ffi.proofs.put_fed.Lts as lts
+use Rattle.ffi.proofs.put_values.Reads as put-values-reads
+use Rattle.ffi.proofs.words_for.Reads as words-for-reads
 use Rattle.refusals.proofs.number_of.Reads as number-of-reads
 
 enum-told : tie.Need-enum-told

@@ -1,15 +1,15 @@
--- `feed_other` meets its contract: the reader with one symbol more, or the number.
+-- `feed_unmarked` meets its contract: the reader with one symbol more, or the number.
 use borrow.Author.Needs.{needs}
 use mathlib.Core.Path.{refl, sym, _∙_}
 use Rattle.stream.specs.Feeding.{feedOf}
 use Rattle.stream.specs.Marked.{passed-next, not-passed}
-use Rattle.border.specs.Laws.{invalid-answer, unknown-answer}
-use Rattle.recorder.proofs.feed_other.Statement.{statement}
-use Rattle.recorder.proofs.feed_other.Tie as tie
-use Rattle.recorder.proofs.feed_other.Reads as reads
-use Rattle.recorder.proofs.feed_other.Lts as lts
-use Rattle.border.proofs.reader_in.Reads as reader-in-reads
-use Rattle.border.proofs.words_for.Reads as words-for-reads
+use Rattle.ffi.specs.WordLaws.{invalid-answer, unknown-answer}
+use Rattle.recorder.proofs.feed_unmarked.Statement.{statement}
+use Rattle.recorder.proofs.feed_unmarked.Tie as tie
+use Rattle.recorder.proofs.feed_unmarked.Reads as reads
+use Rattle.recorder.proofs.feed_unmarked.Lts as lts
+use Rattle.ffi.proofs.reader_in.Reads as reader-in-reads
+use Rattle.ffi.proofs.words_for.Reads as words-for-reads
 use Rattle.stream.proofs.is_valid.Reads as is-valid-reads
 use Rattle.stream.proofs.pass.Reads as pass-reads
 use Rattle.refusals.proofs.number_of.Reads as number-of-reads
@@ -50,8 +50,8 @@ returns-3 : tie.Need-returns-3
 unfolding feedOf
 returns-3 c = rw (← c .before .before .before .before .before .before .reader-in .ensures, invalid-answer (c .before .before .before .before .before .before .reader-in .result) (c .before .before .before .before .before .before .before .before .args .symbol) (sym (c .before .before .is-valid .ensures) ∙ c .before .if1 .left)) (c .number-of2 .ensures, (refl, (refl, refl)))
 
-pub feed-other-spec : {M : Type 1} → statement M
-feed-other-spec =
+pub feed-unmarked-spec : {M : Type 1} → statement M
+feed-unmarked-spec =
     tie.close
     (tie.spec
     reader-in-requires

@@ -1,7 +1,7 @@
 -- `put_index` meets its contract: numbers 5 and 6 set the index, no other does.
 use borrow.Author.Needs.{needs}
-use Rattle.border.proofs.put_index.Statement.{statement}
-use Rattle.border.proofs.put_index.Tie as tie
+use Rattle.ffi.proofs.put_index.Statement.{statement}
+use Rattle.ffi.proofs.put_index.Tie as tie
 
 enum-told : tie.Need-enum-told
 enum-told c = search needs

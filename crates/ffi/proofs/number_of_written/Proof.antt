@@ -1,7 +1,7 @@
 -- `number_of_written` meets its contract: 0, or the number of the refusal.
 use borrow.Author.Needs.{needs}
-use Rattle.border.proofs.number_of_written.Statement.{statement}
-use Rattle.border.proofs.number_of_written.Tie as tie
+use Rattle.ffi.proofs.number_of_written.Statement.{statement}
+use Rattle.ffi.proofs.number_of_written.Tie as tie
 
 enum-told : tie.Need-enum-told
 enum-told c = search needs

@@ -32,7 +32,7 @@ use Rattle.timecode.specs.declared.Refusal.the-variants.{
 use Rattle.stream.specs.Feeding.{freshReader, madeOf, isValid, answerOf}
 use Rattle.stream.specs.declared.Made.{Made}
 use Rattle.stream.specs.declared.Reader.{Reader}
-use Rattle.border.specs.Border.{valuesLeft}
+use Rattle.ffi.specs.Interface.{valuesLeft}
 
 pub refusal-numbered : (x : Refusal) → eqb (refusalNumber x) 0 ≡ false
 refusal-numbered UnknownFormat = refl

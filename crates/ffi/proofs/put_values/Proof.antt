@@ -1,7 +1,7 @@
 -- `put_values` meets its contract: each value at its place.
 use mathlib.Core.Path.{refl}
-use Rattle.border.proofs.put_values.Statement.{statement}
-use Rattle.border.proofs.put_values.Tie as tie
+use Rattle.ffi.proofs.put_values.Statement.{statement}
+use Rattle.ffi.proofs.put_values.Tie as tie
 
 returns : tie.Need-returns
 returns c = (refl, (refl, refl))

@@ -6,7 +6,7 @@ ghost use lib.IntN.{pos};
 ghost use lib.ListN.{getD};
 ghost use Rattle.timecode.specs.Answers.{refusalResult, writtenResult, steppedResult};
 ghost use Rattle.block.specs.Blocks.{stopNumber, blockResult};
-ghost use Rattle.border.specs.Border.{unlessRefused, formatOf, timeOf, fedResult, fedWith, valuesLeft, flagLeft, wordsFor, byteIn, readerIn, wordsLeft};
+ghost use Rattle.ffi.specs.Interface.{unlessRefused, formatOf, timeOf, fedResult, fedWith, valuesLeft, flagLeft, wordsFor, byteIn, readerIn, wordsLeft};
 use block::BlockAnswer;
 use block::Stop;
 use refusals::number_of;

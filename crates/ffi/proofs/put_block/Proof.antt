@@ -1,13 +1,13 @@
 -- `put_block` meets its contract: the counts, or the number and nothing written.
 use borrow.Author.Needs.{needs}
 use mathlib.Core.Path.{refl}
-use Rattle.border.specs.Laws.{refusal-numbered}
-use Rattle.border.proofs.put_block.Statement.{statement}
-use Rattle.border.proofs.put_block.Tie as tie
-use Rattle.border.proofs.put_block.Reads as reads
-use Rattle.border.proofs.put_block.Lts as lts
-use Rattle.border.proofs.stop_number.Reads as stop-number-reads
-use Rattle.border.proofs.words_for.Reads as words-for-reads
+use Rattle.ffi.specs.WordLaws.{refusal-numbered}
+use Rattle.ffi.proofs.put_block.Statement.{statement}
+use Rattle.ffi.proofs.put_block.Tie as tie
+use Rattle.ffi.proofs.put_block.Reads as reads
+use Rattle.ffi.proofs.put_block.Lts as lts
+use Rattle.ffi.proofs.stop_number.Reads as stop-number-reads
+use Rattle.ffi.proofs.words_for.Reads as words-for-reads
 use Rattle.refusals.proofs.number_of.Reads as number-of-reads
 
 enum-known-answer : tie.Need-enum-known-answer

@@ -1,9 +1,9 @@
 -- `words_for` meets its contract: the ten words in their order.
 use borrow.Author.Needs.{needs}
 use mathlib.Core.Path.{refl}
-use Rattle.border.specs.Border.{wordsFor}
-use Rattle.border.proofs.words_for.Statement.{statement}
-use Rattle.border.proofs.words_for.Tie as tie
+use Rattle.ffi.specs.Interface.{wordsFor}
+use Rattle.ffi.proofs.words_for.Statement.{statement}
+use Rattle.ffi.proofs.words_for.Tie as tie
 
 cast-t4 : tie.Need-cast-t4
 cast-t4 c = search needs

@@ -1,9 +1,9 @@
 -- `byte_in` meets its contract: the word, or 255 where it is no byte.
 use borrow.Author.Needs.{needs}
 use borrow.Author.Tests.{lt-ltb, le-ltb}
-use Rattle.border.specs.Border.{byteIn}
-use Rattle.border.proofs.byte_in.Statement.{statement}
-use Rattle.border.proofs.byte_in.Tie as tie
+use Rattle.ffi.specs.Interface.{byteIn}
+use Rattle.ffi.proofs.byte_in.Statement.{statement}
+use Rattle.ffi.proofs.byte_in.Tie as tie
 
 cast-result : tie.Need-cast-result
 cast-result c = search needs

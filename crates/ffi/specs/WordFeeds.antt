@@ -26,8 +26,8 @@ use Rattle.block.specs.declared.BlockAnswer.{BlockAnswer}
 use Rattle.pulse_feed.specs.PulseFeeds.{feedPulseOf, refused-pulse-same-reader}
 use Rattle.reader_calls.specs.MixedCalls.{call-reader, calls-are-plain}
 use Rattle.reader_calls.specs.ReaderCalls.{ReaderCall, symbol, symbolInPlace, pulse, block, CallResult, symbolCallResult, inPlaceCallResult, pulseCallResult, blockCallResult, symbolsFed, allFed, allAnswers, callResult, readerOf, callResults, readerAfterCalls, plainCallResults}
-use Rattle.border.specs.Border.{unlessRefused, formatOf, fedResult, fedWith, wordsFor, byteIn, readerIn, freshLeft, feedWords, feedPulseWords, wordsLeft, feedBlockWords, blockWordsLeft}
-use Rattle.border.specs.Laws.{refusal-numbered}
+use Rattle.ffi.specs.Interface.{unlessRefused, formatOf, fedResult, fedWith, wordsFor, byteIn, readerIn, freshLeft, feedWords, feedPulseWords, wordsLeft, feedBlockWords, blockWordsLeft}
+use Rattle.ffi.specs.WordLaws.{refusal-numbered}
 
 -- ---- packed and unpacked
 

@@ -76,13 +76,13 @@ abbrev pub valuesLeft : Result → List ℤ → List ℤ
 valuesLeft s old = unlessRefused s (orElse (s .values) old) old
 
 -- 1 where there are values, 0 where there are none
-abbrev pub some : List ℤ → ℕ
-some [] = 0
-some (v ∷ vs) = 1
+abbrev pub flagOf : List ℤ → ℕ
+flagOf [] = 0
+flagOf (v ∷ vs) = 1
 
 -- the out-parameter that tells Report from Quiet, and a frame found from None
 abbrev pub flagLeft : Result → ℕ → ℕ
-flagLeft s old = unlessRefused s (some (s .values)) old
+flagLeft s old = unlessRefused s (flagOf (s .values)) old
 
 -- the out-parameter for the index, which a refusal has with 5 and 6 alone
 abbrev pub indexLeft : Result → ℤ → ℤ

@@ -1,9 +1,9 @@
 -- `put_stepped` meets its contract: the time, or the number and nothing set.
 use borrow.Author.Needs.{needs}
 use mathlib.Core.Path.{refl}
-use Rattle.border.specs.Laws.{refusal-numbered}
-use Rattle.border.proofs.put_stepped.Statement.{statement}
-use Rattle.border.proofs.put_stepped.Tie as tie
+use Rattle.ffi.specs.WordLaws.{refusal-numbered}
+use Rattle.ffi.proofs.put_stepped.Statement.{statement}
+use Rattle.ffi.proofs.put_stepped.Tie as tie
 
 enum-known-stepped : tie.Need-enum-known-stepped
 enum-known-stepped c = search needs

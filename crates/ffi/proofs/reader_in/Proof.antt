@@ -1,8 +1,8 @@
 -- `reader_in` meets its contract: each word at its place.
 use borrow.Author.Needs.{needs}
-use Rattle.border.specs.Border.{readerIn}
-use Rattle.border.proofs.reader_in.Statement.{statement}
-use Rattle.border.proofs.reader_in.Tie as tie
+use Rattle.ffi.specs.Interface.{readerIn}
+use Rattle.ffi.proofs.reader_in.Statement.{statement}
+use Rattle.ffi.proofs.reader_in.Tie as tie
 
 array-read-byte-in : tie.Need-array-read-byte-in
 array-read-byte-in c = search needs

@@ -1,3 +1,0 @@
-pub mod Border
-pub mod Laws
-pub mod Feeds
