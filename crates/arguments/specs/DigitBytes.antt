@@ -11,7 +11,7 @@ use lib.Dec.{leb, ltb}
 use lib.ListN.{getD, length, take, drop, drop-of-length-le}
 use lib.Seq.{take-suc, take-length, drop-cons}
 use Rattle.timecode.specs.Laws.Tests.{by-test}
-use Rattle.arguments.specs.Numbers.{digitOf, areDigits, valueFrom, last, limited, numberOf}
+use Rattle.arguments.specs.Numbers.{digitOf, areDigitBytes, valueFrom, last, limited, numberOf}
 use Rattle.arguments.specs.declared.Number.the-variants.{Value, Malformed}
 
 pub limited-small : (v : ℕ) → v ≤ last → v ≡ limited v
@@ -64,15 +64,15 @@ value-one base v b = refl
 -- the first i digits are read, and the rest decides
 pub record Read (base : ℕ) (text : List ℕ) (i value : ℕ) : Type 0 where
   pub so-far : value ≡ limited (valueFrom base 0 (take i text))
-  pub rest : areDigits base text ≡ areDigits base (drop i text)
+  pub rest : areDigitBytes base text ≡ areDigitBytes base (drop i text)
 
 pub read-start : (base : ℕ) (text : List ℕ) → Read base text 0 0
 unfolding valueFrom limited
 read-start base text = record { so-far = refl; rest = refl }
 
-digits-next : (base : ℕ) (text : List ℕ) (i : ℕ) → i < length text → areDigits base (drop i text) ≡ (ltb (digitOf (getD text i 0)) base && areDigits base (drop (suc i) text))
-unfolding areDigits
-digits-next base text i h = ap (areDigits base) (drop-cons text i 0 h)
+digits-next : (base : ℕ) (text : List ℕ) (i : ℕ) → i < length text → areDigitBytes base (drop i text) ≡ (ltb (digitOf (getD text i 0)) base && areDigitBytes base (drop (suc i) text))
+unfolding areDigitBytes
+digits-next base text i h = ap (areDigitBytes base) (drop-cons text i 0 h)
 
 pub read-turn : (base : ℕ) (text : List ℕ) (i value value′ d : ℕ) → 2 ≤ base → i < length text → Read base text i value → d ≡ digitOf (getD text i 0) → d < base → value′ ≡ limited (value * base + d) → Read base text (i + 1) value′
 read-turn base text i value value′ d h b r p q v =
@@ -95,16 +95,16 @@ read-none base text n = rw n
 pub read-other : (base : ℕ) (text : List ℕ) (i value d : ℕ) → i < length text → Read base text i value → d ≡ digitOf (getD text i 0) → base ≤ d → Malformed ≡ numberOf base text
 unfolding numberOf
 read-other base text i value d b r p q =
-    let no : areDigits base text ≡ false = r .rest ∙ digits-next base text i b ∙ rw (← p, le-ltb d base q) in
+    let no : areDigitBytes base text ≡ false = r .rest ∙ digits-next base text i b ∙ rw (← p, le-ltb d base q) in
     rw (no, lt-ltb 0 (length text) (omega arith))
 
-digits-none : (base : ℕ) → areDigits base [] ≡ true
-unfolding areDigits
+digits-none : (base : ℕ) → areDigitBytes base [] ≡ true
+unfolding areDigitBytes
 digits-none base = refl
 
 pub read-all : (base : ℕ) (text : List ℕ) (i value : ℕ) → 0 < length text → i ≡ length text → Read base text i value → Value value ≡ numberOf base text
 unfolding numberOf
 read-all base text i value some e r =
-    let yes-all : areDigits base text ≡ true = r .rest ∙ ap (areDigits base) (drop-of-length-le text {i = i} (omega arith)) ∙ digits-none base in
+    let yes-all : areDigitBytes base text ≡ true = r .rest ∙ ap (areDigitBytes base) (drop-of-length-le text {i = i} (omega arith)) ∙ digits-none base in
     let all : take i text ≡ text = ap (λ (k : ℕ). take k text) e ∙ take-length text in
     rw (yes-all, lt-ltb 0 (length text) some) (ap Value (r .so-far ∙ ap (λ (t : List ℕ). limited (valueFrom base 0 t)) all))

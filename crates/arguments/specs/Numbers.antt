@@ -18,9 +18,9 @@ digitOf b =
     (cond (leb b 102) (b - 87)
     16)))))
 
-unfoldable pub areDigits : ℕ → List ℕ → Bool
-areDigits base [] = true
-areDigits base (b ∷ bs) = ltb (digitOf b) base && areDigits base bs
+unfoldable pub areDigitBytes : ℕ → List ℕ → Bool
+areDigitBytes base [] = true
+areDigitBytes base (b ∷ bs) = ltb (digitOf b) base && areDigitBytes base bs
 
 -- the value of the digits behind those of the value v
 unfoldable pub valueFrom : ℕ → ℕ → List ℕ → ℕ
@@ -36,4 +36,4 @@ unfoldable pub limited : ℕ → ℕ
 limited v = cond (leb v last) v last
 
 unfoldable pub numberOf : ℕ → List ℕ → Number
-numberOf base text = cond (ltb 0 (length text) && areDigits base text) (Value (limited (valueFrom base 0 text))) Malformed
+numberOf base text = cond (ltb 0 (length text) && areDigitBytes base text) (Value (limited (valueFrom base 0 text))) Malformed

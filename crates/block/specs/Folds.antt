@@ -20,7 +20,7 @@ use Rattle.timecode.specs.declared.Time.{Time}
 use Rattle.stream.specs.Feeding.{isValid, answerOf}
 use Rattle.stream.specs.Refinement.{answers, readerAfter}
 use Rattle.stream.specs.declared.Reader.{Reader}
-use Rattle.stream.specs.FeedLists.{answers-append, reader-append, length-answers, answers-take, answers-at, valid-after, refused-above, quiet-no-refusal, above-refused}
+use Rattle.stream.specs.FeedLists.{feed-answers-append, reader-append, length-feed-answers, answers-take, answers-at, valid-after, refused-above, quiet-no-refusal, above-refused}
 use Rattle.block.specs.Blocks.{Reported, reportAt, Block, withFirst, blockIn, blockOf, Lists, areRecords, fieldLeft, indexOf, dayOf, hundredthsOf, controlOf, listsLeft, recordAt, recordsIn, answersFrom, blockFor, blockAnswer, feedBlockOf}
 use Rattle.block.specs.declared.BlockAnswer.{BlockAnswer}
 use Rattle.block.specs.declared.Stop.{Stop}
@@ -120,12 +120,12 @@ pub record FedSingly (r : Reader) (room : ℕ) (ss : List ℕ) (b : Block) : Typ
   pub stops : StopsBefore (b .stop) r room ss (b .taken) (length (b .reports))
 
 stops-before : (why : Stop) (r : Reader) (room : ℕ) (ss : List ℕ) (taken reports : ℕ) → isValid r ≡ true → StopsFor why room (answers r ss) taken reports → StopsBefore why r room ss taken reports
-stops-before AllTaken r room ss taken reports v h = h ∙ length-answers r ss
+stops-before AllTaken r room ss taken reports v h = h ∙ length-feed-answers r ss
 stops-before UnknownSymbol r room ss taken reports v h =
-    let b : taken < length ss = omega (arith, h .0, length-answers r ss) in
+    let b : taken < length ss = omega (arith, h .0, length-feed-answers r ss) in
     (b, above-refused (readerAfter r (take taken ss)) (getD ss taken 0) (h .1 .0) (valid-after r (take taken ss) v) (sym (answers-at r ss Quiet taken b) ∙ h .1 .1 Quiet))
 stops-before NoRoom r room ss taken reports v h =
-    let b : taken < length ss = omega (arith, h .0, length-answers r ss) in
+    let b : taken < length ss = omega (arith, h .0, length-feed-answers r ss) in
     (b, h .1, (h .2 .0, h .2 .1, sym (answers-at r ss Quiet taken b) ∙ h .2 .2 Quiet))
 
 pub block-is-fed-singly : (r : Reader) (room : ℕ) (ss : List ℕ) → isValid r ≡ true → FedSingly r room ss (blockOf r room ss)
@@ -133,12 +133,12 @@ block-is-fed-singly r room ss v =
     let b = blockOf r room ss in
     let t = block-takes 0 room (answers r ss) in
     record {
-      within = omega (arith, t .within, length-answers r ss);
+      within = omega (arith, t .within, length-feed-answers r ss);
       fits = t .fits;
       reported = t .reported ∙ ap (reportsIn 0) (sym (answers-take r ss (b .taken)));
       accepted = λ k h. by-test (isSymbol (getD ss k 0)) (λ y. leb-true (getD ss k 0) 3 y) (λ n.
           absurd (t .refused-none k h Refusal.UnknownSymbol Quiet
-          (answers-at r ss Quiet k (omega (arith, t .within, length-answers r ss)) ∙ refused-above (readerAfter r (take k ss)) (getD ss k 0) (valid-after r (take k ss) v) (leb-false (getD ss k 0) 3 n))));
+          (answers-at r ss Quiet k (omega (arith, t .within, length-feed-answers r ss)) ∙ refused-above (readerAfter r (take k ss)) (getD ss k 0) (valid-after r (take k ss) v) (leb-false (getD ss k 0) 3 n))));
       stops = stops-before (b .stop) r room ss (b .taken) (length (b .reports)) v (t .stops);
     }
 
@@ -202,8 +202,8 @@ split-block r room ss rs =
     let first = blockOf r room ss in
     let left = room - length (first .reports) in
     let bs = answers (readerAfter r ss) rs in
-    let place : 0 + length (answers r ss) ≡ length ss + 0 = omega (arith, length-answers r ss) in
-    ap (blockIn 0 room) (answers-append r ss rs)
+    let place : 0 + length (answers r ss) ≡ length ss + 0 = omega (arith, length-feed-answers r ss) in
+    ap (blockIn 0 room) (feed-answers-append r ss rs)
     ∙ block-append 0 room (answers r ss) bs
     ∙ ap (followed (first .stop) first) (ap (λ (k : ℕ). blockIn k left bs) place ∙ sym (block-later (length ss) 0 left bs))
 
@@ -229,12 +229,12 @@ split-reader r room ss rs = rw (split-block r room ss rs) (by-stop (first .stop)
     second = blockOf (readerAfter r ss) (room - length (first .reports)) rs
 
     front : readerAfter r (take (first .taken) (ss ++ rs)) ≡ readerAfter r (take (first .taken) ss)
-    front = ap (readerAfter r) (take-append-le (first .taken) ss rs (omega (arith, block-takes 0 room (answers r ss) .within, length-answers r ss)))
+    front = ap (readerAfter r) (take-append-le (first .taken) ss rs (omega (arith, block-takes 0 room (answers r ss) .within, length-feed-answers r ss)))
 
     by-stop : (why : Stop) → first .stop ≡ why
         → readerAfter r (take (followed why first (later (length ss) second) .taken) (ss ++ rs)) ≡ readerFollowed why (readerAfter r (take (first .taken) ss)) (readerAfter (readerAfter r ss) (take (second .taken) rs))
     by-stop AllTaken e =
-        let all : first .taken ≡ length ss = all-taken 0 room (answers r ss) e ∙ length-answers r ss in
+        let all : first .taken ≡ length ss = all-taken 0 room (answers r ss) e ∙ length-feed-answers r ss in
         rw (all, take-append-add ss rs (second .taken)) (reader-append r ss (take (second .taken) rs))
     by-stop UnknownSymbol e = front
     by-stop NoRoom e = front

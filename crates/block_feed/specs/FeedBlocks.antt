@@ -14,7 +14,7 @@ use Rattle.timecode.specs.declared.Refusal.{Refusal}
 use Rattle.stream.specs.Feeding.{isValid, feedOf}
 use Rattle.stream.specs.Refinement.{answers, readerAfter}
 use Rattle.stream.specs.declared.Reader.{Reader}
-use Rattle.stream.specs.FeedLists.{answers-take, length-answers, reader-append, valid-after}
+use Rattle.stream.specs.FeedLists.{answers-take, length-feed-answers, reader-append, valid-after}
 use Rattle.block.specs.Blocks.{Block, blockIn, blockOf, Lists, roomIn, areRecords, fieldLeft, listsLeft, blockFor, blockAnswer, feedBlockOf}
 use Rattle.block.specs.Folds.{block-takes}
 use Rattle.block_part.specs.Rounds.{Even, put-left, roundAt, roundOf, Leaves, standing-room, standing-part, standing-stops, FedTo, fed-stops}
@@ -53,7 +53,7 @@ module _ {r : Reader} {ss : List ℕ} {l₀ : Lists} {i reports : ℕ} {l : List
   block = blockIn i (roomIn l - reports) (take m (drop i (answers r ss)))
 
   within-answers : i + m ≤ length (answers r ss)
-  within-answers = omega (arith, bounds, length-answers r ss)
+  within-answers = omega (arith, bounds, length-feed-answers r ss)
 
   -- its first symbol stands at index i
   from-there : blockIn (0 + i) (roomIn l - reports) (take m (drop i (answers r ss))) ≡ block

@@ -24,7 +24,7 @@ use Rattle.stream.specs.Feeding.{isValid}
 use Rattle.stream.specs.Refinement.{answers, readerAfter}
 use Rattle.stream.specs.declared.Reader.{Reader}
 use Rattle.parts.specs.Behind.{past, length-past, Behind, small-there, Laid, laid-more, laid-behind, Agrees, behind-agrees}
-use Rattle.stream.specs.FeedLists.{answers-at, length-answers, valid-after, refused-above}
+use Rattle.stream.specs.FeedLists.{answers-at, length-feed-answers, valid-after, refused-above}
 use Rattle.block.specs.Blocks.{blockIn, reportAt, Lists, roomIn}
 use Rattle.block.specs.declared.Stop.{Stop}
 use Rattle.block.specs.declared.Stop.the-variants.{AllTaken, UnknownSymbol, NoRoom}
@@ -167,10 +167,10 @@ module _ {r : Reader} {ss held : List ℕ} {count : ℕ} (t : Together r ss held
   stops-there false true e u =
       let b = ltb-true count (length ss) u in
       let all : taken ≡ count = omega (arith, together-hears .ended e) in
-      standing-refused (together-hears .standing) (omega (arith, length-answers r ss)) Quiet Refusal.UnknownSymbol (rw all (unknown-there b))
+      standing-refused (together-hears .standing) (omega (arith, length-feed-answers r ss)) Quiet Refusal.UnknownSymbol (rw all (unknown-there b))
   stops-there false false e u =
       let all : taken ≡ count = omega (arith, together-hears .ended e) in
-      standing-end (together-hears .standing) (omega (arith, length-answers r ss, t .behind .within, ltb-false count (length ss) u))
+      standing-end (together-hears .standing) (omega (arith, length-feed-answers r ss, t .behind .within, ltb-false count (length ss) u))
 
   -- what the part gives
   pub together-gives : {next : Reader} {why : Stop} {result : Round}

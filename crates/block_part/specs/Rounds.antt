@@ -15,7 +15,7 @@ use Rattle.stream.specs.Feeding.{nextOf, answerOf, feedOf}
 use Rattle.stream.specs.Refinement.{answers, readerAfter}
 use Rattle.stream.specs.declared.Reader.{Reader}
 use Rattle.parts.specs.Behind.{reader-start}
-use Rattle.stream.specs.FeedLists.{answers-at, length-answers, reader-append}
+use Rattle.stream.specs.FeedLists.{answers-at, length-feed-answers, reader-append}
 use Rattle.block.specs.Blocks.{Reported, reportAt, Block, stopped, withFirst, blockIn, Lists, lists, roomIn, fieldLeft, indexOf, dayOf, hundredthsOf, controlOf, listsLeft}
 use Rattle.block.specs.Folds.{followed, block-append, block-takes, all-taken}
 use Rattle.block_part.specs.declared.Round.{Round}
@@ -358,7 +358,7 @@ fed-start r ss = record { standing = standing-start; reader = reader-start r ss 
 
 module _ {r : Reader} {ss : List ℕ} {from put : ℕ} {l₀ : Lists} {i reports : ℕ} {l : Lists} {current : Reader} (g : FedTo r ss from put l₀ i reports l current) where
   pub fed-within : i ≤ length ss
-  fed-within = omega (arith, g .standing .reached .0, length-answers r ss)
+  fed-within = omega (arith, g .standing .reached .0, length-feed-answers r ss)
 
   -- the part stops there
   pub fed-stops : {why : Stop} {result : Round} → partOf r ss from put (roomIn l₀) ≡ stopsAt from (roomIn l₀ - put) (answers r ss) i why → result ≡ roundAt current i reports why → Leaves r ss from put l₀ result l
@@ -367,7 +367,7 @@ module _ {r : Reader} {ss : List ℕ} {from put : ℕ} {l₀ : Lists} {i reports
 
   -- no symbol is left
   pub fed-end : {result : Round} → length ss ≤ i → result ≡ roundAt current i reports AllTaken → Leaves r ss from put l₀ result l
-  fed-end all e = fed-stops (standing-end (g .standing) (omega (arith, all, fed-within, length-answers r ss))) e
+  fed-end all e = fed-stops (standing-end (g .standing) (omega (arith, all, fed-within, length-feed-answers r ss))) e
 
   -- the next symbol, by its answer
   module _ (h : i < length ss) {a : Answer} (answered : a ≡ answerOf current (getD ss i 0)) where
@@ -375,7 +375,7 @@ module _ {r : Reader} {ss : List ℕ} {from put : ℕ} {l₀ : Lists} {i reports
     answer-here b e = answers-at r ss Quiet i h ∙ ap (λ (q : Reader). answerOf q (getD ss i 0)) (sym (g .reader)) ∙ sym answered ∙ e
 
     among-answers : i < length (answers r ss)
-    among-answers = rw (length-answers r ss) h
+    among-answers = rw (length-feed-answers r ss) h
 
     reader-here : (next : Reader) → next ≡ nextOf current (getD ss i 0) → next ≡ readerAfter r (take (i + 1) ss)
     unfolding readerAfter feedOf

@@ -13,7 +13,7 @@ use Rattle.timecode.specs.Answers.{check}
 use Rattle.timecode.specs.Formats.{carriesLeap}
 use Rattle.timecode.specs.Frames.{areDigits, lastSecond, isTime, timeIn, secondsAgree}
 use Rattle.timecode.specs.Laws.Tests.{by-test, and-left, and-right}
-use Rattle.timecode.specs.Layout.{seconds, minutes, hours, days, tenths, hundredths, hasSeconds, straightSeconds, control, timeFields, flatten, digitIn, numberIn, decode}
+use Rattle.timecode.specs.Layout.{seconds, minutes, hours, days, tenths, hundredthsDigit, hasSeconds, straightSeconds, control, timeFields, flatten, digitIn, numberIn, decode}
 use Rattle.timecode.specs.declared.Format.{Format}
 use Rattle.timecode.specs.declared.Reading.{Reading}
 use Rattle.timecode.specs.declared.Reading.the-variants.{Accepted}
@@ -24,8 +24,8 @@ use Rattle.layout.specs.Runs.{codeRange, codeControl, codeFields, codeRuns, cod
 use Rattle.digits.specs.Splitting.{straight-width}
 
 -- the number of the two digits from j on
-abbrev pub two : List ℕ → ℕ → ℕ
-two ds j = getD ds j 0 + 10 * getD ds (j + 1) 0
+abbrev pub pairAt : List ℕ → ℕ → ℕ
+pairAt ds j = getD ds j 0 + 10 * getD ds (j + 1) 0
 
 abbrev pub dayFrom : List ℕ → ℕ
 dayFrom ds = getD ds 6 0 + 10 * (getD ds 7 0 + 10 * getD ds 8 0)
@@ -36,10 +36,10 @@ digitsFrom zero j ds = true
 digitsFrom (suc n) j ds = leb (getD ds j 0) 9 && digitsFrom n (suc j) ds
 
 unfoldable pub isTimeOf : Format → List ℕ → Bool
-isTimeOf f ds = digitsFrom 11 0 ds && (leb (two ds 4) 23 && (leb (two ds 2) 59 && (leb (two ds 0) (lastSecond f (two ds 4) (two ds 2)) && (leb 1 (dayFrom ds) && leb (dayFrom ds) 366))))
+isTimeOf f ds = digitsFrom 11 0 ds && (leb (pairAt ds 4) 23 && (leb (pairAt ds 2) 59 && (leb (pairAt ds 0) (lastSecond f (pairAt ds 4) (pairAt ds 2)) && (leb 1 (dayFrom ds) && leb (dayFrom ds) 366))))
 
 unfoldable pub timeFrom : List ℕ → Time
-timeFrom ds = record { day = dayFrom ds; hundredths = ((two ds 4 * 60 + two ds 2) * 60 + two ds 0) * 100 + getD ds 9 0 * 10 + getD ds 10 0 }
+timeFrom ds = record { day = dayFrom ds; hundredths = ((pairAt ds 4 * 60 + pairAt ds 2) * 60 + pairAt ds 0) * 100 + getD ds 9 0 * 10 + getD ds 10 0 }
 
 unfoldable pub agreeOf : Format → List ℕ → Bool
 agreeOf f ds = cond (hasSeconds f) (eqb (getD ds 11 0 + 512 * getD ds 12 0) (timeFrom ds .hundredths / 100)) true
@@ -57,36 +57,36 @@ module _ (f : Format) (frame : List ℕ) where
   abbrev ds : List ℕ
   ds = decode (codeRuns f) frame
 
-  second-is : two ds 0 ≡ numberIn frame (seconds f)
-  unfolding codeRuns codeFields timeFields seconds minutes hours days tenths hundredths straightSeconds codeControl
+  second-is : pairAt ds 0 ≡ numberIn frame (seconds f)
+  unfolding codeRuns codeFields timeFields seconds minutes hours days tenths hundredthsDigit straightSeconds codeControl
   second-is = omega arith
 
-  minute-is : two ds 2 ≡ numberIn frame (minutes f)
-  unfolding codeRuns codeFields timeFields seconds minutes hours days tenths hundredths straightSeconds codeControl
+  minute-is : pairAt ds 2 ≡ numberIn frame (minutes f)
+  unfolding codeRuns codeFields timeFields seconds minutes hours days tenths hundredthsDigit straightSeconds codeControl
   minute-is = omega arith
 
-  hour-is : two ds 4 ≡ numberIn frame (hours f)
-  unfolding codeRuns codeFields timeFields seconds minutes hours days tenths hundredths straightSeconds codeControl
+  hour-is : pairAt ds 4 ≡ numberIn frame (hours f)
+  unfolding codeRuns codeFields timeFields seconds minutes hours days tenths hundredthsDigit straightSeconds codeControl
   hour-is = omega arith
 
   day-is : dayFrom ds ≡ numberIn frame (days f)
-  unfolding codeRuns codeFields timeFields seconds minutes hours days tenths hundredths straightSeconds codeControl
+  unfolding codeRuns codeFields timeFields seconds minutes hours days tenths hundredthsDigit straightSeconds codeControl
   day-is = omega arith
 
   tenth-is : getD ds 9 0 ≡ numberIn frame (tenths f)
-  unfolding codeRuns codeFields timeFields seconds minutes hours days tenths hundredths straightSeconds codeControl
+  unfolding codeRuns codeFields timeFields seconds minutes hours days tenths hundredthsDigit straightSeconds codeControl
   tenth-is = omega arith
 
-  hundredth-is : getD ds 10 0 ≡ numberIn frame (hundredths f)
-  unfolding codeRuns codeFields timeFields seconds minutes hours days tenths hundredths straightSeconds codeControl
+  hundredth-is : getD ds 10 0 ≡ numberIn frame (hundredthsDigit f)
+  unfolding codeRuns codeFields timeFields seconds minutes hours days tenths hundredthsDigit straightSeconds codeControl
   hundredth-is = omega arith
 
   digits-are : digitsFrom 11 0 ds ≡ areDigits frame (flatten (timeFields f))
-  unfolding digitsFrom codeRuns codeFields timeFields seconds minutes hours days tenths hundredths straightSeconds codeControl
+  unfolding digitsFrom codeRuns codeFields timeFields seconds minutes hours days tenths hundredthsDigit straightSeconds codeControl
   digits-are = refl
 
   control-code : controlFrom f ds ≡ numberIn frame (codeControl f)
-  unfolding controlFrom widthsOf codeRuns codeFields timeFields seconds minutes hours days tenths hundredths straightSeconds codeControl codeRange
+  unfolding controlFrom widthsOf codeRuns codeFields timeFields seconds minutes hours days tenths hundredthsDigit straightSeconds codeControl codeRange
   control-code =
       ap
       (λ (n : ℕ).
@@ -101,7 +101,7 @@ module _ (f : Format) (frame : List ℕ) where
   control-is = control-code ∙ code-number f frame
 
   straight-is : hasSeconds f ≡ true → getD ds 11 0 + 512 * getD ds 12 0 ≡ numberIn frame (straightSeconds f)
-  unfolding codeRuns codeFields timeFields seconds minutes hours days tenths hundredths straightSeconds codeControl
+  unfolding codeRuns codeFields timeFields seconds minutes hours days tenths hundredthsDigit straightSeconds codeControl
   straight-is y = rw y (omega arith)
 
   time-is : timeFrom ds ≡ timeIn f frame
@@ -138,9 +138,9 @@ digits-end ds j h = let m : 11 - j ≡ 0 = omega arith in rw m
 -- ---- what the test of a time leaves
 
 pub record Bounds (ds : List ℕ) : Type 0 where
-  pub hour : two ds 4 ≤ 23
-  pub minute : two ds 2 ≤ 59
-  pub second : two ds 0 ≤ 60
+  pub hour : pairAt ds 4 ≤ 23
+  pub minute : pairAt ds 2 ≤ 59
+  pub second : pairAt ds 0 ≤ 60
   pub day : dayFrom ds ≤ 366
   pub tenth : getD ds 9 0 ≤ 9
   pub hundredth : getD ds 10 0 ≤ 9
@@ -163,10 +163,10 @@ last-second-60 f h m = by-test (carriesLeap f && (eqb h 23 && eqb m 59)) (λ y. 
 pub time-bounds : (f : Format) (ds : List ℕ) → isTimeOf f ds ≡ true → Bounds ds
 unfolding isTimeOf
 time-bounds f ds h =
-    let H = leb (two ds 4) 23 in
-    let M = leb (two ds 2) 59 in
-    let last = lastSecond f (two ds 4) (two ds 2) in
-    let S = leb (two ds 0) last in
+    let H = leb (pairAt ds 4) 23 in
+    let M = leb (pairAt ds 2) 59 in
+    let last = lastSecond f (pairAt ds 4) (pairAt ds 2) in
+    let S = leb (pairAt ds 0) last in
     let F = leb 1 (dayFrom ds) in
     let L = leb (dayFrom ds) 366 in
     let a = and-right (digitsFrom 11 0 ds) (H && (M && (S && (F && L)))) h in
@@ -174,9 +174,9 @@ time-bounds f ds h =
     let c = and-right M (S && (F && L)) b in
     let digits = digits-small 11 0 ds (and-left (digitsFrom 11 0 ds) (H && (M && (S && (F && L)))) h) in
     record {
-      hour = leb-true (two ds 4) 23 (and-left H (M && (S && (F && L))) a);
-      minute = leb-true (two ds 2) 59 (and-left M (S && (F && L)) b);
-      second = omega (arith, leb-true (two ds 0) last (and-left S (F && L) c), last-second-60 f (two ds 4) (two ds 2));
+      hour = leb-true (pairAt ds 4) 23 (and-left H (M && (S && (F && L))) a);
+      minute = leb-true (pairAt ds 2) 59 (and-left M (S && (F && L)) b);
+      second = omega (arith, leb-true (pairAt ds 0) last (and-left S (F && L) c), last-second-60 f (pairAt ds 4) (pairAt ds 2));
       day = leb-true (dayFrom ds) 366 (and-right F L (and-right S (F && L) c));
       tenth = digits 9 (omega arith);
       hundredth = digits 10 (omega arith);

@@ -14,7 +14,7 @@ use Rattle.timecode.specs.Frames.{totalWidth, Valid}
 use Rattle.timecode.specs.Laws.Fields.{Binary}
 use Rattle.timecode.specs.Laws.Table.{everyFormat, of-every}
 use Rattle.timecode.specs.Laws.Tests.{by-test, and-left, and-right}
-use Rattle.timecode.specs.Layout.{Run, Field, seconds, minutes, hours, days, tenths, hundredths, hasSeconds, straightSeconds, control, timeFields, second, minute, hour, timeNumbers, numbers, fieldDigits, allDigits}
+use Rattle.timecode.specs.Layout.{Run, Field, seconds, minutes, hours, days, tenths, hundredthsDigit, hasSeconds, straightSeconds, control, timeFields, second, minute, hour, timeNumbers, numbers, fieldDigits, allDigits}
 use Rattle.timecode.specs.declared.Format.{Format}
 use Rattle.timecode.specs.declared.Time.{Time}
 use Rattle.layout.specs.Tables.{widthsOf}
@@ -35,7 +35,7 @@ time-part : (f : Format) (t : Time) → OnFormat f t
     → second (t .hundredths) % 10 ∷ second (t .hundredths) / 10 ∷ minute (t .hundredths) % 10 ∷ minute (t .hundredths) / 10 ∷ hour (t .hundredths) % 10 ∷ hour (t .hundredths) / 10
     ∷ t .day % 10 ∷ t .day / 10 % 10 ∷ t .day / 10 / 10 ∷ t .hundredths / 10 % 10 ∷ t .hundredths % 10 ∷ []
     ≡ allDigits (timeFields f) (timeNumbers t)
-unfolding timeFields timeNumbers seconds minutes hours days tenths hundredths
+unfolding timeFields timeNumbers seconds minutes hours days tenths hundredthsDigit
 time-part f t o =
     let c = t .hundredths in
     let seconds-tens : second c / 10 ≡ second c / 10 % 10 = omega (arith, o .below) in
@@ -50,7 +50,7 @@ time-part f t o =
 -- ---- straight binary seconds, where they are carried
 
 pub straight-width : (f : Format) → getD (widthsOf f) 11 0 ≡ cond (hasSeconds f) 9 0
-unfolding widthsOf codeRuns codeFields timeFields seconds minutes hours days tenths hundredths straightSeconds codeControl
+unfolding widthsOf codeRuns codeFields timeFields seconds minutes hours days tenths hundredthsDigit straightSeconds codeControl
 straight-width f = refl
 
 straight-part : (f : Format) (x straight : ℕ) → x < 131072 → straight ≡ cond (eqb (getD (widthsOf f) 11 0) 0) 0 x → straight % 512 ∷ straight / 512 ∷ [] ≡ fieldDigits (straightSeconds f) x
@@ -132,7 +132,7 @@ all-in-row = refl
 
 control-part : (f : Format) → known f ≡ true → (w word : ℕ) → w < 2 ^ totalWidth (control f) → word ≡ w * 2 ^ (9 - getD (widthsOf f) 13 0)
     → word % 512 ∷ word / 512 % 512 ∷ word / 512 / 512 % 512 ∷ word / 512 / 512 / 512 % 512 ∷ word / 512 / 512 / 512 / 512 % 512 ∷ [] ≡ fieldDigits (codeControl f) w
-unfolding widthsOf codeRuns codeFields timeFields seconds minutes hours days tenths hundredths straightSeconds codeControl
+unfolding widthsOf codeRuns codeFields timeFields seconds minutes hours days tenths hundredthsDigit straightSeconds codeControl
 control-part f k w word l e = moved-nines (codeRange f 50) (drop 1 (codeControl f)) (code-binary f) (of-every (λ f. inRow (codeControl f)) all-in-row f k) w word (rw (code-width f) l) e
 
 -- ---- all digits
@@ -147,12 +147,12 @@ splitDigits t straight word =
 
 pub split-digits : (f : Format) (t : Time) (w straight word : ℕ) → Valid f t w → straight ≡ cond (eqb (getD (widthsOf f) 11 0) 0) 0 (t .hundredths / 100) → word ≡ w * 2 ^ (9 - getD (widthsOf f) 13 0)
     → splitDigits t straight word ≡ allDigits (codeFields f) (numbers t w)
-unfolding splitDigits codeFields timeFields numbers timeNumbers seconds minutes hours days tenths hundredths codeControl
+unfolding splitDigits codeFields timeFields numbers timeNumbers seconds minutes hours days tenths hundredthsDigit codeControl
 split-digits f t w straight word v p q =
     λ i. time-part f t (v .time) i ++ (straight-part f (t .hundredths / 100) straight (omega (arith, v .time .below)) p i ++ control-part f (v .format) w word (v .room) q i)
 
 code-total : (f : Format) → totalWidth (codeControl f) ≡ getD (widthsOf f) 13 0 + getD (widthsOf f) 14 0 + getD (widthsOf f) 15 0 + getD (widthsOf f) 16 0 + getD (widthsOf f) 17 0
-unfolding widthsOf codeRuns codeFields timeFields seconds minutes hours days tenths hundredths straightSeconds codeControl
+unfolding widthsOf codeRuns codeFields timeFields seconds minutes hours days tenths hundredthsDigit straightSeconds codeControl
 code-total f = omega arith
 
 pub total-control : (f : Format) → totalWidth (control f) ≡ getD (widthsOf f) 13 0 + getD (widthsOf f) 14 0 + getD (widthsOf f) 15 0 + getD (widthsOf f) 16 0 + getD (widthsOf f) 17 0

@@ -9,7 +9,7 @@ ghost use Rattle.timecode.specs.Frames.{controlFits, lastSecond, Valid};
 ghost use Rattle.timecode.specs.Layout.{numbers, allDigits};
 ghost use Rattle.layout.specs.Tables.{widthsOf};
 ghost use Rattle.layout.specs.Runs.{codeFields};
-ghost use Rattle.digits.specs.Meaning.{two, dayFrom, digitsFrom, isTimeOf, timeFrom, agreeOf, controlFrom, meaningOf, Bounds};
+ghost use Rattle.digits.specs.Meaning.{pairAt, dayFrom, digitsFrom, isTimeOf, timeFrom, agreeOf, controlFrom, meaningOf, Bounds};
 ghost use Rattle.digits.specs.Splitting.{Widths, Digits};
 use layout::CONTROL_1;
 use layout::CONTROL_2;
@@ -107,7 +107,7 @@ pub fn digits_of(format: Format, widths: &[u8], time: Time, control: u64) -> [u6
 // The number of two decimal digits.
 fn pair(digits: &[u64], at: usize) -> u64
     requires { ⌜ Digits (now digits) × (at < 17) ⌝ }
-    ensures { λ r. ⌜ (r ≡ two (now (digits .entry)) at) × (r < 6000) ⌝ }
+    ensures { λ r. ⌜ (r ≡ pairAt (now (digits .entry)) at) × (r < 6000) ⌝ }
 {
     digits[at] + 10 * digits[at + 1]
 }

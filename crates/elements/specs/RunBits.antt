@@ -16,7 +16,7 @@ use Rattle.timecode.specs.Laws.Bits.{value-of-bits}
 use Rattle.timecode.specs.Laws.Runs.{in-run, proper, covered-once, later-proper, covered-inside, symbol-free, place-in, length-tabulate, getD-tabulate, tabulate-same}
 use Rattle.timecode.specs.Laws.Table.{everyFormat, of-every}
 use Rattle.timecode.specs.Laws.Tests.{by-test, clash, and-left, and-right}
-use Rattle.timecode.specs.Layout.{Run, seconds, minutes, hours, days, tenths, hundredths, hasSeconds, straightSeconds, timeFields, inRun, bitOf, placeOf, isMark, filler, symbolAt, tabulate, encode, value, Small}
+use Rattle.timecode.specs.Layout.{Run, seconds, minutes, hours, days, tenths, hundredthsDigit, hasSeconds, straightSeconds, timeFields, inRun, bitOf, placeOf, isMark, filler, symbolAt, tabulate, encode, value, Small}
 use Rattle.timecode.specs.declared.Format.{Format}
 use Rattle.layout.specs.Tables.{startsOf}
 use Rattle.layout.specs.Runs.{codeRange, codeControl, codeFields, codeRuns, code-proper}
@@ -191,7 +191,7 @@ symbol-marks f k xs i =
     (λ m. rw m (symbol-fillers (filler f) zeros (codeRuns f) xs i (rw m)))
 
 parts-apart : everyFormat (λ f. allApart 0 60 (codeRuns f) && allApart 60 100 (codeRuns f)) ≡ true
-unfolding everyFormat table codeRuns codeFields timeFields seconds minutes hours days tenths hundredths straightSeconds hasSeconds carriesSeconds codeControl codeRange carriesControl rowOf lookUp
+unfolding everyFormat table codeRuns codeFields timeFields seconds minutes hours days tenths hundredthsDigit straightSeconds hasSeconds carriesSeconds codeControl codeRange carriesControl rowOf lookUp
 parts-apart = refl
 
 module _ (f : Format) (k : known f ≡ true) (xs : List ℕ) where

@@ -12,7 +12,7 @@ use Rattle.timecode.specs.Formats.{table, lookUp, rowOf, known, size, carriesCo
 use Rattle.timecode.specs.Laws.Runs.{place-in, covered-inside, covered-at}
 use Rattle.timecode.specs.Laws.Table.{everyFormat, of-every}
 use Rattle.timecode.specs.Laws.Tests.{and-left, and-right}
-use Rattle.timecode.specs.Layout.{Run, seconds, minutes, hours, days, tenths, hundredths, hasSeconds, straightSeconds, timeFields, filler, tabulate, value, Small, decode}
+use Rattle.timecode.specs.Layout.{Run, seconds, minutes, hours, days, tenths, hundredthsDigit, hasSeconds, straightSeconds, timeFields, filler, tabulate, value, Small, decode}
 use Rattle.timecode.specs.declared.Format.{Format}
 use Rattle.layout.specs.Tables.{startsOf, widthsOf}
 use Rattle.layout.specs.Runs.{codeRange, codeControl, codeFields, codeRuns, code-proper}
@@ -24,15 +24,15 @@ abbrev runAt : Format → ℕ → Run
 runAt f j = getD (codeRuns f) j noRun
 
 pub length-runs : (f : Format) → length (codeRuns f) ≡ 18
-unfolding codeRuns codeFields timeFields seconds minutes hours days tenths hundredths straightSeconds codeControl
+unfolding codeRuns codeFields timeFields seconds minutes hours days tenths hundredthsDigit straightSeconds codeControl
 length-runs f = refl
 
 pub length-widths : (f : Format) → length (widthsOf f) ≡ 18
-unfolding widthsOf codeRuns codeFields timeFields seconds minutes hours days tenths hundredths straightSeconds codeControl
+unfolding widthsOf codeRuns codeFields timeFields seconds minutes hours days tenths hundredthsDigit straightSeconds codeControl
 length-widths f = refl
 
 pub length-starts : (f : Format) → length (startsOf f) ≡ 18
-unfolding startsOf codeRuns codeFields timeFields seconds minutes hours days tenths hundredths straightSeconds codeControl
+unfolding startsOf codeRuns codeFields timeFields seconds minutes hours days tenths hundredthsDigit straightSeconds codeControl
 length-starts f = refl
 
 start-at : (f : Format) (j : ℕ) → getD (startsOf f) j 0 ≡ runAt f j .start
@@ -55,7 +55,7 @@ small-at (w ∷ ws) h zero = leb-true w 9 (and-left (leb w 9) (allSmall ws) h)
 small-at (w ∷ ws) h (suc j) = small-at ws (and-right (leb w 9) (allSmall ws) h) j
 
 widths-small : everyFormat (λ f. allSmall (widthsOf f)) ≡ true
-unfolding everyFormat table widthsOf codeRuns codeFields timeFields seconds minutes hours days tenths hundredths straightSeconds hasSeconds carriesSeconds codeControl codeRange carriesControl rowOf lookUp
+unfolding everyFormat table widthsOf codeRuns codeFields timeFields seconds minutes hours days tenths hundredthsDigit straightSeconds hasSeconds carriesSeconds codeControl codeRange carriesControl rowOf lookUp
 widths-small = refl
 
 pub width-small : (f : Format) → known f ≡ true → (j : ℕ) → getD (widthsOf f) j 0 ≤ 9
@@ -101,7 +101,7 @@ near-at last to (s ∷ ss) h zero l = leb-true s last (rw (lt-ltb s to l) at (an
 near-at last to (s ∷ ss) h (suc j) l = near-at last to ss (and-right (cond (ltb s to) (leb s last) true) (allNear last to ss) h) j l
 
 pub head-starts : (f : Format) (j : ℕ) → getD (startsOf f) j 0 < 60 → getD (startsOf f) j 0 ≤ 50
-unfolding startsOf codeRuns codeFields timeFields seconds minutes hours days tenths hundredths straightSeconds codeControl codeRange
+unfolding startsOf codeRuns codeFields timeFields seconds minutes hours days tenths hundredthsDigit straightSeconds codeControl codeRange
 head-starts f = near-at 50 60 (startsOf f) refl
 
 -- ---- reading, from the first run to the last
@@ -111,7 +111,7 @@ abbrev pub runDigit : Format → List ℕ → ℕ → ℕ
 runDigit f frame j = value (getD (widthsOf f) j 0) (λ b. getD frame (getD (startsOf f) j 0 + b) 0)
 
 pub decode-tabulate : (f : Format) (frame : List ℕ) → tabulate 18 0 (runDigit f frame) ≡ decode (codeRuns f) frame
-unfolding widthsOf startsOf codeRuns codeFields timeFields seconds minutes hours days tenths hundredths straightSeconds codeControl
+unfolding widthsOf startsOf codeRuns codeFields timeFields seconds minutes hours days tenths hundredthsDigit straightSeconds codeControl
 decode-tabulate f frame = refl
 
 -- ---- the bits of one digit, from the highest to the lowest

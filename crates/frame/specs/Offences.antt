@@ -15,7 +15,7 @@ use Rattle.timecode.specs.Formats.{size}
 use Rattle.timecode.specs.Frames.{areSymbols, covered, marksAgree, elementFits, checkElements}
 use Rattle.timecode.specs.Laws.Runs.{in-run, Clean, fits-agree, getD-encode, length-encode}
 use Rattle.timecode.specs.Laws.Tests.{by-test}
-use Rattle.timecode.specs.Layout.{Run, seconds, minutes, hours, days, tenths, hundredths, straightSeconds, timeFields, inRun, bitOf, isMark, filler, runs, symbolAt, tabulate, encode, Small}
+use Rattle.timecode.specs.Layout.{Run, seconds, minutes, hours, days, tenths, hundredthsDigit, straightSeconds, timeFields, inRun, bitOf, isMark, filler, runs, symbolAt, tabulate, encode, Small}
 use Rattle.timecode.specs.declared.Format.{Format}
 use Rattle.timecode.specs.declared.Reading.{Reading}
 use Rattle.timecode.specs.declared.Refusal.{Refusal}
@@ -103,7 +103,7 @@ greatest-small [] = tt
 greatest-small (r ∷ rs) = (ones-lt (r .width), greatest-small rs)
 
 pub greatest-tabulate : (f : Format) → tabulate 18 0 (λ j. 2 ^ getD (widthsOf f) j 0 - 1) ≡ greatestDigits (codeRuns f)
-unfolding widthsOf codeRuns codeFields timeFields seconds minutes hours days tenths hundredths straightSeconds codeControl
+unfolding widthsOf codeRuns codeFields timeFields seconds minutes hours days tenths hundredthsDigit straightSeconds codeControl
 greatest-tabulate f = refl
 
 pub length-shape : (f : Format) → length (shape f) ≡ 100

@@ -13,7 +13,7 @@ use lib.Seq.{getD-at}
 use Rattle.timecode.specs.Frames.{usual, following, stepOf, written, Sent, noFrame, Generator, Valid}
 use Rattle.timecode.specs.Laws.Checks.{done}
 use Rattle.timecode.specs.Laws.Back.{step-again}
-use Rattle.timecode.specs.Laws.Stepping.{went, answers, day-end-range, Lands, lands}
+use Rattle.timecode.specs.Laws.Stepping.{went, step-answers, day-end-range, Lands, lands}
 use Rattle.timecode.specs.Laws.Tests.{by-test, and-right}
 use Rattle.timecode.specs.Laws.Writing.{length-written, taken, takes}
 use Rattle.timecode.specs.declared.Format.{Format}
@@ -71,7 +71,7 @@ next-step f t u year kind h =
     (λ y. rw y again)
     (λ n.
     let midnight = to-midnight f t year kind u n (lands f t year kind u (went f t year kind u h)) in
-    rw n (answers f u year usual (w .format) (w .from) (w .length-is) (w .inside) refl (omega (arith, midnight, day-end-range f usual)) (To (following f u year usual))))
+    rw n (step-answers f u year usual (w .format) (w .from) (w .length-is) (w .inside) refl (omega (arith, midnight, day-end-range f usual)) (To (following f u year usual))))
 
 -- Step takes the time, the year length and the kind
 abbrev Steps : Format → Start → ℕ → Type 0
@@ -129,10 +129,10 @@ kind-at f s year (suc k) =
 
 -- ---- the frames' text
 
-text-append : (f : Format) (xs ys : List Sent) → framesText f (xs ++ ys) ≡ framesText f xs ++ framesText f ys
+frames-text-append : (f : Format) (xs ys : List Sent) → framesText f (xs ++ ys) ≡ framesText f xs ++ framesText f ys
 unfolding framesText
-text-append f [] ys = refl
-text-append f (x ∷ xs) ys = ap (λ (s : List ℕ). frameLine f (x .time) (x .control) ++ s) (text-append f xs ys) ∙ sym (append-assoc (frameLine f (x .time) (x .control)) (framesText f xs) (framesText f ys))
+frames-text-append f [] ys = refl
+frames-text-append f (x ∷ xs) ys = ap (λ (s : List ℕ). frameLine f (x .time) (x .control) ++ s) (frames-text-append f xs ys) ∙ sym (append-assoc (frameLine f (x .time) (x .control)) (framesText f xs) (framesText f ys))
 
 text-one : (f : Format) (s : Sent) → framesText f (s ∷ []) ≡ frameLine f (s .time) (s .control)
 unfolding framesText
@@ -176,7 +176,7 @@ module _ (f : Format) (s : Start) (w year : ℕ) (b : begunOf f s w year ≡ Don
   pub lines-are : (k : ℕ) → linesOf f s w year k ≡ framesText f (framesOf f s w year k)
   unfolding linesOf framesOf framesText
   lines-are zero = refl
-  lines-are (suc k) = rw (lines-are k, line-at k, text-append f (framesOf f s w year k) (frame k ∷ []), text-one f (frame k))
+  lines-are (suc k) = rw (lines-are k, line-at k, frames-text-append f (framesOf f s w year k) (frame k ∷ []), text-one f (frame k))
 
   length-frames : (k : ℕ) → length (framesOf f s w year k) ≡ k
   unfolding framesOf

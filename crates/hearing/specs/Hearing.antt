@@ -14,7 +14,7 @@ use Rattle.lines.specs.Text.{reportLine}
 use Rattle.stream.specs.Feeding.{isValid, nextOf, answerOf, feedOf}
 use Rattle.stream.specs.Refinement.{answers, readerAfter}
 use Rattle.stream.specs.declared.Reader.{Reader}
-use Rattle.stream.specs.FeedLists.{length-answers}
+use Rattle.stream.specs.FeedLists.{length-feed-answers}
 use Rattle.block.specs.Blocks.{Reported, reportAt, Block, stopped, withFirst, blockIn, blockOf, Lists, roomIn, areRecords, fieldLeft, indexOf, dayOf, hundredthsOf, controlOf, listsLeft, blockFor, blockAnswer, feedBlockOf}
 use Rattle.block.specs.Folds.{block-takes, left-first}
 use Rattle.block.specs.declared.BlockAnswer.{BlockAnswer}
@@ -181,7 +181,7 @@ module _ (r : Reader) (ss : List ℕ) (l : Lists) (same : areRecords l ≡ true)
   for-invalid n = rw n
 
   taken-within : b .taken ≤ length ss
-  taken-within = by-test (isValid r) (λ v. rw (for-valid v) (omega (arith, block-takes 0 (roomIn l) (answers r ss) .within, length-answers r ss))) (λ n. rw (for-invalid n) (omega arith))
+  taken-within = by-test (isValid r) (λ v. rw (for-valid v) (omega (arith, block-takes 0 (roomIn l) (answers r ss) .within, length-feed-answers r ss))) (λ n. rw (for-invalid n) (omega arith))
 
   reports-fit : length (b .reports) ≤ roomIn l
   reports-fit = by-test (isValid r) (λ v. rw (for-valid v) (block-takes 0 (roomIn l) (answers r ss) .fits)) (λ n. rw (for-invalid n) (omega arith))

@@ -9,7 +9,7 @@ use lib.Dec.{leb, eqb}
 use lib.ListN.{set}
 use Rattle.timecode.specs.Formats.{member, A, B, D, E, G, H, table, noRow, lookUp, rowOf, carriesControl, carriesSeconds}
 use Rattle.timecode.specs.Laws.Tests.{by-test}
-use Rattle.timecode.specs.Layout.{tabulate, seconds, minutes, hours, days, tenths, hundredths, hasSeconds, straightSeconds, timeFields}
+use Rattle.timecode.specs.Layout.{tabulate, seconds, minutes, hours, days, tenths, hundredthsDigit, hasSeconds, straightSeconds, timeFields}
 use Rattle.layout.specs.Runs.{codeRange, codeControl, codeFields, codeRuns}
 use Rattle.layout.specs.Tables.{widthsOf, with-letter}
 
@@ -53,7 +53,7 @@ other-row l o =
     )
 
 pub other-widths : (l : ℕ) → Other l → widthsOf (with-letter l 0) ≡ 0 ∷ 0 ∷ 0 ∷ 0 ∷ 4 ∷ 2 ∷ 4 ∷ 4 ∷ 2 ∷ 0 ∷ 0 ∷ 0 ∷ 0 ∷ 0 ∷ 0 ∷ 0 ∷ 0 ∷ 0 ∷ []
-unfolding widthsOf codeRuns codeFields timeFields seconds minutes hours days tenths hundredths straightSeconds hasSeconds carriesSeconds codeControl codeRange carriesControl rowOf
+unfolding widthsOf codeRuns codeFields timeFields seconds minutes hours days tenths hundredthsDigit straightSeconds hasSeconds carriesSeconds codeControl codeRange carriesControl rowOf
 other-widths l o =
     rw (
       other-row l o,
@@ -74,13 +74,13 @@ clearControl ws = set (set (set (set (set ws 13 0) 14 0) 15 0) 16 0) 17 0
 
 module _ (l : ℕ) where
   pub widths-1 : clearSeconds (widthsOf (with-letter l 0)) ≡ widthsOf (with-letter l 1)
-  unfolding widthsOf codeRuns codeFields timeFields seconds minutes hours days tenths hundredths straightSeconds hasSeconds carriesSeconds codeControl codeRange carriesControl rowOf
+  unfolding widthsOf codeRuns codeFields timeFields seconds minutes hours days tenths hundredthsDigit straightSeconds hasSeconds carriesSeconds codeControl codeRange carriesControl rowOf
   widths-1 = refl
 
   pub widths-3 : clearControl (widthsOf (with-letter l 0)) ≡ widthsOf (with-letter l 3)
-  unfolding widthsOf codeRuns codeFields timeFields seconds minutes hours days tenths hundredths straightSeconds hasSeconds carriesSeconds codeControl codeRange carriesControl rowOf
+  unfolding widthsOf codeRuns codeFields timeFields seconds minutes hours days tenths hundredthsDigit straightSeconds hasSeconds carriesSeconds codeControl codeRange carriesControl rowOf
   widths-3 = refl
 
   pub widths-other : (e : ℕ) → (e ≡ 0 → ⊥) → (e ≡ 1 → ⊥) → (e ≡ 3 → ⊥) → clearControl (clearSeconds (widthsOf (with-letter l 0))) ≡ widthsOf (with-letter l e)
-  unfolding widthsOf codeRuns codeFields timeFields seconds minutes hours days tenths hundredths straightSeconds hasSeconds carriesSeconds codeControl codeRange carriesControl rowOf
+  unfolding widthsOf codeRuns codeFields timeFields seconds minutes hours days tenths hundredthsDigit straightSeconds hasSeconds carriesSeconds codeControl codeRange carriesControl rowOf
   widths-other e a b c = rw (ne-eqb e 0 a, ne-eqb e 1 b, ne-eqb e 3 c)

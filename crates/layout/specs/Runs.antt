@@ -26,7 +26,7 @@ use Rattle.timecode.specs.Layout.{
   hours,
   days,
   tenths,
-  hundredths,
+  hundredthsDigit,
   hasSeconds,
   straightSeconds,
   control,
@@ -177,7 +177,7 @@ symbol-front fillers (p ∷ ps) rs qs [] ys zs i l h = let z : ⊥ = omega arith
 symbol-front fillers (p ∷ ps) rs qs (x ∷ xs) ys zs i l h = ap (λ (k : ℕ). cond (inRun p i) (x / 2 ^ bitOf p i % 2) k) (symbol-front fillers ps rs qs xs ys zs i (omega arith) h)
 
 pub code-held : (f : Format) (i : ℕ) → covered (codeRuns f) i ≡ covered (runs f) i
-unfolding codeRuns codeFields runs fields timeFields seconds minutes hours days tenths hundredths straightSeconds
+unfolding codeRuns codeFields runs fields timeFields seconds minutes hours days tenths hundredthsDigit straightSeconds
 code-held f i =
     let last : covered (codeControl f ++ []) i ≡ covered (control f ++ []) i =
     rw (append-nil (codeControl f), append-nil (control f)) (sym (held-carried (codeControl f) i) ∙ ap (λ (rs : Field). covered rs i) (same-carried f) ∙ held-carried (control f) i) in
@@ -185,7 +185,7 @@ code-held f i =
     (held-front (straightSeconds f) (codeControl f ++ []) (control f ++ []) i last)
 
 code-symbol : (f : Format) (t : Time) (w i : ℕ) → symbolAt (filler f) (codeRuns f) (allDigits (codeFields f) (numbers t w)) i ≡ symbolAt (filler f) (runs f) (allDigits (fields f) (numbers t w)) i
-unfolding codeRuns codeFields runs fields timeFields seconds minutes hours days tenths hundredths straightSeconds numbers timeNumbers
+unfolding codeRuns codeFields runs fields timeFields seconds minutes hours days tenths hundredthsDigit straightSeconds numbers timeNumbers
 code-symbol f t w i =
     let last : symbolAt (filler f) (codeControl f ++ []) (fieldDigits (codeControl f) w ++ []) i ≡ symbolAt (filler f) (control f ++ []) (fieldDigits (control f) w ++ []) i =
     rw (append-nil (codeControl f), append-nil (control f), append-nil (fieldDigits (codeControl f) w), append-nil (fieldDigits (control f) w)) (control-symbol f w i) in
@@ -209,7 +209,7 @@ code-elements f i [] a = refl
 code-elements f i (s ∷ ss) a = rw (code-held f i, code-elements f (suc i) ss a)
 
 pub code-small : (f : Format) (t : Time) (w : ℕ) → Valid f t w → Small (codeRuns f) (allDigits (codeFields f) (numbers t w))
-unfolding codeRuns codeFields timeFields numbers timeNumbers seconds minutes hours days tenths hundredths
+unfolding codeRuns codeFields timeFields numbers timeNumbers seconds minutes hours days tenths hundredthsDigit
 code-small f t w v =
     small-append (flatten (timeFields f)) (straightSeconds f ++ (codeControl f ++ [])) (allDigits (timeFields f) (timeNumbers t)) (fieldDigits (straightSeconds f) (t .hundredths / 100) ++ (fieldDigits (codeControl f) w ++ []))
     (time-small f t (v .format) (v .time))
@@ -217,7 +217,7 @@ code-small f t w v =
     (small-append (codeControl f) [] (fieldDigits (codeControl f) w) [] (binary-small (codeControl f) w (code-binary f)) tt))
 
 all-proper : everyFormat (λ f. proper (size f) (filler f) (codeRuns f)) ≡ true
-unfolding everyFormat table proper clear size rowOf lookUp filler isMark codeRuns codeFields timeFields seconds minutes hours days tenths hundredths straightSeconds hasSeconds carriesSeconds codeControl codeRange carriesControl
+unfolding everyFormat table proper clear size rowOf lookUp filler isMark codeRuns codeFields timeFields seconds minutes hours days tenths hundredthsDigit straightSeconds hasSeconds carriesSeconds codeControl codeRange carriesControl
 all-proper = refl
 
 pub code-proper : (f : Format) → known f ≡ true → proper (size f) (filler f) (codeRuns f) ≡ true

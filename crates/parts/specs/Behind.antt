@@ -24,7 +24,7 @@ use Rattle.search.specs.Ends.{answerAt, part}
 use Rattle.stream.specs.Feeding.{isValid, nextOf, answerOf, feedOf, valid-place}
 use Rattle.stream.specs.Refinement.{answers, readerAfter, RegisterShows, push-shows, shown-answer}
 use Rattle.stream.specs.declared.Reader.{Reader}
-use Rattle.stream.specs.FeedLists.{answers-at, length-answers, reader-append, valid-next, valid-after}
+use Rattle.stream.specs.FeedLists.{answers-at, length-feed-answers, reader-append, valid-next, valid-after}
 
 -- ---- readers that show a list
 
@@ -154,7 +154,7 @@ module _ (r : Reader) (ss held : List ℕ) (m : ℕ) (given : Behind r ss held m
       ∙ ap₂ plainAnswer (after-format r (take j ss)) list
 
   pub among : m ≤ length (answers r ss)
-  among = omega (arith, length-answers r ss, within)
+  among = omega (arith, length-feed-answers r ss, within)
 
   -- ---- the next reader
 
@@ -231,4 +231,4 @@ abbrev pub Agrees : Format → List ℕ → ℕ → List Answer → Type 0
 Agrees f held to as′ = (to ≤ 224 + length as′) × ((j : ℕ) → 224 + j < to → getD as′ j Quiet ≡ answerAt f held (224 + j))
 
 pub behind-agrees : (r : Reader) (ss held : List ℕ) (m : ℕ) → Behind r ss held m → Agrees (r .format) held (224 + m) (answers r ss)
-behind-agrees r ss held m given = (omega (arith, length-answers r ss, given .within), λ j b. answers-there r ss held m given j (omega arith))
+behind-agrees r ss held m given = (omega (arith, length-feed-answers r ss, given .within), λ j b. answers-there r ss held m given j (omega arith))

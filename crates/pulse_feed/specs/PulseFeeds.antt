@@ -33,9 +33,9 @@ unfolding feedPulseOf classifyOf
 fed-by r T width period = by-test (isInterval T) (λ y. rw y) (λ n. rw n)
 
 -- Number 4 cannot occur: the symbol is at most 3.
-pub symbol-small : (T width period : ℕ) → symbolOf T width period ≤ 3
+pub pulse-symbol-small : (T width period : ℕ) → symbolOf T width period ≤ 3
 unfolding symbolOf
-symbol-small T width period =
+pulse-symbol-small T width period =
     by-test (within (95 * T) (105 * T) (100 * period))
     (λ p. rw p
     (by-test (within (15 * T) (25 * T) (100 * width))

@@ -10,7 +10,7 @@ use Rattle.timecode.specs.Laws.Tests.{by-test}
 use Rattle.timecode.specs.Stream.{plainAnswers, plainReceived, elementsOf, SameWindow}
 use Rattle.timecode.specs.declared.Answer.{Answer}
 use Rattle.timecode.specs.declared.Format.{Format}
-use Rattle.stream.specs.FeedLists.{answers-append, reader-append}
+use Rattle.stream.specs.FeedLists.{feed-answers-append, reader-append}
 use Rattle.stream.specs.Feeding.{freshReader, isValid}
 use Rattle.stream.specs.Refinement.{answers, readerAfter, Receives, fresh-receives, receives-valid, feed-receives, answers-plain, receives-after, answers-are-plain}
 use Rattle.stream.specs.declared.Reader.{Reader}
@@ -59,7 +59,7 @@ calls-are-feeds r (c ∷ cs) =
     let fed = symbolsFed (callResult r c) in
     ap₂ (λ (xs ys : List Answer). xs ++ ys) (call-answers r c)
     (calls-are-feeds (readerOf r c) cs ∙ ap (λ (q : Reader). answers q (allFed (callResults (readerOf r c) cs))) (call-reader r c))
-    ∙ sym (answers-append r fed (allFed (callResults (readerOf r c) cs)))
+    ∙ sym (feed-answers-append r fed (allFed (callResults (readerOf r c) cs)))
 
 -- and the reader afterwards is the one that they give.
 pub reader-is-fed : (r : Reader) (cs : List ReaderCall) → readerAfterCalls r cs ≡ readerAfter r (allFed (callResults r cs))

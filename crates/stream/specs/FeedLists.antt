@@ -26,20 +26,20 @@ use Rattle.stream.specs.declared.Reader.{Reader}
 
 -- ---- lists of Feeds one after the other
 
-pub answers-append : (r : Reader) (ss rs : List ℕ) → answers r (ss ++ rs) ≡ answers r ss ++ answers (readerAfter r ss) rs
+pub feed-answers-append : (r : Reader) (ss rs : List ℕ) → answers r (ss ++ rs) ≡ answers r ss ++ answers (readerAfter r ss) rs
 unfolding answers readerAfter
-answers-append r [] rs = refl
-answers-append r (s ∷ ss) rs = ap (λ (as′ : List Answer). feedOf r s .answer ∷ as′) (answers-append (feedOf r s .reader) ss rs)
+feed-answers-append r [] rs = refl
+feed-answers-append r (s ∷ ss) rs = ap (λ (as′ : List Answer). feedOf r s .answer ∷ as′) (feed-answers-append (feedOf r s .reader) ss rs)
 
 pub reader-append : (r : Reader) (ss rs : List ℕ) → readerAfter r (ss ++ rs) ≡ readerAfter (readerAfter r ss) rs
 unfolding readerAfter
 reader-append r [] rs = refl
 reader-append r (s ∷ ss) rs = reader-append (feedOf r s .reader) ss rs
 
-pub length-answers : (r : Reader) (ss : List ℕ) → length (answers r ss) ≡ length ss
+pub length-feed-answers : (r : Reader) (ss : List ℕ) → length (answers r ss) ≡ length ss
 unfolding answers
-length-answers r [] = refl
-length-answers r (s ∷ ss) = ap suc (length-answers (feedOf r s .reader) ss)
+length-feed-answers r [] = refl
+length-feed-answers r (s ∷ ss) = ap suc (length-feed-answers (feedOf r s .reader) ss)
 
 pub answers-take : (r : Reader) (ss : List ℕ) (k : ℕ) → answers r (take k ss) ≡ take k (answers r ss)
 unfolding answers

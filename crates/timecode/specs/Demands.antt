@@ -16,7 +16,7 @@ use Rattle.timecode.specs.Laws.Back.{step-back, back-step, back-on-forma
 use Rattle.timecode.specs.Laws.Checks.{accepted, by-reading, refused-up-to}
 use Rattle.timecode.specs.Laws.Existence.{frames, length-frames, control-at, first-time, generator, goes-on}
 use Rattle.timecode.specs.Laws.Reading.{accepted-was-written, elements-up-to}
-use Rattle.timecode.specs.Laws.Stepping.{step-on-format, next-follows, follows-next, usual-end, answers, year-range, day-end-range, refuses-alike, Went, went, Lands, lands, year-is}
+use Rattle.timecode.specs.Laws.Stepping.{step-on-format, next-follows, follows-next, usual-end, step-answers, year-range, day-end-range, refuses-alike, Went, went, Lands, lands, year-is}
 use Rattle.timecode.specs.Laws.Times.{is-on-format, is-carried, none-added, one-added}
 use Rattle.timecode.specs.Laws.Writing.{written-is-accepted, taken, takes, leaves}
 use Rattle.timecode.specs.Layout.{second, minute, hour, filler, runs, control, numberIn}
@@ -160,7 +160,7 @@ pub first-frame-back-to-last : (f : Format) (year kind : ℕ) → known f ≡ tr
     → stepBackOf f (record { day = 1; hundredths = 0 }) year kind ≡ To (record { day = year; hundredths = dayEnd f kind - interval f })
 unfolding stepBackOf preceding dayBefore
 first-frame-back-to-last f year kind k l m =
-    answers f (record { day = 1; hundredths = 0 }) year kind k (record { first = omega arith; last = omega arith; below = omega arith; grid = zero-mod (interval f); carried = λ n. omega arith }) l
+    step-answers f (record { day = 1; hundredths = 0 }) year kind k (record { first = omega arith; last = omega arith; below = omega arith; grid = zero-mod (interval f); carried = λ n. omega arith }) l
     (year-range year l .0) m (omega (arith, day-end-range f kind)) (To (record { day = year; hundredths = dayEnd f kind - interval f }))
 
 -- Next after, read backwards, is some step back.

@@ -9,7 +9,7 @@ use lib.Dec.{leb, ltb, eqb}
 use lib.ListN.{getD, length}
 use Rattle.timecode.specs.Answers.{check}
 use Rattle.timecode.specs.Formats.{member, isSymbol, known, size, interval, lastDay, dayLength, onFormat, carriesLeap, secondCarried, OnFormat}
-use Rattle.timecode.specs.Layout.{Run, Field, seconds, minutes, hours, days, tenths, hundredths, hasSeconds, straightSeconds, control, timeFields, fields, flatten, runs, numbers, allDigits, inRun, filler, encode, digitIn, numberIn}
+use Rattle.timecode.specs.Layout.{Run, Field, seconds, minutes, hours, days, tenths, hundredthsDigit, hasSeconds, straightSeconds, control, timeFields, fields, flatten, runs, numbers, allDigits, inRun, filler, encode, digitIn, numberIn}
 use Rattle.timecode.specs.declared.Format.{Format}
 use Rattle.timecode.specs.declared.Reading.{Reading}
 use Rattle.timecode.specs.declared.Reading.the-variants.{Accepted}
@@ -244,7 +244,7 @@ unfoldable pub timeIn : Format → List ℕ → Time
 timeIn f frame =
     record {
       day = numberIn frame (days f);
-      hundredths = ((numberIn frame (hours f) * 60 + numberIn frame (minutes f)) * 60 + numberIn frame (seconds f)) * 100 + numberIn frame (tenths f) * 10 + numberIn frame (hundredths f);
+      hundredths = ((numberIn frame (hours f) * 60 + numberIn frame (minutes f)) * 60 + numberIn frame (seconds f)) * 100 + numberIn frame (tenths f) * 10 + numberIn frame (hundredthsDigit f);
     }
 
 -- number 8: where SBS is carried it is the seconds that the digits say

@@ -53,8 +53,8 @@ unfoldable pub tenths : Format → Field
 tenths f = decimalIn (A ∷ G ∷ []) f 45 4 ∷ []
 
 -- 50-53 (G)
-unfoldable pub hundredths : Format → Field
-hundredths f = decimalIn (G ∷ []) f 50 4 ∷ []
+unfoldable pub hundredthsDigit : Format → Field
+hundredthsDigit f = decimalIn (G ∷ []) f 50 4 ∷ []
 
 -- SBS, straight binary seconds: weights 1 to 256 at 80-88, 512 to 65,536 at 90-97 (A, B, expressions 0 and 3)
 unfoldable pub hasSeconds : Format → Bool
@@ -68,7 +68,7 @@ unfoldable pub control : Format → Field
 control f = map (λ (start : ℕ). binaryIf (carriesControl f) start 9) (rowOf f .control)
 
 unfoldable pub timeFields : Format → List Field
-timeFields f = seconds f ∷ minutes f ∷ hours f ∷ days f ∷ tenths f ∷ hundredths f ∷ []
+timeFields f = seconds f ∷ minutes f ∷ hours f ∷ days f ∷ tenths f ∷ hundredthsDigit f ∷ []
 
 unfoldable pub fields : Format → List Field
 fields f = timeFields f ++ (straightSeconds f ∷ control f ∷ [])

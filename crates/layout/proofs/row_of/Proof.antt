@@ -1,7 +1,7 @@
 -- `row_of` gives each letter the row of document 01's table: by computation for the six, and for any other letter by what is left of the table.
 use mathlib.Core.Path.{refl, ap}
 use Rattle.timecode.specs.Formats.{Row, table, lookUp, rowOf, known, size, interval, carriesControl, carriesSeconds}
-use Rattle.timecode.specs.Layout.{seconds, minutes, hours, days, tenths, hundredths, hasSeconds, straightSeconds, timeFields}
+use Rattle.timecode.specs.Layout.{seconds, minutes, hours, days, tenths, hundredthsDigit, hasSeconds, straightSeconds, timeFields}
 use Rattle.layout.specs.Runs.{codeRange, codeControl, codeFields, codeRuns}
 use Rattle.layout.specs.Tables.{widthsOf}
 use Rattle.layout.specs.Letters.{in-row, Other, other-row, other-widths}
@@ -9,27 +9,27 @@ use Rattle.layout.proofs.row_of.Statement.{statement}
 use Rattle.layout.proofs.row_of.Tie as tie
 
 returns : tie.Need-returns
-unfolding known size interval rowOf lookUp table widthsOf codeRuns codeFields timeFields seconds minutes hours days tenths hundredths straightSeconds hasSeconds carriesSeconds codeControl codeRange carriesControl
+unfolding known size interval rowOf lookUp table widthsOf codeRuns codeFields timeFields seconds minutes hours days tenths hundredthsDigit straightSeconds hasSeconds carriesSeconds codeControl codeRange carriesControl
 returns c = rw (c .if1 .taken) (record { elements-are = λ e. refl; interval-is = λ e. refl; expressions-are = in-row 4 0 3 refl; widths-are = refl })
 
 returns-2 : tie.Need-returns-2
-unfolding known size interval rowOf lookUp table widthsOf codeRuns codeFields timeFields seconds minutes hours days tenths hundredths straightSeconds hasSeconds carriesSeconds codeControl codeRange carriesControl
+unfolding known size interval rowOf lookUp table widthsOf codeRuns codeFields timeFields seconds minutes hours days tenths hundredthsDigit straightSeconds hasSeconds carriesSeconds codeControl codeRange carriesControl
 returns-2 c = rw (c .if2 .taken) (record { elements-are = λ e. refl; interval-is = λ e. refl; expressions-are = in-row 4 0 3 refl; widths-are = refl })
 
 returns-3 : tie.Need-returns-3
-unfolding known size interval rowOf lookUp table widthsOf codeRuns codeFields timeFields seconds minutes hours days tenths hundredths straightSeconds hasSeconds carriesSeconds codeControl codeRange carriesControl
+unfolding known size interval rowOf lookUp table widthsOf codeRuns codeFields timeFields seconds minutes hours days tenths hundredthsDigit straightSeconds hasSeconds carriesSeconds codeControl codeRange carriesControl
 returns-3 c = rw (c .if3 .taken) (record { elements-are = λ e. refl; interval-is = λ e. refl; expressions-are = in-row 2 1 2 refl; widths-are = refl })
 
 returns-4 : tie.Need-returns-4
-unfolding known size interval rowOf lookUp table widthsOf codeRuns codeFields timeFields seconds minutes hours days tenths hundredths straightSeconds hasSeconds carriesSeconds codeControl codeRange carriesControl
+unfolding known size interval rowOf lookUp table widthsOf codeRuns codeFields timeFields seconds minutes hours days tenths hundredthsDigit straightSeconds hasSeconds carriesSeconds codeControl codeRange carriesControl
 returns-4 c = rw (c .if4 .taken) (record { elements-are = λ e. refl; interval-is = λ e. refl; expressions-are = in-row 2 1 2 refl; widths-are = refl })
 
 returns-5 : tie.Need-returns-5
-unfolding known size interval rowOf lookUp table widthsOf codeRuns codeFields timeFields seconds minutes hours days tenths hundredths straightSeconds hasSeconds carriesSeconds codeControl codeRange carriesControl
+unfolding known size interval rowOf lookUp table widthsOf codeRuns codeFields timeFields seconds minutes hours days tenths hundredthsDigit straightSeconds hasSeconds carriesSeconds codeControl codeRange carriesControl
 returns-5 c = rw (c .if5 .taken) (record { elements-are = λ e. refl; interval-is = λ e. refl; expressions-are = in-row 2 1 2 refl; widths-are = refl })
 
 returns-6 : tie.Need-returns-6
-unfolding known size interval rowOf lookUp table widthsOf codeRuns codeFields timeFields seconds minutes hours days tenths hundredths straightSeconds hasSeconds carriesSeconds codeControl codeRange carriesControl
+unfolding known size interval rowOf lookUp table widthsOf codeRuns codeFields timeFields seconds minutes hours days tenths hundredthsDigit straightSeconds hasSeconds carriesSeconds codeControl codeRange carriesControl
 returns-6 c = rw (c .if6 .taken) (record { elements-are = λ e. refl; interval-is = λ e. refl; expressions-are = in-row 2 1 2 refl; widths-are = refl })
 
 returns-7 : tie.Need-returns-7

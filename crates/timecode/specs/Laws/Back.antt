@@ -8,7 +8,7 @@ use borrow.Author.Tests.{eqb-true, eqb-false, eq-eqb, ne-eqb}
 use lib.Dec.{eqb}
 use Rattle.timecode.specs.Formats.{interval, OnFormat}
 use Rattle.timecode.specs.Frames.{dayAfter, dayEnd, sameDay, nextDay, following, stepOf, Follows, dayBefore, sameDayBefore, lastBefore, preceding, stepBackOf, Precedes}
-use Rattle.timecode.specs.Laws.Stepping.{time-path, Went, went-to, answers, answers-alike, went, year-range, one-interval, end-on-grid, usual-end, day-end-range, day-after-inside, Lands, lands, step-on-format}
+use Rattle.timecode.specs.Laws.Stepping.{time-path, Went, went-to, step-answers, answers-alike, went, year-range, one-interval, end-on-grid, usual-end, day-end-range, day-after-inside, Lands, lands, step-on-format}
 use Rattle.timecode.specs.Laws.Table.{interval-range}
 use Rattle.timecode.specs.Laws.Tests.{by-test}
 use Rattle.timecode.specs.declared.Format.{Format}
@@ -65,7 +65,7 @@ unfolding stepBackOf
 step-back f t year kind u h =
     let w = went f t year kind u h in
     let b = undone f t year kind u w (lands f t year kind u w) in
-    answers f u year kind (w .format) (step-on-format f t u (year, kind, h)) (w .length-is) (b .0) (w .kind-is) (b .1) (To (preceding f u year kind)) ∙ ap To (b .2)
+    step-answers f u year kind (w .format) (step-on-format f t u (year, kind, h)) (w .length-is) (b .0) (w .kind-is) (b .1) (To (preceding f u year kind)) ∙ ap To (b .2)
 
 -- a step that was taken is taken again with the same length and kind
 pub step-again : (f : Format) (t u : Time) (year kind : ℕ) → stepOf f t year kind ≡ To u → stepOf f u year kind ≡ To (following f u year kind)
@@ -142,7 +142,7 @@ unfolding stepOf
 back-step f u year kind t h =
     let w = came f u year kind t h in
     let b = redone f u year kind t w (comes f u year kind t w) in
-    answers f t year kind (w .format) (b .0) (w .length-is) (b .1) (w .kind-is) (b .2) (To (following f t year kind)) ∙ ap To (b .3)
+    step-answers f t year kind (w .format) (b .0) (w .length-is) (b .1) (w .kind-is) (b .2) (To (following f t year kind)) ∙ ap To (b .3)
 
 -- ---- what else both steps share
 

@@ -19,7 +19,7 @@ use Rattle.timecode.specs.Laws.Runs.{Clean, fits-agree, clean-bits, enco
 use Rattle.timecode.specs.Laws.Table.{layout-proper}
 use Rattle.timecode.specs.Laws.Tests.{by-test, clash, and-left, and-right}
 use Rattle.timecode.specs.Laws.Times.{none-added, one-added, time-grid}
-use Rattle.timecode.specs.Layout.{Run, binaryIf, seconds, minutes, hours, days, tenths, hundredths, hasSeconds, straightSeconds, control, timeFields, fields, flatten, runs, second, minute, hour, timeNumbers, numbers, fieldDigits, allDigits, filler, encode, numberIn, Small, decode}
+use Rattle.timecode.specs.Layout.{Run, binaryIf, seconds, minutes, hours, days, tenths, hundredthsDigit, hasSeconds, straightSeconds, control, timeFields, fields, flatten, runs, second, minute, hour, timeNumbers, numbers, fieldDigits, allDigits, filler, encode, numberIn, Small, decode}
 use Rattle.timecode.specs.declared.Format.{Format}
 use Rattle.timecode.specs.declared.Reading.{Reading}
 use Rattle.timecode.specs.declared.Reading.the-variants.{Accepted}
@@ -136,11 +136,11 @@ module _ (f : Format) (frame : List ℕ) (k : known f ≡ true) (n : length fram
   small = small-decoded frame (runs f) (clean-bits (size f) (filler f) (runs f) frame (layout-proper f k) clean)
 
   time-part : Small (flatten (timeFields f)) (decode (flatten (timeFields f)) frame)
-  unfolding runs fields timeFields seconds minutes hours days tenths hundredths
+  unfolding runs fields timeFields seconds minutes hours days tenths hundredthsDigit
   time-part = small-front frame (flatten (timeFields f)) (straightSeconds f ++ (control f ++ [])) small
 
   other-part : Small (straightSeconds f ++ (control f ++ [])) (decode (straightSeconds f ++ (control f ++ [])) frame)
-  unfolding runs fields timeFields seconds minutes hours days tenths hundredths
+  unfolding runs fields timeFields seconds minutes hours days tenths hundredthsDigit
   other-part = small-back frame (flatten (timeFields f)) (straightSeconds f ++ (control f ++ [])) small
 
   straight-below : Below (straightSeconds f) (decode (straightSeconds f) frame)
@@ -171,10 +171,10 @@ module _ (f : Format) (frame : List ℕ) (k : known f ≡ true) (n : length fram
   read-control = numberIn frame (control f)
 
   digits-same : allDigits (fields f) (numbers read-time read-control) ≡ decode (runs f) frame
-  unfolding runs fields timeFields numbers timeNumbers timeIn seconds minutes hours days tenths hundredths
+  unfolding runs fields timeFields numbers timeNumbers timeIn seconds minutes hours days tenths hundredthsDigit
   digits-same =
       let c =
-      clock f (numberIn frame (hours f)) (numberIn frame (minutes f)) (numberIn frame (seconds f)) (numberIn frame (tenths f)) (numberIn frame (hundredths f)) (read-time .hundredths) (time .hour-is) (time .minute-is) (omega (arith, time .digits)) (omega (arith, time .digits)) refl (time .second-is) in
+      clock f (numberIn frame (hours f)) (numberIn frame (minutes f)) (numberIn frame (seconds f)) (numberIn frame (tenths f)) (numberIn frame (hundredthsDigit f)) (read-time .hundredths) (time .hour-is) (time .minute-is) (omega (arith, time .digits)) (omega (arith, time .digits)) refl (time .second-is) in
       fields-together frame (fields f) (numbers read-time read-control) (
         ap (fieldDigits (seconds f)) (c .0) ∙ digits-back frame (seconds f) (omega (arith, time .digits)),
         (
@@ -186,7 +186,7 @@ module _ (f : Format) (frame : List ℕ) (k : known f ≡ true) (n : length fram
               (
                 ap (fieldDigits (tenths f)) (c .3) ∙ digits-back frame (tenths f) (omega (arith, time .digits)),
                 (
-                  ap (fieldDigits (hundredths f)) (c .4) ∙ digits-back frame (hundredths f) (omega (arith, time .digits)),
+                  ap (fieldDigits (hundredthsDigit f)) (c .4) ∙ digits-back frame (hundredthsDigit f) (omega (arith, time .digits)),
                   (
                     digits-agree (straightSeconds f) (decode (straightSeconds f) frame) (read-time .hundredths / 100) (binary-positive (straightSeconds f) (straight-binary f)) straight-below straight-agrees,
                     (digits-back frame (control f) control-below, tt),
@@ -199,10 +199,10 @@ module _ (f : Format) (frame : List ℕ) (k : known f ≡ true) (n : length fram
       )
 
   read-on-format : OnFormat f read-time
-  unfolding timeIn timeFields tenths hundredths seconds minutes hours days
+  unfolding timeIn timeFields tenths hundredthsDigit seconds minutes hours days
   read-on-format =
       let d =
-      in-day f (numberIn frame (hours f)) (numberIn frame (minutes f)) (numberIn frame (seconds f)) (numberIn frame (tenths f)) (numberIn frame (hundredths f)) (read-time .hundredths) (time .hour-is) (time .minute-is) (omega (arith, time .digits)) (omega (arith, time .digits)) refl (time .second-is) in
+      in-day f (numberIn frame (hours f)) (numberIn frame (minutes f)) (numberIn frame (seconds f)) (numberIn frame (tenths f)) (numberIn frame (hundredthsDigit f)) (read-time .hundredths) (time .hour-is) (time .minute-is) (omega (arith, time .digits)) (omega (arith, time .digits)) refl (time .second-is) in
       record { first = time .first; last = time .last; below = d .0; grid = time-grid f frame k time-part; carried = d .1 }
 
   read-valid : Valid f read-time read-control

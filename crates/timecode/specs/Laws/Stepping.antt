@@ -67,15 +67,15 @@ went-to f t year kind v u h =
     }
 
 -- both steps answer where the checks are passed
-pub answers : (f : Format) (t : Time) (year kind : ℕ) → known f ≡ true → OnFormat f t → member year yearLengths ≡ true → t .day ≤ year → member kind kinds ≡ true → t .hundredths < dayEnd f kind
+pub step-answers : (f : Format) (t : Time) (year kind : ℕ) → known f ≡ true → OnFormat f t → member year yearLengths ≡ true → t .day ≤ year → member kind kinds ≡ true → t .hundredths < dayEnd f kind
     → (answer : Stepped) → checkStep f t year kind answer ≡ answer
 unfolding inYear onDay
-answers f t year kind k o l i m b answer = rw (k, is-on-format f t o, is-carried f t o, l, le-leb (t .day) year i, m, lt-ltb (t .hundredths) (dayEnd f kind) b)
+step-answers f t year kind k o l i m b answer = rw (k, is-on-format f t o, is-carried f t o, l, le-leb (t .day) year i, m, lt-ltb (t .hundredths) (dayEnd f kind) b)
 
 pub answers-alike : (f : Format) (t : Time) (year kind : ℕ) (v u : Time) → checkStep f t year kind (To v) ≡ To u → (answer : Stepped) → checkStep f t year kind answer ≡ answer
 answers-alike f t year kind v u h answer =
     let w = went-to f t year kind v u h in
-    answers f t year kind (w .format) (w .from) (w .length-is) (w .inside) (w .kind-is) (w .before) answer
+    step-answers f t year kind (w .format) (w .from) (w .length-is) (w .inside) (w .kind-is) (w .before) answer
 
 -- and refuse alike where one is not
 pub refuses-alike : (f : Format) (t : Time) (year kind : ℕ) (v : Time) (r : Refusal) → checkStep f t year kind (To v) ≡ Stepped.Refused r → (answer : Stepped) → checkStep f t year kind answer ≡ Stepped.Refused r
@@ -99,7 +99,7 @@ longest-day f t o = by-test (carriesLeap f) (λ y. rw y (omega (arith, o .below)
 -- Step takes a time on the format with 366 and a second added always
 pub goes : (f : Format) (t : Time) → known f ≡ true → OnFormat f t → stepOf f t 366 secondAdded ≡ To (following f t 366 secondAdded)
 unfolding stepOf
-goes f t k o = answers f t 366 secondAdded k o refl (o .last) refl (longest-day f t o) (To (following f t 366 secondAdded))
+goes f t k o = step-answers f t 366 secondAdded k o refl (o .last) refl (longest-day f t o) (To (following f t 366 secondAdded))
 
 -- ---- next after is some step
 

@@ -16,7 +16,7 @@ use Rattle.timecode.specs.Laws.Places.{distinct, spared}
 use Rattle.timecode.specs.Laws.Stepping.{time-path, every, one-of, went, Alike, two-that-follow}
 use Rattle.timecode.specs.Laws.Table.{everyFormat, of-every}
 use Rattle.timecode.specs.Laws.Tests.{and-left, and-right}
-use Rattle.timecode.specs.Layout.{seconds, minutes, hours, days, tenths, hundredths, hasSeconds, straightSeconds, control, timeFields, fields, runs, timeNumbers, numbers, allDigits, isMark, filler, symbolAt}
+use Rattle.timecode.specs.Layout.{seconds, minutes, hours, days, tenths, hundredthsDigit, hasSeconds, straightSeconds, control, timeFields, fields, runs, timeNumbers, numbers, allDigits, isMark, filler, symbolAt}
 use Rattle.timecode.specs.declared.Format.{Format}
 use Rattle.timecode.specs.declared.Time.{Time}
 
@@ -53,7 +53,7 @@ abbrev leapDay : Time
 leapDay = record { day = 366; hundredths = 0 }
 
 turn-differs : (a b : ℕ) → everyFormat (λ f. differ f newYear a leapDay b turnPlaces) ≡ true
-unfolding everyFormat table size rowOf lookUp filler isMark symbolAt runs fields timeFields numbers timeNumbers seconds minutes hours days tenths hundredths straightSeconds hasSeconds carriesSeconds control carriesControl
+unfolding everyFormat table size rowOf lookUp filler isMark symbolAt runs fields timeFields numbers timeNumbers seconds minutes hours days tenths hundredthsDigit straightSeconds hasSeconds carriesSeconds control carriesControl
 turn-differs a b = refl
 
 differ-apart : (f : Format) (u v : Time) (ps : List ℕ) → distinct ps ≡ true → 7 ≤ length ps → ((a b : ℕ) → differ f u a v b ps ≡ true) → Apart f u v
@@ -84,7 +84,7 @@ abbrev differAt : List ℕ → ℕ → ℕ → ℕ → ℕ → Format → Bool
 differAt cs d e a b f = cond (carriesLeap f) (every (λ c. differ f (on d c) a (on e 0) b midnightPlaces) cs) true
 
 late-differ : (d e a b : ℕ) → everyFormat (differAt lateSeconds d e a b) ≡ true
-unfolding everyFormat table size rowOf lookUp filler isMark symbolAt runs fields timeFields numbers timeNumbers seconds minutes hours days tenths hundredths straightSeconds hasSeconds carriesSeconds control carriesControl carriesLeap
+unfolding everyFormat table size rowOf lookUp filler isMark symbolAt runs fields timeFields numbers timeNumbers seconds minutes hours days tenths hundredthsDigit straightSeconds hasSeconds carriesSeconds control carriesControl carriesLeap
 late-differ d e a b = refl
 
 leap-apart : (f : Format) (u v : Time) → known f ≡ true → LeapTurn f u v → Apart f u v

@@ -10,7 +10,7 @@ use Rattle.timecode.specs.Formats.{table, lookUp, rowOf, known, interval
 use Rattle.timecode.specs.Frames.{timeIn}
 use Rattle.timecode.specs.Laws.Table.{by-letter}
 use Rattle.timecode.specs.Laws.Tests.{by-test, and-left, and-right}
-use Rattle.timecode.specs.Layout.{seconds, minutes, hours, days, tenths, hundredths, timeFields, flatten, addedIn, second, minute, hour, timeNumbers, allDigits, Small, decode}
+use Rattle.timecode.specs.Layout.{seconds, minutes, hours, days, tenths, hundredthsDigit, timeFields, flatten, addedIn, second, minute, hour, timeNumbers, allDigits, Small, decode}
 use Rattle.timecode.specs.declared.Format.{Format}
 use Rattle.timecode.specs.declared.Time.{Time}
 
@@ -57,7 +57,7 @@ abbrev FitsLetter : ℕ → Type 0
 FitsLetter l = (e : ℕ) (t : Time) → OnFormat (at l e) t → Small (flatten (timeFields (at l e))) (allDigits (timeFields (at l e)) (timeNumbers t))
 
 fits : (f : Format) → known f ≡ true → FitsLetter (f .letter)
-unfolding timeFields seconds minutes hours days tenths hundredths timeNumbers interval rowOf lookUp table carriesLeap
+unfolding timeFields seconds minutes hours days tenths hundredthsDigit timeNumbers interval rowOf lookUp table carriesLeap
 fits =
     by-letter FitsLetter (λ e t o. omega arith) (λ e t o. omega arith)
     (λ e t o. rw (none-added (t .hundredths) (o .carried refl) .0, none-added (t .hundredths) (o .carried refl) .1, none-added (t .hundredths) (o .carried refl) .2) (omega arith))
@@ -73,7 +73,7 @@ abbrev Grid : ℕ → Type 0
 Grid l = (e : ℕ) (frame : List ℕ) → Small (flatten (timeFields (at l e))) (decode (flatten (timeFields (at l e))) frame) → timeIn (at l e) frame .hundredths % interval (at l e) ≡ 0
 
 grids : (f : Format) → known f ≡ true → Grid (f .letter)
-unfolding timeFields seconds minutes hours days tenths hundredths timeIn interval rowOf lookUp table
+unfolding timeFields seconds minutes hours days tenths hundredthsDigit timeIn interval rowOf lookUp table
 grids = by-letter Grid (λ e frame s. omega arith) (λ e frame s. omega arith) (λ e frame s. omega arith) (λ e frame s. omega arith) (λ e frame s. omega arith) (λ e frame s. omega arith)
 
 -- the interval divides the hundredths that the digits say

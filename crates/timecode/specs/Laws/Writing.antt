@@ -18,7 +18,7 @@ use Rattle.timecode.specs.Laws.Runs.{length-encode, small-length, small-
 use Rattle.timecode.specs.Laws.Table.{layout-proper}
 use Rattle.timecode.specs.Laws.Tests.{by-test}
 use Rattle.timecode.specs.Laws.Times.{on-format, is-on-format, is-carried, one-added, time-small}
-use Rattle.timecode.specs.Layout.{Run, seconds, minutes, hours, days, tenths, hundredths, hasSeconds, straightSeconds, control, timeFields, fields, flatten, runs, second, minute, hour, timeNumbers, numbers, fieldDigits, allDigits, inRun, isMark, filler, symbolAt, tabulate, encode, numberIn, Small, decode}
+use Rattle.timecode.specs.Layout.{Run, seconds, minutes, hours, days, tenths, hundredthsDigit, hasSeconds, straightSeconds, control, timeFields, fields, flatten, runs, second, minute, hour, timeNumbers, numbers, fieldDigits, allDigits, inRun, isMark, filler, symbolAt, tabulate, encode, numberIn, Small, decode}
 use Rattle.timecode.specs.declared.Format.{Format}
 use Rattle.timecode.specs.declared.Reading.{Reading}
 use Rattle.timecode.specs.declared.Reading.the-variants.{Accepted}
@@ -52,7 +52,7 @@ unfolding written encode
 written-symbols f t w = symbols-tabulate (size f) 0 (symbolAt (filler f) (runs f) (allDigits (fields f) (numbers t w))) (symbol-small f (runs f) (allDigits (fields f) (numbers t w)))
 
 time-digits : (f : Format) (t : Time) → AreDigits (allDigits (timeFields f) (timeNumbers t))
-unfolding timeFields timeNumbers seconds minutes hours days tenths hundredths
+unfolding timeFields timeNumbers seconds minutes hours days tenths hundredthsDigit
 time-digits f t = omega arith
 
 least-last : (f : Format) (h m : ℕ) → 59 ≤ lastSecond f h m
@@ -76,7 +76,7 @@ module _ (f : Format) (t : Time) (w : ℕ) (v : Valid f t w) where
   frame = written f t w
 
   pub written-small : Small (runs f) (allDigits (fields f) (numbers t w))
-  unfolding runs fields timeFields numbers timeNumbers seconds minutes hours days tenths hundredths
+  unfolding runs fields timeFields numbers timeNumbers seconds minutes hours days tenths hundredthsDigit
   written-small =
       small-append (flatten (timeFields f)) (straightSeconds f ++ (control f ++ [])) (allDigits (timeFields f) (timeNumbers t)) (fieldDigits (straightSeconds f) (t .hundredths / 100) ++ (fieldDigits (control f) w ++ []))
       (time-small f t (v .format) (v .time))
@@ -107,9 +107,9 @@ module _ (f : Format) (t : Time) (w : ℕ) (v : Valid f t w) where
   unfolding fields timeFields numbers timeNumbers tenths
   tenth-back = number-back frame (tenths f) (t .hundredths / 10 % 10) (omega arith) (omega arith) (decoded .1 .1 .1 .1 .0)
 
-  hundredth-back : numberIn frame (hundredths f) ≡ t .hundredths % 10
-  unfolding fields timeFields numbers timeNumbers hundredths
-  hundredth-back = number-back frame (hundredths f) (t .hundredths % 10) (omega arith) (omega arith) (decoded .1 .1 .1 .1 .1 .0)
+  hundredth-back : numberIn frame (hundredthsDigit f) ≡ t .hundredths % 10
+  unfolding fields timeFields numbers timeNumbers hundredthsDigit
+  hundredth-back = number-back frame (hundredthsDigit f) (t .hundredths % 10) (omega arith) (omega arith) (decoded .1 .1 .1 .1 .1 .0)
 
   straight-back : hasSeconds f ≡ true → numberIn frame (straightSeconds f) ≡ t .hundredths / 100
   unfolding fields timeFields numbers timeNumbers
@@ -125,7 +125,7 @@ module _ (f : Format) (t : Time) (w : ℕ) (v : Valid f t w) where
   unfolding timeIn
   time-back = λ i. record { day = day-back i; hundredths = clock-back i }
     where
-      clock-back : ((numberIn frame (hours f) * 60 + numberIn frame (minutes f)) * 60 + numberIn frame (seconds f)) * 100 + numberIn frame (tenths f) * 10 + numberIn frame (hundredths f) ≡ t .hundredths
+      clock-back : ((numberIn frame (hours f) * 60 + numberIn frame (minutes f)) * 60 + numberIn frame (seconds f)) * 100 + numberIn frame (tenths f) * 10 + numberIn frame (hundredthsDigit f) ≡ t .hundredths
       clock-back = rw (hour-back, minute-back, second-back, tenth-back, hundredth-back) (omega (arith, v .time .below))
 
   time-decoded : allDigits (timeFields f) (timeNumbers t) ≡ decode (flatten (timeFields f)) frame
