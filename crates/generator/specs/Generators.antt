@@ -91,7 +91,7 @@ begun-done Done (Stepped.Refused x) h = absurd (done x h)
 begun-done (Written.Refused x) (To u) h = absurd (done x h)
 begun-done (Written.Refused x) (Stepped.Refused y) h = absurd (done x h)
 
--- ---- the kind told is the first day's, and every later day is usual
+-- ---- the kind given is the first day's, and every later day is usual
 
 next-kind : (p : Stepped) (s : Start) → stepped p s .kind ≡ kindAfter (s .time) (stepped p s .time) (s .kind)
 unfolding kindAfter

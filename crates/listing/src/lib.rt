@@ -43,7 +43,7 @@ pub fn begin(head: &[u8]) -> Made
     Made::Refused(Refusal::UnknownFormat)
 }
 
-// Nothing heard, nothing printed.
+// Nothing received, nothing printed.
 pub fn start(reader: Reader) -> Progress
     ensures { λ r. ⌜ r ≡ runningAt reader 0 0 ⌝ }
 {

@@ -32,7 +32,7 @@ spoiledRegister =
       word6 = 18446744073709551615;
     }
 
--- a format, place 0, nothing heard
+-- a format, place 0, nothing received
 abbrev pub freshReader : Format → Reader
 freshReader f = record { format = f; place = 0; received = spoiledRegister }
 

@@ -1,5 +1,5 @@
 // The stream reader: made fresh, and fed one symbol at a time.
-// It holds the last symbols heard and nothing of earlier frames, so each answer is found in the last 2n + 1 symbols alone.
+// It holds the last symbols received and nothing of earlier frames, so each answer is found in the last 2n + 1 symbols alone.
 ghost use mathlib.Core.Path.{_≡_};
 ghost use mathlib.Core.Bool.{true};
 ghost use Prim.Native.Nat.{_+_, _%_, _≤_, _<_};
@@ -52,7 +52,7 @@ pub enum Passed {
 }
 
 impl Reader {
-    // A fresh reader has heard nothing: its register holds spoiled symbols alone, and no window begins with one.
+    // A fresh reader has received nothing: its register holds spoiled symbols alone, and no window begins with one.
     pub fn fresh(format: Format) -> Made
         ensures { λ r. ⌜ r ≡ madeOf format ⌝ }
     {

@@ -176,6 +176,6 @@ pub back-as-usual-without-leap : (f : Format) (t : Time) (year kind : ℕ) → c
 unfolding stepBackOf onDay preceding
 back-as-usual-without-leap f t year kind m h = rw (h, usual-end f kind m, usual-end f usual m)
 
--- A generator heard in reverse: each frame's time is a step back of the one that was sent after it.
+-- A generator received in reverse: each frame's time is a step back of the one that was sent after it.
 pub generators-run-backwards : (f : Format) (sent : List Sent) → Generator f sent → (j : ℕ) → suc j < length sent → Precedes f (sentAt sent j .time) (sentAt sent (suc j) .time)
 generators-run-backwards f sent g j h = follows-precedes f (sentAt sent j .time) (sentAt sent (suc j) .time) (g .steps j h)

@@ -1,5 +1,5 @@
 -- Document 01, "Stepping, writing, reading": Step and next after, Write, Read, and the generator.
--- Document 02: the step back; both steps are told the kind of the earlier time's day, and 23:59:60 is read where it is carried.
+-- Document 02: the step back; both steps are given the kind of the earlier time's day, and 23:59:60 is read where it is carried.
 use mathlib.Core.Path.{_≡_}
 use mathlib.Core.Bool.{Bool, true, false, cond, not, _&&_, _||_}
 use mathlib.Core.List.{List, [], _∷_, _++_}
