@@ -1,2 +1,3 @@
+-- Numbers is what the contracts say; DigitBytes its laws.
 pub mod Numbers
 pub mod DigitBytes

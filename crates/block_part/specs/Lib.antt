@@ -1,2 +1,3 @@
+-- Rounds and Held: what one part of a block puts and gives.
 pub mod Rounds
 pub mod Held

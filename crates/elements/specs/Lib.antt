@@ -1,3 +1,4 @@
+-- Digits as the elements of a frame, and back: laws that the contracts and proofs use.
 pub mod Stores
 pub mod RunLoops
 pub mod RunBits

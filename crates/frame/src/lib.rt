@@ -93,7 +93,7 @@ fn both(first: bool, second: bool) -> bool
     false
 }
 
-// No symbol is above 3. Like `agree` it looks at every element: without a way out the compiler takes many at a time.
+// No symbol is above 3. Like `agree` it looks at every element: a loop that never ends early is compiled to take many at a time.
 fn are_symbols(frame: &[u8]) -> bool
     ensures { λ r. ⌜ r ≡ areSymbols (now (frame .entry)) ⌝ }
 {

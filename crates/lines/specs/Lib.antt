@@ -1,2 +1,3 @@
+-- Text is what the contracts say; Filling its laws.
 pub mod Text
 pub mod Filling

@@ -1,1 +1,2 @@
+-- The bytes and symbols of a register's words.
 pub mod Packing

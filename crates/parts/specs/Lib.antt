@@ -1,1 +1,2 @@
+-- The symbols of a part after the reader's own.
 pub mod Behind

@@ -1,1 +1,2 @@
+-- What the contracts say of reads and writes.
 pub mod Printing

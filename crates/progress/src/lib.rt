@@ -43,7 +43,7 @@ pub fn progress_at(reader: Reader, elements: u64, reports: u64) -> Progress
     }
 }
 
-// A count with so many more. No recording is so long that a count stays at its end; that it may is what a 64-bit number asks.
+// A count with so many more. A count stays at the greatest 64-bit number, which no recording is long enough to reach.
 pub fn more_by(count: u64, k: usize) -> u64
     ensures { λ r. ⌜ r ≡ moreBy k count ⌝ }
 {

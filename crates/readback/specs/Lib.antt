@@ -1,1 +1,2 @@
+-- The theorem over both programs.
 pub mod Recording

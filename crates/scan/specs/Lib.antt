@@ -1,1 +1,2 @@
+-- Laws of the places that Scan looks at.
 pub mod Places

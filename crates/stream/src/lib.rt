@@ -185,7 +185,7 @@ pub fn next_reader(reader: Reader, symbol: u8) -> Reader
     reader
 }
 
-// Most symbols are no marks. An accepted one is a Feed that brings nothing, since no frame ends in it: a loop asks here first.
+// Most symbols are no marks. An accepted one is a Feed that brings nothing, since no frame ends in it, so a loop calls this before `feed`.
 pub fn pass(reader: Reader, symbol: u8) -> Passed
     ensures { λ r. ⌜ r ≡ passOf reader symbol ⌝ }
 {
