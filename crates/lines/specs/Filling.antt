@@ -117,7 +117,7 @@ places-turn : (k rest : ℕ) → 10 ≤ rest → placesIn (suc k) rest ≡ suc (
 unfolding placesIn
 places-turn k rest h = rw (le-ltb rest 10 h)
 
--- k digits and what rests of the number behind them
+-- k digits, and after them what is left of the number
 pub record Counted (number rest k : ℕ) : Type 0 where
   pub some : 1 ≤ k
   pub few : k ≤ 20

@@ -201,7 +201,7 @@ abbrev pub covered : List Run → ℕ → Bool
 covered [] i = false
 covered (r ∷ rs) i = inRun r i || covered rs i
 
--- a mark belongs at index i: no run holds it, and a mark is what rests there
+-- a mark belongs at index i: no run covers it, and the filler there is a mark
 abbrev pub markBelongs : (ℕ → ℕ) → List Run → ℕ → Bool
 markBelongs fillers rs i = not (covered rs i) && eqb (fillers i) 2
 
@@ -209,7 +209,7 @@ markBelongs fillers rs i = not (covered rs i) && eqb (fillers i) 2
 unfoldable pub marksAgree : (ℕ → ℕ) → List Run → ℕ → ℕ → Bool
 marksAgree fillers rs i s = cond (markBelongs fillers rs i) (eqb s 2) (not (eqb s 2))
 
--- number 6: 0 or 1 in the place of a digit, SBS or control bit, and elsewhere what rests there
+-- number 6: 0 or 1 in the place of a digit, SBS or control bit, and elsewhere the filler
 unfoldable pub elementFits : (ℕ → ℕ) → List Run → ℕ → ℕ → Bool
 elementFits fillers rs i s = cond (covered rs i) (ltb s 2) (eqb s (fillers i))
 
