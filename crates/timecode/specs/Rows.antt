@@ -41,7 +41,7 @@ lent f = replicate (size f) 0
 abbrev format : ℕ → ℕ → Format
 format letter expression = record { letter = letter; expression = expression }
 
--- the expressions below 8, from e on, with which Write takes the letter at day 1, c 0, each behind the letter
+-- the expressions below 8, from e on, with which Write takes the letter at day 1, c 0, each after the letter
 abbrev expressionsFrom : ℕ → ℕ → ℕ → List ℤ
 expressionsFrom letter zero e = []
 expressionsFrom letter (suc k) e =
@@ -118,8 +118,8 @@ lines =
     ∷ (classify 1000 250 1000 gives indices (0 ∷ []))
     ∷ (classify 1000 149 1000 gives indices (3 ∷ []))
     ∷ (classify 1000 251 1000 gives indices (3 ∷ []))
-    -- which letters take which expressions
-    ∷ (formats gives indices (A ∷ 0 ∷ A ∷ 1 ∷ A ∷ 2 ∷ A ∷ 3 ∷ B ∷ 0 ∷ B ∷ 1 ∷ B ∷ 2 ∷ B ∷ 3 ∷ D ∷ 1 ∷ D ∷ 2 ∷ E ∷ 1 ∷ E ∷ 2 ∷ G ∷ 1 ∷ G ∷ 2 ∷ H ∷ 1 ∷ H ∷ 2 ∷ []))
+    -- which letters, in ASCII, take which expressions
+    ∷ (formats gives indices (65 ∷ 0 ∷ 65 ∷ 1 ∷ 65 ∷ 2 ∷ 65 ∷ 3 ∷ 66 ∷ 0 ∷ 66 ∷ 1 ∷ 66 ∷ 2 ∷ 66 ∷ 3 ∷ 68 ∷ 1 ∷ 68 ∷ 2 ∷ 69 ∷ 1 ∷ 69 ∷ 2 ∷ 71 ∷ 1 ∷ 71 ∷ 2 ∷ 72 ∷ 1 ∷ 72 ∷ 2 ∷ []))
     -- expression 3 carries no control bits, expression 1 no SBS
     ∷ (write (format A 3) (time 1 0) 1 refused 9)
     ∷ (ones 80 (format B 1) (time 191 5091200) 0 gives [])
