@@ -7,11 +7,11 @@ use borrow.Author.Tests.{lt-ltb, le-ltb, ltb-true, ne-eqb}
 use lib.Dec.{ltb}
 use lib.ListN.{getD}
 use Rattle.timecode.specs.Answers.{answerResult}
-use Rattle.timecode.specs.Demand3.{Demand3, SameAnswers, demand-3, two-readers}
+use Rattle.timecode.specs.Demand3.{Demand3, two-is-setting, SameAnswers, demand-3, two-readers}
 use Rattle.timecode.specs.Formats.{isSymbol, known, lookUp, rowOf, table}
 use Rattle.timecode.specs.Laws.Table.{everyFormat, of-every}
 use Rattle.timecode.specs.Laws.Tests.{by-test, clash, and-left, and-right}
-use Rattle.timecode.specs.Stream.{plainAnswers, elementsOf, SameWindow}
+use Rattle.timecode.specs.Stream.{twoFrames, plainAnswers, elementsOf, SameWindow}
 use Rattle.timecode.specs.declared.Answer.{Answer}
 use Rattle.timecode.specs.declared.Answer.the-variants.{Quiet, Report}
 use Rattle.timecode.specs.declared.Format.{Format}
@@ -171,7 +171,7 @@ module _ (letter expression : ℕ) (old : List ℕ) (k : known (formatOf letter 
   words-results-are-plain cs = words-results cs ∙ calls-are-plain f k cs .each-result
 
   -- the answers are the plain machine's to the symbols fed,
-  pub words-answers-are-plain : (cs : List ReaderCall) → allAnswers (wordsResults fresh cs) ≡ plainAnswers f [] (allFed (wordsResults fresh cs))
+  pub words-answers-are-plain : (cs : List ReaderCall) → allAnswers (wordsResults fresh cs) ≡ plainAnswers f twoFrames [] (allFed (wordsResults fresh cs))
   words-answers-are-plain cs = rw (words-results cs) (calls-are-plain f k cs .all-answers)
 
   -- and the words afterwards are those of the reader fed so.
@@ -179,16 +179,16 @@ module _ (letter expression : ℕ) (old : List ℕ) (k : known (formatOf letter 
   words-after-calls cs = ap (λ (words : List ℕ). wordsAfterCalls words cs) made-words ∙ words-of-reader (freshReader f) (known-bytes f k) cs
 
   -- So demand 3 holds of them.
-  pub words-demand-3 : (cs : List ReaderCall) (none : Answer) → Demand3 f (allFed (wordsResults fresh cs)) (allAnswers (wordsResults fresh cs)) none
-  words-demand-3 cs = demand-3 f (allFed (wordsResults fresh cs)) (allAnswers (wordsResults fresh cs)) (words-answers-are-plain cs)
+  pub words-demand-3 : (cs : List ReaderCall) (none : Answer) → Demand3 f twoFrames (allFed (wordsResults fresh cs)) (allAnswers (wordsResults fresh cs)) none
+  words-demand-3 cs = demand-3 f twoFrames two-is-setting (allFed (wordsResults fresh cs)) (allAnswers (wordsResults fresh cs)) (words-answers-are-plain cs)
 
 -- Two readers in two memories.
 pub two-words-agree : (letter expression : ℕ) (old other : List ℕ) → known (formatOf letter expression) ≡ true → (cs ds : List ReaderCall) (ss rs xs : List ℕ)
     → allFed (wordsResults (freshLeft letter expression old) cs) ≡ ss ++ xs → allFed (wordsResults (freshLeft letter expression other) ds) ≡ rs ++ xs
-    → SameWindow (formatOf letter expression) (elementsOf ss) (elementsOf rs)
+    → SameWindow (formatOf letter expression) twoFrames (elementsOf ss) (elementsOf rs)
     → (none : Answer) → SameAnswers ss rs (allAnswers (wordsResults (freshLeft letter expression old) cs)) (allAnswers (wordsResults (freshLeft letter expression other) ds)) none
 two-words-agree letter expression old other k cs ds ss rs xs first second =
     let f = formatOf letter expression in
-    two-readers f ss rs xs (allAnswers (wordsResults (freshLeft letter expression old) cs)) (allAnswers (wordsResults (freshLeft letter expression other) ds))
-    (words-answers-are-plain letter expression old k cs ∙ ap (plainAnswers f []) first)
-    (words-answers-are-plain letter expression other k ds ∙ ap (plainAnswers f []) second)
+    two-readers f twoFrames ss rs xs (allAnswers (wordsResults (freshLeft letter expression old) cs)) (allAnswers (wordsResults (freshLeft letter expression other) ds))
+    (words-answers-are-plain letter expression old k cs ∙ ap (plainAnswers f twoFrames []) first)
+    (words-answers-are-plain letter expression other k ds ∙ ap (plainAnswers f twoFrames []) second)

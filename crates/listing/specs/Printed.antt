@@ -6,7 +6,7 @@ use lib.Dec.{eqb, leb}
 use lib.ListN.{getD, length, drop}
 use Rattle.timecode.specs.Answers.{refusalNumber}
 use Rattle.timecode.specs.Formats.{known}
-use Rattle.timecode.specs.Stream.{plainAnswers}
+use Rattle.timecode.specs.Stream.{twoFrames, plainAnswers}
 use Rattle.timecode.specs.declared.Answer.{Answer}
 use Rattle.timecode.specs.declared.Answer.the-variants.{Quiet, Report}
 use Rattle.timecode.specs.declared.Format.{Format}
@@ -33,5 +33,5 @@ printedFor elements reports (Answer.Refused x ∷ as′) = refusedLine (refusalN
 unfoldable pub printed : List ℕ → List ℕ
 printed bytes =
     cond (isFirstLine bytes)
-    (printedFor 0 0 (plainAnswers (formatIn bytes) [] (feedsOf (drop 3 bytes))))
+    (printedFor 0 0 (plainAnswers (formatIn bytes) twoFrames [] (feedsOf (drop 3 bytes))))
     (refusedLine 1)

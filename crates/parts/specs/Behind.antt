@@ -12,7 +12,7 @@ use lib.Seq.{getD-append-add, getD-take, take-suc, take-suc-set, take-append-add
 use Rattle.timecode.specs.Formats.{isSymbol, size}
 use Rattle.timecode.specs.Laws.Runs.{length-tabulate, getD-tabulate}
 use Rattle.timecode.specs.Laws.Tests.{by-test}
-use Rattle.timecode.specs.Stream.{plainAnswer}
+use Rattle.timecode.specs.Stream.{twoFrames, plainAnswer}
 use Rattle.timecode.specs.declared.Answer.{Answer}
 use Rattle.timecode.specs.declared.Answer.the-variants.{Quiet}
 use Rattle.timecode.specs.declared.Format.{Format}
@@ -98,7 +98,7 @@ reader-start r ss = refl
 -- ---- the answers
 
 -- the answer of a valid reader to a symbol that it accepts
-answer-shown : (r : Reader) (held : List ℕ) (s : ℕ) → isValid r ≡ true → s ≤ 3 → RegisterShows (r .received) held → answerOf r s ≡ plainAnswer (r .format) (held ++ (s ∷ []))
+answer-shown : (r : Reader) (held : List ℕ) (s : ℕ) → isValid r ≡ true → s ≤ 3 → RegisterShows (r .received) held → answerOf r s ≡ plainAnswer (r .format) twoFrames (held ++ (s ∷ []))
 unfolding answerOf
 answer-shown r held s v b h = rw (v, le-leb s 3 b) (shown-answer (r .format) (pushOf (r .received) s) (held ++ (s ∷ [])) (push-shows (r .received) held s b h))
 
@@ -151,7 +151,7 @@ module _ (r : Reader) (ss held : List ℕ) (m : ℕ) (given : Behind r ss held m
       ∙ ap (λ (n : ℕ). take n held) more in
       answers-at r ss Quiet j (omega (arith, within))
       ∙ answer-shown q (past (r .received) ++ take j ss) (getD ss j 0) (valid-after r (take j ss) v) (accepted j b) (shown j (omega arith))
-      ∙ ap₂ plainAnswer (after-format r (take j ss)) list
+      ∙ ap₂ (λ (f : Format) (xs : List ℕ). plainAnswer f twoFrames xs) (after-format r (take j ss)) list
 
   pub among : m ≤ length (answers r ss)
   among = omega (arith, length-feed-answers r ss, within)

@@ -12,7 +12,7 @@ use Rattle.timecode.specs.Frames.{Sent, written, areSymbols, elements}
 use Rattle.timecode.specs.Laws.Table.{everyFormat, of-every}
 use Rattle.timecode.specs.Laws.Tests.{by-test, and-left, and-right}
 use Rattle.timecode.specs.Laws.Writing.{written-symbols}
-use Rattle.timecode.specs.Stream.{plainAnswers}
+use Rattle.timecode.specs.Stream.{twoFrames, plainAnswers}
 use Rattle.timecode.specs.declared.Format.{Format}
 use Rattle.timecode.specs.declared.Written.the-variants.{Done}
 use Rattle.lines.specs.Text.{space, newline}
@@ -88,11 +88,11 @@ module _ (f : Format) (k : known f ≡ true) (text : List ℕ) where
       rw (format-back, k, le-leb 3 (length (firstLine f ++ text)) (omega arith), le-leb 48 (48 + f .expression % 10) (omega arith))
 
 -- What timeread prints of the recording that timewrite prints is the listing of exactly the frames' elements.
-pub recording-is-read : (f : Format) (sent : List Sent) → known f ≡ true → printed (recordingText f sent) ≡ printedFor 0 0 (plainAnswers f [] (elements f sent))
+pub recording-is-read : (f : Format) (sent : List Sent) → known f ≡ true → printed (recordingText f sent) ≡ printedFor 0 0 (plainAnswers f twoFrames [] (elements f sent))
 unfolding printed recordingText
 recording-is-read f sent k = rw (first-is f k (framesText f sent), format-back f k (framesText f sent), feeds-of-frames f sent)
 
 -- So of the lines that timewrite prints, once its checks are passed.
-pub recording-read : (f : Format) (s : Start) (w year : ℕ) → begunOf f s w year ≡ Done → (k : ℕ) → printed (firstLine f ++ linesOf f s w year k) ≡ printedFor 0 0 (plainAnswers f [] (elements f (framesOf f s w year k)))
+pub recording-read : (f : Format) (s : Start) (w year : ℕ) → begunOf f s w year ≡ Done → (k : ℕ) → printed (firstLine f ++ linesOf f s w year k) ≡ printedFor 0 0 (plainAnswers f twoFrames [] (elements f (framesOf f s w year k)))
 unfolding recordingText
 recording-read f s w year b k = rw (lines-are f s w year b k) (recording-is-read f (framesOf f s w year k) (valid f s w year b .format))

@@ -4,10 +4,10 @@ use mathlib.Core.Bool.{true, cond}
 use mathlib.Core.List.{List, [], _∷_, _++_}
 use Prim.Native.Nat.{ℕ}
 use Rattle.timecode.specs.Calls.{symbolOf, isInterval}
-use Rattle.timecode.specs.Demand3.{Demand3, SameAnswers, demand-3, two-readers}
+use Rattle.timecode.specs.Demand3.{Demand3, two-is-setting, SameAnswers, demand-3, two-readers}
 use Rattle.timecode.specs.Formats.{known}
 use Rattle.timecode.specs.Laws.Tests.{by-test}
-use Rattle.timecode.specs.Stream.{plainAnswers, plainReceived, elementsOf, SameWindow}
+use Rattle.timecode.specs.Stream.{twoFrames, plainAnswers, plainReceived, elementsOf, SameWindow}
 use Rattle.timecode.specs.declared.Answer.{Answer}
 use Rattle.timecode.specs.declared.Format.{Format}
 use Rattle.stream.specs.FeedLists.{feed-answers-append, reader-append}
@@ -73,8 +73,8 @@ reader-is-fed r (c ∷ cs) =
 -- ---- from a fresh reader
 
 -- The plain machine's block takes symbols that it accepts, puts in their reports with their indexes, and stops where all are taken, where the machine refuses or where no room is left.
-pub plain-block-takes : (f : Format) (received ss : List ℕ) (l : Lists) → Takes 0 (roomIn l) (plainAnswers f received ss) (plainBlock f received ss l)
-plain-block-takes f received ss l = block-takes 0 (roomIn l) (plainAnswers f received ss)
+pub plain-block-takes : (f : Format) (received ss : List ℕ) (l : Lists) → Takes 0 (roomIn l) (plainAnswers f twoFrames received ss) (plainBlock f received ss l)
+plain-block-takes f received ss l = block-takes 0 (roomIn l) (plainAnswers f twoFrames received ss)
 
 module _ (f : Format) (k : known f ≡ true) where
   call-plain : (r : Reader) (received : List ℕ) (c : ReaderCall) → Receives f r received → callResult r c ≡ plainCallResult f received c
@@ -92,15 +92,15 @@ module _ (f : Format) (k : known f ≡ true) where
   results-plain r received (c ∷ cs) h =
       let same = call-plain r received c h in
       let fed = receives-after f k r received (symbolsFed (callResult r c)) h in
-      let next : Receives f (readerOf r c) (plainReceived f received (symbolsFed (plainCallResult f received c))) =
-      subst (λ (q : Reader). Receives f q (plainReceived f received (symbolsFed (plainCallResult f received c)))) (sym (call-reader r c))
-      (subst (λ (x : CallResult). Receives f (readerAfter r (symbolsFed (callResult r c))) (plainReceived f received (symbolsFed x))) same fed) in
-      ap₂ (λ (x : CallResult) (xs : List CallResult). x ∷ xs) same (results-plain (readerOf r c) (plainReceived f received (symbolsFed (plainCallResult f received c))) cs next)
+      let next : Receives f (readerOf r c) (plainReceived f twoFrames received (symbolsFed (plainCallResult f received c))) =
+      subst (λ (q : Reader). Receives f q (plainReceived f twoFrames received (symbolsFed (plainCallResult f received c)))) (sym (call-reader r c))
+      (subst (λ (x : CallResult). Receives f (readerAfter r (symbolsFed (callResult r c))) (plainReceived f twoFrames received (symbolsFed x))) same fed) in
+      ap₂ (λ (x : CallResult) (xs : List CallResult). x ∷ xs) same (results-plain (readerOf r c) (plainReceived f twoFrames received (symbolsFed (plainCallResult f received c))) cs next)
 
   -- Of any list of calls in any mix: each result is the plain machine's, the answers are the plain machine's to the symbols fed, and the reader afterwards is the one that single Feeds of these give.
   pub record ArePlain (cs : List ReaderCall) : Type 0 where
     pub each-result : callResults (freshReader f) cs ≡ plainCallResults f [] cs
-    pub all-answers : allAnswers (callResults (freshReader f) cs) ≡ plainAnswers f [] (allFed (callResults (freshReader f) cs))
+    pub all-answers : allAnswers (callResults (freshReader f) cs) ≡ plainAnswers f twoFrames [] (allFed (callResults (freshReader f) cs))
     pub reader-after : readerAfterCalls (freshReader f) cs ≡ readerAfter (freshReader f) (allFed (callResults (freshReader f) cs))
 
   pub calls-are-plain : (cs : List ReaderCall) → ArePlain cs
@@ -112,13 +112,13 @@ module _ (f : Format) (k : known f ≡ true) where
       }
 
   -- So demand 3 holds of any list of calls.
-  pub calls-demand-3 : (cs : List ReaderCall) (none : Answer) → Demand3 f (allFed (callResults (freshReader f) cs)) (allAnswers (callResults (freshReader f) cs)) none
-  calls-demand-3 cs = demand-3 f (allFed (callResults (freshReader f) cs)) (allAnswers (callResults (freshReader f) cs)) (calls-are-plain cs .all-answers)
+  pub calls-demand-3 : (cs : List ReaderCall) (none : Answer) → Demand3 f twoFrames (allFed (callResults (freshReader f) cs)) (allAnswers (callResults (freshReader f) cs)) none
+  calls-demand-3 cs = demand-3 f twoFrames two-is-setting (allFed (callResults (freshReader f) cs)) (allAnswers (callResults (freshReader f) cs)) (calls-are-plain cs .all-answers)
 
   -- Two readers, each by its own calls.
   pub two-callers-agree : (cs ds : List ReaderCall) (ss rs xs : List ℕ) → allFed (callResults (freshReader f) cs) ≡ ss ++ xs → allFed (callResults (freshReader f) ds) ≡ rs ++ xs
-      → SameWindow f (elementsOf ss) (elementsOf rs) → (none : Answer) → SameAnswers ss rs (allAnswers (callResults (freshReader f) cs)) (allAnswers (callResults (freshReader f) ds)) none
+      → SameWindow f twoFrames (elementsOf ss) (elementsOf rs) → (none : Answer) → SameAnswers ss rs (allAnswers (callResults (freshReader f) cs)) (allAnswers (callResults (freshReader f) ds)) none
   two-callers-agree cs ds ss rs xs first second =
-      two-readers f ss rs xs (allAnswers (callResults (freshReader f) cs)) (allAnswers (callResults (freshReader f) ds))
-      (calls-are-plain cs .all-answers ∙ ap (plainAnswers f []) first)
-      (calls-are-plain ds .all-answers ∙ ap (plainAnswers f []) second)
+      two-readers f twoFrames ss rs xs (allAnswers (callResults (freshReader f) cs)) (allAnswers (callResults (freshReader f) ds))
+      (calls-are-plain cs .all-answers ∙ ap (plainAnswers f twoFrames []) first)
+      (calls-are-plain ds .all-answers ∙ ap (plainAnswers f twoFrames []) second)

@@ -17,7 +17,8 @@ use Rattle.timecode.specs.Laws.Machine.{answer-long, answer-quiet, report-ends}
 use Rattle.timecode.specs.Laws.Marks.{accepted-first, accepted-last, accepted-length, accepted-before-last}
 use Rattle.timecode.specs.Laws.Table.{size-range}
 use Rattle.timecode.specs.Laws.Tests.{by-test, clash}
-use Rattle.timecode.specs.Stream.{windowLength, frameIn, confirm, windowAnswer, lastOf, plainAnswer, EndsInFrames}
+use Rattle.timecode.specs.Laws.Windows.{two-frames}
+use Rattle.timecode.specs.Stream.{twoFrames, windowLength, frameIn, confirm, lastOf, plainAnswer, EndsInFrames}
 use Rattle.timecode.specs.declared.Answer.{Answer}
 use Rattle.timecode.specs.declared.Answer.the-variants.{Quiet, Report}
 use Rattle.timecode.specs.declared.Format.{Format}
@@ -29,7 +30,7 @@ use Rattle.search.specs.declared.Found.{Found}
 
 -- the answer to the symbol at index i
 abbrev pub answerAt : Format → List ℕ → ℕ → Answer
-answerAt f held i = plainAnswer f (take (suc i) held)
+answerAt f held i = plainAnswer f twoFrames (take (suc i) held)
 
 -- n of the symbols, from an index on
 abbrev pub part : List ℕ → ℕ → ℕ → List ℕ
@@ -41,54 +42,54 @@ canEnd held n i = eqb (getD held i 0) 2 && (not (eqb (getD held (i - 1) 0) 2) &&
 
 -- ---- a list that ends in a mark and two frames
 
-module _ (f : Format) (held : List ℕ) (i : ℕ) (t : Time) (w : ℕ) (h : i < length held) (e : EndsInFrames f (take (suc i) held) t w) where
-  first-long : length (e .first) ≡ size f
-  first-long = accepted-length f (e .first) (e .first-time) (e .first-control) (e .first-accepted)
+module _ (f : Format) (held : List ℕ) (i : ℕ) (t : Time) (w : ℕ) (h : i < length held) (e : EndsInFrames f twoFrames (take (suc i) held) t w) where
+  first-long : length (e .frames 0) ≡ size f
+  first-long = accepted-length f (e .frames 0) (e .times 0) (e .controls 0) (e .accepted 0 (omega arith))
 
-  second-long : length (e .second) ≡ size f
-  second-long = accepted-length f (e .second) t w (e .second-accepted)
+  second-long : length (e .frames 1) ≡ size f
+  second-long = accepted-length f (e .frames 1) (e .times 1) (e .controls 1) (e .accepted 1 (omega arith))
 
   before-long : length (e .before) + (2 * size f + 1) ≡ suc i
   before-long =
-      let n : length (take (suc i) held) ≡ length (e .before) + suc (length (e .first) + length (e .second)) =
-      ap length (e .received-is) ∙ length-append (e .before) (2 ∷ (e .first ++ e .second)) ∙ ap (λ (k : ℕ). length (e .before) + suc k) (length-append (e .first) (e .second)) in
+      let n : length (take (suc i) held) ≡ length (e .before) + suc (length (e .frames 0) + length (e .frames 1)) =
+      ap length (e .received-is) ∙ length-append (e .before) (2 ∷ (e .frames 0 ++ e .frames 1)) ∙ ap (λ (k : ℕ). length (e .before) + suc k) (length-append (e .frames 0) (e .frames 1)) in
       omega (arith, n, length-take-le (suc i) held h, first-long, second-long)
 
-  frames-at : (k : ℕ) → k < 2 * size f → getD held (length (e .before) + suc k) 0 ≡ getD (e .first ++ e .second) k 0
+  frames-at : (k : ℕ) → k < 2 * size f → getD held (length (e .before) + suc k) 0 ≡ getD (e .frames 0 ++ e .frames 1) k 0
   frames-at k b =
       sym (getD-take (suc i) held (length (e .before) + suc k) 0 (omega (arith, before-long)))
       ∙ ap (λ (xs : List ℕ). getD xs (length (e .before) + suc k) 0) (e .received-is)
-      ∙ getD-append-add (e .before) (2 ∷ (e .first ++ e .second)) (suc k) 0
+      ∙ getD-append-add (e .before) (2 ∷ (e .frames 0 ++ e .frames 1)) (suc k) 0
 
   -- the symbol at index k of the first frame and of the second
-  first-at : (k : ℕ) → k < size f → getD held (length (e .before) + suc k) 0 ≡ getD (e .first) k 0
-  first-at k b = frames-at k (omega arith) ∙ List·getD-append (e .first) (e .second) 0 k (omega (arith, first-long))
+  first-at : (k : ℕ) → k < size f → getD held (length (e .before) + suc k) 0 ≡ getD (e .frames 0) k 0
+  first-at k b = frames-at k (omega arith) ∙ List·getD-append (e .frames 0) (e .frames 1) 0 k (omega (arith, first-long))
 
-  second-at : (k : ℕ) → k < size f → getD held (length (e .before) + suc (size f + k)) 0 ≡ getD (e .second) k 0
+  second-at : (k : ℕ) → k < size f → getD held (length (e .before) + suc (size f + k)) 0 ≡ getD (e .frames 1) k 0
   second-at k b =
       frames-at (size f + k) (omega arith)
-      ∙ ap (λ (m : ℕ). getD (e .first ++ e .second) (m + k) 0) (sym first-long)
-      ∙ getD-append-add (e .first) (e .second) k 0
+      ∙ ap (λ (m : ℕ). getD (e .frames 0 ++ e .frames 1) (m + k) 0) (sym first-long)
+      ∙ getD-append-add (e .frames 0) (e .frames 1) k 0
 
   last-is : getD held i 0 ≡ 2
   last-is =
       let at : i ≡ length (e .before) + suc (size f + (size f - 1)) = omega (arith, before-long, size-range f) in
-      ap (λ (k : ℕ). getD held k 0) at ∙ second-at (size f - 1) (omega (arith, size-range f)) ∙ accepted-last f (e .second) t w (e .second-accepted)
+      ap (λ (k : ℕ). getD held k 0) at ∙ second-at (size f - 1) (omega (arith, size-range f)) ∙ accepted-last f (e .frames 1) (e .times 1) (e .controls 1) (e .accepted 1 (omega arith))
 
   before-is : getD held (i - 1) 0 ≡ 2 → ⊥
   before-is m =
       let at : i - 1 ≡ length (e .before) + suc (size f + (size f - 2)) = omega (arith, before-long, size-range f) in
-      accepted-before-last f (e .second) t w (e .second-accepted) (sym (ap (λ (k : ℕ). getD held k 0) at ∙ second-at (size f - 2) (omega (arith, size-range f))) ∙ m)
+      accepted-before-last f (e .frames 1) (e .times 1) (e .controls 1) (e .accepted 1 (omega arith)) (sym (ap (λ (k : ℕ). getD held k 0) at ∙ second-at (size f - 2) (omega (arith, size-range f))) ∙ m)
 
   first-last-is : getD held (i - size f) 0 ≡ 2
   first-last-is =
       let at : i - size f ≡ length (e .before) + suc (size f - 1) = omega (arith, before-long, size-range f) in
-      ap (λ (k : ℕ). getD held k 0) at ∙ first-at (size f - 1) (omega (arith, size-range f)) ∙ accepted-last f (e .first) (e .first-time) (e .first-control) (e .first-accepted)
+      ap (λ (k : ℕ). getD held k 0) at ∙ first-at (size f - 1) (omega (arith, size-range f)) ∙ accepted-last f (e .frames 0) (e .times 0) (e .controls 0) (e .accepted 0 (omega arith))
 
   second-first-is : getD held (i + 1 - size f) 0 ≡ 2
   second-first-is =
       let at : i + 1 - size f ≡ length (e .before) + suc (size f + 0) = omega (arith, before-long, size-range f) in
-      ap (λ (k : ℕ). getD held k 0) at ∙ second-at 0 (omega (arith, size-range f)) ∙ accepted-first f (e .second) t w (e .second-accepted)
+      ap (λ (k : ℕ). getD held k 0) at ∙ second-at 0 (omega (arith, size-range f)) ∙ accepted-first f (e .frames 1) (e .times 1) (e .controls 1) (e .accepted 1 (omega arith))
 
   ends-can : canEnd held (size f) i ≡ true
   unfolding canEnd
@@ -96,7 +97,7 @@ module _ (f : Format) (held : List ℕ) (i : ℕ) (t : Time) (w : ℕ) (h : i < 
 
 -- without the marks no report comes
 pub unmarked-quiet : (f : Format) (held : List ℕ) (i : ℕ) → i < length held → canEnd held (size f) i ≡ false → answerAt f held i ≡ Quiet
-unmarked-quiet f held i h n = answer-quiet f (take (suc i) held) (λ t w r. clash (ends-can f held i t w h (report-ends f (take (suc i) held) t w r)) n)
+unmarked-quiet f held i h n = answer-quiet f twoFrames (take (suc i) held) (λ t w r. clash (ends-can f held i t w h (report-ends f 1 (take (suc i) held) t w r)) n)
 
 -- ---- the answer from the frames
 
@@ -117,7 +118,7 @@ part-of-taken held a n b h l =
 -- the symbol before two frames, and the frames, where they end at index i
 pub answer-of-frames : (f : Format) (held : List ℕ) (i : ℕ) → size f + size f ≤ i → i < length held
     → answerAt f held i ≡ cond (eqb (getD held (i - size f - size f) 0) 2) (confirm f (readOf f (part held (i - size f - size f + 1) (size f))) (readOf f (part held (i + 1 - size f) (size f)))) Quiet
-unfolding windowLength windowAnswer lastOf frameIn
+unfolding windowLength lastOf frameIn
 answer-of-frames f held i l h =
     let n : length (take (suc i) held) ≡ suc i = length-take-le (suc i) held h in
     let a = i - size f - size f in
@@ -125,7 +126,8 @@ answer-of-frames f held i l h =
     let lead : getD (drop a (take (suc i) held)) 0 0 ≡ getD held a 0 = getD-drop a (take (suc i) held) 0 0 ∙ ap (λ (k : ℕ). getD (take (suc i) held) k 0) (add-zero a) ∙ getD-take (suc i) held a 0 (omega arith) in
     let frame : (j b : ℕ) → a + (1 + size f * j) ≡ b → b + size f ≤ suc i → part (drop a (take (suc i) held)) (1 + size f * j) (size f) ≡ part held b (size f) =
     λ j b e under. ap (take (size f)) (drop-drop (1 + size f * j) a (take (suc i) held) ∙ ap (λ (k : ℕ). drop k (take (suc i) held)) e) ∙ part-of-taken held b (size f) (suc i) under h in
-    answer-long f (take (suc i) held) (omega (arith, n))
+    answer-long f twoFrames (take (suc i) held) (omega (arith, n))
+    ∙ two-frames f (lastOf (windowLength f twoFrames) (take (suc i) held))
     ∙ rw (front, lead, frame 0 (a + 1) (omega arith) (omega arith), frame 1 (i + 1 - size f) (omega arith) (omega arith))
 
 -- ---- what the search knows and finds

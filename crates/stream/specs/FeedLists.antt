@@ -13,7 +13,7 @@ use Rattle.timecode.specs.Laws.Checks.{refused-no-report}
 use Rattle.timecode.specs.Laws.Marks.{size-positive}
 use Rattle.timecode.specs.Laws.Tests.{by-test, and-left}
 use Rattle.timecode.specs.Laws.Windows.{window-quiet}
-use Rattle.timecode.specs.Stream.{windowAnswer}
+use Rattle.timecode.specs.Stream.{twoFrames, windowAnswer}
 use Rattle.timecode.specs.declared.Answer.{Answer}
 use Rattle.timecode.specs.declared.Answer.the-variants.{Quiet}
 use Rattle.timecode.specs.declared.Format.{Format}
@@ -75,8 +75,8 @@ refused-above r s v h = rw (v, lt-leb s 3 h)
 pub quiet-no-refusal : (x : Refusal) → Quiet ≡ Answer.Refused x → ⊥
 quiet-no-refusal x h = let n : _≡_ {A = ℕ} 0 1 = cc in omega arith
 
-window-no-refusal : (f : Format) (window : List ℕ) (x : Refusal) → windowAnswer f window ≡ Answer.Refused x → ⊥
-window-no-refusal f window x h = quiet-no-refusal x (sym (window-quiet f window (λ t w e. refused-no-report x t w (sym h ∙ e))) ∙ h)
+window-no-refusal : (f : Format) (window : List ℕ) (x : Refusal) → windowAnswer f twoFrames window ≡ Answer.Refused x → ⊥
+window-no-refusal f window x h = quiet-no-refusal x (sym (window-quiet f twoFrames window (λ t w e. refused-no-report x t w (sym h ∙ e))) ∙ h)
 
 -- the symbol of a refused Feed of a valid reader is above 3
 pub above-refused : (r : Reader) (s : ℕ) (x : Refusal) → isValid r ≡ true → answerOf r s ≡ Answer.Refused x → 3 < s

@@ -8,7 +8,7 @@ use lib.Dec.{eqb, ltb}
 use Rattle.timecode.specs.Answers.{check, Result, success, refusalResult}
 use Rattle.timecode.specs.Formats.{isSymbol, known, size}
 use Rattle.timecode.specs.Laws.Tests.{and-right}
-use Rattle.timecode.specs.Stream.{windowLength, windowAnswer}
+use Rattle.timecode.specs.Stream.{twoFrames, windowLength, windowAnswer}
 use Rattle.timecode.specs.declared.Answer.{Answer}
 use Rattle.timecode.specs.declared.Format.{Format}
 use Rattle.timecode.specs.declared.Refusal.the-variants.{UnknownFormat, UnknownSymbol, InvalidReader}
@@ -62,14 +62,14 @@ passOf r s = cond (eqb s 2) Passed.NotPassed (cond (isSymbol s && isValid r) (Pa
 
 -- the last 2n + 1 symbols, oldest first
 unfoldable pub windowIn : Format → List ℕ → List ℕ
-windowIn f words = heardFrame words 0 (windowLength f)
+windowIn f words = heardFrame words 0 (windowLength f twoFrames)
 
 -- Feed checks 13, 4.
 unfoldable pub answerOf : Reader → ℕ → Answer
 answerOf r s =
     check Answer.Refused InvalidReader (isValid r)  -- 13
     (check Answer.Refused UnknownSymbol (isSymbol s)  -- 4
-    (windowAnswer (r .format) (windowIn (r .format) (wordsOf (pushOf (r .received) s)))))
+    (windowAnswer (r .format) twoFrames (windowIn (r .format) (wordsOf (pushOf (r .received) s)))))
 
 unfoldable pub feedOf : Reader → ℕ → Fed
 feedOf r s = record { reader = nextOf r s; answer = answerOf r s }

@@ -15,8 +15,8 @@ use Rattle.timecode.specs.Laws.Marks.{accepted-before-last}
 use Rattle.timecode.specs.Laws.Runs.{length-tabulate, getD-tabulate}
 use Rattle.timecode.specs.Laws.Table.{size-range}
 use Rattle.timecode.specs.Laws.Tests.{by-test, clash, and-left, and-right}
-use Rattle.timecode.specs.Laws.Windows.{Confirmed, length-frame-in, at-frame, first-of, last-of, before-of, second-reads, window-confirmed, window-quiet}
-use Rattle.timecode.specs.Stream.{windowLength, frameIn, confirm, windowAnswer}
+use Rattle.timecode.specs.Laws.Windows.{Confirmed, length-frame-in, at-frame, first-of, last-of, before-of, last-reads, window-confirmed, window-quiet, two-frames}
+use Rattle.timecode.specs.Stream.{twoFrames, windowLength, frameIn, confirm, windowAnswer}
 use Rattle.timecode.specs.declared.Answer.the-variants.{Quiet}
 use Rattle.timecode.specs.declared.Format.{Format}
 use Rattle.timecode.specs.declared.Time.{Time}
@@ -28,9 +28,9 @@ use Rattle.stream.specs.declared.Reader.{Reader}
 
 -- ---- the window's symbols and frames
 
-pub length-window : (f : Format) (words : List ℕ) → length (windowIn f words) ≡ windowLength f
+pub length-window : (f : Format) (words : List ℕ) → length (windowIn f words) ≡ windowLength f twoFrames
 unfolding windowIn heardFrame
-length-window f words = length-tabulate (windowLength f) 0 (λ i. heardAt words (0 + (windowLength f - 1 - i)))
+length-window f words = length-tabulate (windowLength f twoFrames) 0 (λ i. heardAt words (0 + (windowLength f twoFrames - 1 - i)))
 
 symbol-back : (words : List ℕ) (back n i : ℕ) → i < n → getD (heardFrame words back n) i 0 ≡ heardAt words (back + (n - 1 - i))
 unfolding heardFrame
@@ -56,11 +56,10 @@ window-frame f words j back b e =
 
 -- behind a mark the two frames decide
 pub marked-answer : (f : Format) (words : List ℕ) → heardAt words (size f + size f) ≡ 2
-    → confirm f (readOf f (heardFrame words (size f) (size f))) (readOf f (heardFrame words 0 (size f))) ≡ windowAnswer f (windowIn f words)
-unfolding windowAnswer
+    → confirm f (readOf f (heardFrame words (size f) (size f))) (readOf f (heardFrame words 0 (size f))) ≡ windowAnswer f twoFrames (windowIn f words)
 marked-answer f words lead =
     let first : getD (windowIn f words) 0 0 ≡ 2 = window-at f words 0 (size f + size f) (omega arith) ∙ lead in
-    sym (rw (eq-eqb (getD (windowIn f words) 0 0) 2 first, window-frame f words 0 (size f) (omega arith) (omega arith), window-frame f words 1 0 (omega arith) (omega arith)))
+    sym (two-frames f (windowIn f words) ∙ rw (eq-eqb (getD (windowIn f words) 0 0) 2 first, window-frame f words 0 (size f) (omega arith) (omega arith), window-frame f words 1 0 (omega arith) (omega arith)))
 
 -- ---- the marks
 
@@ -94,7 +93,7 @@ module _ (f : Format) (words : List ℕ) (t : Time) (w : ℕ) (c : Confirmed f 1
 
   confirmed-before : heardAt words 1 ≡ 2 → ⊥
   confirmed-before h =
-      accepted-before-last f (frameIn f (windowIn f words) 1) t w (second-reads f (windowIn f words) t w c)
+      accepted-before-last f (frameIn f (windowIn f words) 1) t w (last-reads f 1 (windowIn f words) t w c)
       (at-frame f (windowIn f words) 1 (size f - 2) (omega (arith, size-range f)) ∙ window-at f words (1 + size f * 1 + (size f - 2)) 1 (omega (arith, size-range f)) ∙ h)
 
   confirmed-marks : marksStand words (size f) ≡ true
@@ -111,13 +110,13 @@ module _ (f : Format) (words : List ℕ) (t : Time) (w : ℕ) (c : Confirmed f 1
       )
 
 -- without the marks there is no report
-pub unmarked-quiet : (f : Format) (words : List ℕ) → marksStand words (size f) ≡ false → Quiet ≡ windowAnswer f (windowIn f words)
-unmarked-quiet f words h = sym (window-quiet f (windowIn f words) (λ t w r. clash (confirmed-marks f words t w (window-confirmed f (windowIn f words) t w r)) h))
+pub unmarked-quiet : (f : Format) (words : List ℕ) → marksStand words (size f) ≡ false → Quiet ≡ windowAnswer f twoFrames (windowIn f words)
+unmarked-quiet f words h = sym (window-quiet f twoFrames (windowIn f words) (λ t w r. clash (confirmed-marks f words t w (window-confirmed f 1 (windowIn f words) t w r)) h))
 
-pub unmarked-symbol-quiet : (f : Format) (r : Register) (s : ℕ) → s ≤ 3 → (s ≡ 2 → ⊥) → Quiet ≡ windowAnswer f (windowIn f (wordsOf (pushOf r s)))
+pub unmarked-symbol-quiet : (f : Format) (r : Register) (s : ℕ) → s ≤ 3 → (s ≡ 2 → ⊥) → Quiet ≡ windowAnswer f twoFrames (windowIn f (wordsOf (pushOf r s)))
 unmarked-symbol-quiet f r s b n =
     let words = wordsOf (pushOf r s) in
-    sym (window-quiet f (windowIn f words) (λ t w a. n (let newest = sym (heard-newest r s) ∙ confirmed-newest f words t w (window-confirmed f (windowIn f words) t w a) in omega arith)))
+    sym (window-quiet f twoFrames (windowIn f words) (λ t w a. n (let newest = sym (heard-newest r s) ∙ confirmed-newest f words t w (window-confirmed f 1 (windowIn f words) t w a) in omega arith)))
 
 -- the answer to a symbol that is no mark
 pub unmarked-symbol-answer : (r : Reader) (s : ℕ) → isValid r ≡ true → s ≤ 3 → (s ≡ 2 → ⊥) → answerOf r s ≡ Quiet

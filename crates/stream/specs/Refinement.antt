@@ -10,13 +10,13 @@ use borrow.Author.Tests.{lt-ltb, le-ltb, le-leb, lt-leb, ltb-true, ltb-false, eq
 use lib.Dec.{ltb, eqb}
 use lib.ListN.{getD, length, drop, length-append, length-drop, List·getD-append}
 use lib.Seq.{ext-getD, getD-drop, getD-append-add}
-use Rattle.timecode.specs.Demand3.{Demand3, SameAnswers, holds-the-elements, demand-3, two-readers}
+use Rattle.timecode.specs.Demand3.{Demand3, two-is-setting, SameAnswers, holds-the-elements, demand-3, two-readers}
 use Rattle.timecode.specs.Formats.{known, size}
 use Rattle.timecode.specs.Laws.Machine.{feed-accepts, feed-refuses, answer-long, answer-short}
 use Rattle.timecode.specs.Laws.Marks.{size-positive}
 use Rattle.timecode.specs.Laws.Table.{size-range}
 use Rattle.timecode.specs.Laws.Tests.{by-test, everyBelow, below-every}
-use Rattle.timecode.specs.Stream.{windowLength, windowAnswer, lastOf, plainAnswer, plainFeed, plainAnswers, plainReceived, elementsOf, SameWindow}
+use Rattle.timecode.specs.Stream.{twoFrames, windowLength, windowAnswer, lastOf, plainAnswer, plainFeed, plainAnswers, plainReceived, elementsOf, SameWindow}
 use Rattle.timecode.specs.declared.Answer.{Answer}
 use Rattle.timecode.specs.declared.Answer.the-variants.{Quiet}
 use Rattle.timecode.specs.declared.Format.{Format}
@@ -71,7 +71,7 @@ push-shows r received s b h (suc back) l =
 
 -- ---- then its window is the plain machine's, or begins with a spoiled symbol where that has none
 
-shown-window : (f : Format) (r : Register) (received : List ℕ) → RegisterShows r received → windowLength f ≤ length received → windowIn f (wordsOf r) ≡ lastOf (windowLength f) received
+shown-window : (f : Format) (r : Register) (received : List ℕ) → RegisterShows r received → windowLength f twoFrames ≤ length received → windowIn f (wordsOf r) ≡ lastOf (windowLength f twoFrames) received
 unfolding windowLength lastOf
 shown-window f r received h l =
     ext-getD 0 (windowIn f (wordsOf r)) (drop (length received - (2 * size f + 1)) received) (length-window f (wordsOf r) ∙ sym (length-drop (length received - (2 * size f + 1)) received ∙ omega arith))
@@ -82,18 +82,18 @@ shown-window f r received h l =
     ∙ h (2 * size f - i) (omega (arith, size-range f))
     ∙ rw (lt-ltb (2 * size f - i) (length received) (omega arith)) (ap (λ (j : ℕ). getD received j 0) (omega arith) ∙ sym (getD-drop (length received - (2 * size f + 1)) received i 0)))
 
-short-window : (f : Format) (r : Register) (received : List ℕ) → RegisterShows r received → length received < windowLength f → windowAnswer f (windowIn f (wordsOf r)) ≡ Quiet
+short-window : (f : Format) (r : Register) (received : List ℕ) → RegisterShows r received → length received < windowLength f twoFrames → windowAnswer f twoFrames (windowIn f (wordsOf r)) ≡ Quiet
 unfolding windowLength windowAnswer
 short-window f r received h l =
     let first : getD (windowIn f (wordsOf r)) 0 0 ≡ 3 = window-at f (wordsOf r) 0 (2 * size f) (omega arith) ∙ h (2 * size f) (omega (arith, size-range f)) ∙ rw (le-ltb (2 * size f) (length received) (omega arith)) in
     rw first
 
-pub shown-answer : (f : Format) (r : Register) (received : List ℕ) → RegisterShows r received → windowAnswer f (windowIn f (wordsOf r)) ≡ plainAnswer f received
-shown-answer f r received h = go (decLe (windowLength f) (length received))
+pub shown-answer : (f : Format) (r : Register) (received : List ℕ) → RegisterShows r received → windowAnswer f twoFrames (windowIn f (wordsOf r)) ≡ plainAnswer f twoFrames received
+shown-answer f r received h = go (decLe (windowLength f twoFrames) (length received))
   where
-    go : Dec (windowLength f ≤ length received) → windowAnswer f (windowIn f (wordsOf r)) ≡ plainAnswer f received
-    go (yes l) = ap (windowAnswer f) (shown-window f r received h l) ∙ sym (answer-long f received l)
-    go (no l) = short-window f r received h (omega arith) ∙ sym (answer-short f received (omega arith))
+    go : Dec (windowLength f twoFrames ≤ length received) → windowAnswer f twoFrames (windowIn f (wordsOf r)) ≡ plainAnswer f twoFrames received
+    go (yes l) = ap (windowAnswer f twoFrames) (shown-window f r received h l) ∙ sym (answer-long f twoFrames received l)
+    go (no l) = short-window f r received h (omega arith) ∙ sym (answer-short f twoFrames received (omega arith))
 
 -- ---- one Feed: the reader goes on showing what the plain machine has received
 
@@ -110,17 +110,17 @@ pub receives-valid : (f : Format) (r : Reader) (received : List ℕ) → known f
 unfolding isValid
 receives-valid f r received k h = rw (h .same-format, k, h .place-is) (lt-ltb (length received % size f) (size f) (mod-lt (length received) (size-positive f)))
 
-pub feed-receives : (f : Format) (r : Reader) (received : List ℕ) (s : ℕ) → known f ≡ true → Receives f r received → (feedOf r s .answer ≡ plainFeed f received s .answer) × Receives f (feedOf r s .reader) (plainFeed f received s .received)
+pub feed-receives : (f : Format) (r : Reader) (received : List ℕ) (s : ℕ) → known f ≡ true → Receives f r received → (feedOf r s .answer ≡ plainFeed f twoFrames received s .answer) × Receives f (feedOf r s .reader) (plainFeed f twoFrames received s .received)
 unfolding feedOf answerOf nextOf
 feed-receives f r received s k h = go (decLe s 3)
   where
     valid : isValid r ≡ true
     valid = receives-valid f r received k h
 
-    go : Dec (s ≤ 3) → (feedOf r s .answer ≡ plainFeed f received s .answer) × Receives f (feedOf r s .reader) (plainFeed f received s .received)
+    go : Dec (s ≤ 3) → (feedOf r s .answer ≡ plainFeed f twoFrames received s .answer) × Receives f (feedOf r s .reader) (plainFeed f twoFrames received s .received)
     go (yes l) =
         let shown = push-shows (r .received) received s l (h .shows) in
-        rw (feed-accepts f received s l, valid, le-leb s 3 l) (
+        rw (feed-accepts f twoFrames received s l, valid, le-leb s 3 l) (
           rw (h .same-format) (shown-answer f (pushOf (r .received) s) (received ++ (s ∷ [])) shown),
           record {
             same-format = h .same-format;
@@ -128,41 +128,41 @@ feed-receives f r received s k h = go (decLe s 3)
             shows = shown;
           },
         )
-    go (no l) = rw (feed-refuses f received s (omega arith), valid, lt-leb s 3 (omega arith)) (refl, h)
+    go (no l) = rw (feed-refuses f twoFrames received s (omega arith), valid, lt-leb s 3 (omega arith)) (refl, h)
 
 -- ---- Demand 3
 
 module _ (f : Format) (k : known f ≡ true) where
-  pub answers-plain : (r : Reader) (received ss : List ℕ) → Receives f r received → answers r ss ≡ plainAnswers f received ss
+  pub answers-plain : (r : Reader) (received ss : List ℕ) → Receives f r received → answers r ss ≡ plainAnswers f twoFrames received ss
   unfolding answers plainAnswers
   answers-plain r received [] h = refl
   answers-plain r received (s ∷ ss) h =
       let fed = feed-receives f r received s k h in
-      ap₂ (λ (a : Answer) (as′ : List Answer). a ∷ as′) (fed .0) (answers-plain (feedOf r s .reader) (plainFeed f received s .received) ss (fed .1))
+      ap₂ (λ (a : Answer) (as′ : List Answer). a ∷ as′) (fed .0) (answers-plain (feedOf r s .reader) (plainFeed f twoFrames received s .received) ss (fed .1))
 
-  pub receives-after : (r : Reader) (received ss : List ℕ) → Receives f r received → Receives f (readerAfter r ss) (plainReceived f received ss)
+  pub receives-after : (r : Reader) (received ss : List ℕ) → Receives f r received → Receives f (readerAfter r ss) (plainReceived f twoFrames received ss)
   unfolding readerAfter plainReceived
   receives-after r received [] h = h
-  receives-after r received (s ∷ ss) h = receives-after (feedOf r s .reader) (plainFeed f received s .received) ss (feed-receives f r received s k h .1)
+  receives-after r received (s ∷ ss) h = receives-after (feedOf r s .reader) (plainFeed f twoFrames received s .received) ss (feed-receives f r received s k h .1)
 
   -- With every Feed of the list the answer is the plain machine's, refusals too.
-  pub answers-are-plain : (ss : List ℕ) → answers (freshReader f) ss ≡ plainAnswers f [] ss
+  pub answers-are-plain : (ss : List ℕ) → answers (freshReader f) ss ≡ plainAnswers f twoFrames [] ss
   answers-are-plain ss = answers-plain (freshReader f) [] ss (fresh-receives f)
 
   -- So all that demand 3 says holds of them.
-  pub reader-demand-3 : (ss : List ℕ) (none : Answer) → Demand3 f ss (answers (freshReader f) ss) none
-  reader-demand-3 ss none = demand-3 f ss (answers (freshReader f) ss) (answers-are-plain ss) none
+  pub reader-demand-3 : (ss : List ℕ) (none : Answer) → Demand3 f twoFrames ss (answers (freshReader f) ss) none
+  reader-demand-3 ss none = demand-3 f twoFrames two-is-setting ss (answers (freshReader f) ss) (answers-are-plain ss) none
 
-  pub two-readers-agree : (ss rs xs : List ℕ) → SameWindow f (elementsOf ss) (elementsOf rs)
+  pub two-readers-agree : (ss rs xs : List ℕ) → SameWindow f twoFrames (elementsOf ss) (elementsOf rs)
       → (none : Answer) → SameAnswers ss rs (answers (freshReader f) (ss ++ xs)) (answers (freshReader f) (rs ++ xs)) none
-  two-readers-agree ss rs xs = two-readers f ss rs xs (answers (freshReader f) (ss ++ xs)) (answers (freshReader f) (rs ++ xs)) (answers-are-plain (ss ++ xs)) (answers-are-plain (rs ++ xs))
+  two-readers-agree ss rs xs = two-readers f twoFrames ss rs xs (answers (freshReader f) (ss ++ xs)) (answers (freshReader f) (rs ++ xs)) (answers-are-plain (ss ++ xs)) (answers-are-plain (rs ++ xs))
 
-  pub fed-receives : (ss : List ℕ) → Receives f (readerAfter (freshReader f) ss) (plainReceived f [] ss)
+  pub fed-receives : (ss : List ℕ) → Receives f (readerAfter (freshReader f) ss) (plainReceived f twoFrames [] ss)
   fed-receives ss = receives-after (freshReader f) [] ss (fresh-receives f)
 
   -- A reader made by feeding a fresh one never meets 13, and its place is the number of its elements modulo n.
   pub fed-is-valid : (ss : List ℕ) → isValid (readerAfter (freshReader f) ss) ≡ true
-  fed-is-valid ss = receives-valid f (readerAfter (freshReader f) ss) (plainReceived f [] ss) k (fed-receives ss)
+  fed-is-valid ss = receives-valid f (readerAfter (freshReader f) ss) (plainReceived f twoFrames [] ss) k (fed-receives ss)
 
   pub fed-place : (ss : List ℕ) → readerAfter (freshReader f) ss .place ≡ length (elementsOf ss) % size f
-  fed-place ss = fed-receives ss .place-is ∙ ap (λ (received : List ℕ). length received % size f) (holds-the-elements f ss)
+  fed-place ss = fed-receives ss .place-is ∙ ap (λ (received : List ℕ). length received % size f) (holds-the-elements f twoFrames ss)

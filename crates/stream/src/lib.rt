@@ -6,7 +6,7 @@ ghost use Prim.Native.Nat.{_+_, _%_, _≤_, _<_};
 ghost use lib.ListN.{length};
 ghost use Rattle.timecode.specs.Formats.{known};
 ghost use Rattle.timecode.specs.Frames.{readOf};
-ghost use Rattle.timecode.specs.Stream.{confirm, windowAnswer};
+ghost use Rattle.timecode.specs.Stream.{twoFrames, confirm, windowAnswer};
 ghost use Rattle.register.specs.Symbols.{heardFrame};
 ghost use Rattle.stream.specs.Feeding.{isValid, madeOf, nextOf, passOf, windowIn, answerOf, feedOf};
 ghost use Rattle.stream.specs.Marked.{marksStand};
@@ -149,7 +149,7 @@ fn confirm_frames(format: Format, words: &[u64], n: usize) -> Answer
 // The marks are looked at first: without them no frame is read.
 fn window_answer(format: Format, words: &[u64]) -> Answer
     requires { ⌜ length (now words) ≡ 7 ⌝ }
-    ensures { λ r. ⌜ r ≡ windowAnswer format (windowIn format (now (words .entry))) ⌝ }
+    ensures { λ r. ⌜ r ≡ windowAnswer format twoFrames (windowIn format (now (words .entry))) ⌝ }
 {
     let n = frame_size(format);
     if has_marks(words, n) {

@@ -11,7 +11,7 @@ use Rattle.timecode.specs.Calls.{symbolOf, isInterval, classifyOf, symbo
 use Rattle.timecode.specs.Formats.{A, B, D, E, G, H, table, lookUp, rowOf, known, size, interval, carriesControl, carriesSeconds, inRange, onFormat, carriesLeap, secondCarried}
 use Rattle.timecode.specs.Frames.{inYear, dayAfter, usual, secondAdded, secondTaken, dayLengthOf, dayEnd, onDay, following, stepOf, nextAfter, written, controlFits, writeOf, writeLeaves, marksAgree, elementFits, checkElements, lastSecond, isTime, timeIn, secondsAgree, readOf}
 use Rattle.timecode.specs.Layout.{seconds, minutes, hours, days, tenths, hundredthsDigit, hasSeconds, straightSeconds, control, timeFields, fields, runs, timeNumbers, numbers, isMark, filler, symbolAt, encode, value}
-use Rattle.timecode.specs.Stream.{windowLength, frameIn, confirm, windowAnswer, lastOf, plainAnswer}
+use Rattle.timecode.specs.Stream.{twoFrames, windowLength, frameIn, nextInRow, inRow, windowAnswer, lastOf, plainAnswer}
 use Rattle.timecode.specs.declared.Format.{Format}
 use Rattle.timecode.specs.declared.Time.{Time}
 
@@ -62,7 +62,7 @@ resultOf (frame f t w) = record { number = 0; values = map pos (writeLeaves f t 
 resultOf (ones k f t w) = record { number = 0; values = onesFrom k (drop k (writeLeaves f t w (lent f))) }
 resultOf formats = record { number = 0; values = formatsFrom 64 27 }
 resultOf (read f bytes) = readingResult (readOf f bytes)
-resultOf (feed f received) = answerResult (plainAnswer f received)
+resultOf (feed f received) = answerResult (plainAnswer f twoFrames received)
 resultOf (difference t u) = subtractedResult (differenceOf t u)
 resultOf (classify T width period) = classifiedResult (classifyOf T width period)
 resultOf (list T widths periods k) = writtenResult (classifyListOf T widths periods (replicate k 0))
@@ -184,5 +184,5 @@ lines =
     ∷ []
 
 pub all-lines : map (λ l. resultOf (l .call)) lines ≡ map (λ l. l .result) lines
-unfolding lines readOf checkElements marksAgree elementFits lastSecond isTime timeIn secondsAgree value scanOf lowestOf partAt stepOf nextAfter known rowOf lookUp table size interval carriesControl carriesSeconds inRange onFormat carriesLeap secondCarried inYear dayAfter dayLengthOf dayEnd onDay following writeOf writeLeaves written controlFits encode symbolAt filler isMark runs fields timeFields numbers timeNumbers seconds minutes hours days tenths hundredthsDigit straightSeconds hasSeconds control differenceOf classifyOf isInterval symbolOf symbolsOf classifyListOf classifyListLeaves windowLength frameIn confirm windowAnswer lastOf plainAnswer
+unfolding lines readOf checkElements marksAgree elementFits lastSecond isTime timeIn secondsAgree value scanOf lowestOf partAt stepOf nextAfter known rowOf lookUp table size interval carriesControl carriesSeconds inRange onFormat carriesLeap secondCarried inYear dayAfter dayLengthOf dayEnd onDay following writeOf writeLeaves written controlFits encode symbolAt filler isMark runs fields timeFields numbers timeNumbers seconds minutes hours days tenths hundredthsDigit straightSeconds hasSeconds control differenceOf classifyOf isInterval symbolOf symbolsOf classifyListOf classifyListLeaves windowLength frameIn nextInRow inRow windowAnswer lastOf plainAnswer
 all-lines = refl

@@ -74,7 +74,7 @@ loop-less-2 : tie.Need-loop-less-2 Inv-loop μ-loop
 loop-less-2 c = omega (arith, c .before .before .before .before .next-end .ensures, c .before .before .before .before .before .loop-test .taken)
 
 loop-again-2 : tie.Need-loop-again-2 Inv-loop μ-loop
-loop-again-2 c = absurd (answer-no-refusal _ _ _ (sym (c .before .before .answer-at .ensures) ∙ c .enum-told2 .given .1))
+loop-again-2 c = absurd (answer-no-refusal _ _ _ _ (sym (c .before .before .answer-at .ensures) ∙ c .enum-told2 .given .1))
 
 returns-3 : tie.Need-returns-3 Inv-loop μ-loop
 returns-3 c =

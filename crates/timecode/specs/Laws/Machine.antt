@@ -1,22 +1,23 @@
--- The plain machine: exactly when it reports, and that its answers depend on the last 2n + 1 symbols alone.
+-- The plain machine with the setting k: exactly when it reports, that its answers depend on the last kn + 1 symbols alone, and that a higher setting reports a part of what a lower one reports.
 use mathlib.Core.Path.{_≡_, refl, sym, ap, ap₂, _∙_, subst}
 use mathlib.Core.Bool.{cond}
 use mathlib.Core.List.{List, [], _∷_, _++_, append-assoc, append-nil}
 use mathlib.Core.Logic.{_↔_}
 use Prim.Native.Nat.{ℕ, zero, suc, _+_, _*_, _-_, _<_, _≤_}
-use native.Mathlib.Nat.{not-suc-le-zero}
+use native.Mathlib.Nat.{not-suc-le-zero, mul-zero, mul-le-mul-left}
 use native.Mathlib.Omega.{arith}
-use native.Mathlib.Decide.{decLe, decLt}
+use native.Mathlib.Decide.{ℕ-discrete, decLe, decLt}
 use borrow.Author.Tests.{leb-true, leb-false, le-leb, lt-leb}
 use lib.ListN.{getD, length, take, drop, length-append, length-drop, take-append-drop}
-use lib.Seq.{drop-cons, drop-drop, drop-at, take-at, take-all, drop-append-le}
+use lib.Seq.{drop-cons, drop-drop, drop-at, take-all, take-add, take-append-le, drop-append-le, getD-drop}
 use Rattle.timecode.specs.Formats.{isSymbol, size}
 use Rattle.timecode.specs.Laws.Checks.{quiet-no-report, refused-no-report}
 use Rattle.timecode.specs.Laws.Marks.{accepted-length}
-use Rattle.timecode.specs.Laws.Stepping.{follows-next}
+use Rattle.timecode.specs.Laws.Stepping.{next-follows, follows-next}
 use Rattle.timecode.specs.Laws.Tests.{by-test}
-use Rattle.timecode.specs.Laws.Windows.{long, Confirmed, window-confirmed, second-reads, second-follows, window-quiet}
-use Rattle.timecode.specs.Stream.{windowLength, frameIn, confirm, windowAnswer, lastOf, plainAnswer, Plain, plainFeed, plainAnswers, plainReceived, elementsOf, IsElement, IsNewest, elementsUpTo, EndsInFrames, SameWindow}
+use Rattle.timecode.specs.Frames.{readOf}
+use Rattle.timecode.specs.Laws.Windows.{Confirmed, window-confirmed, confirmed-window, window-quiet, before-of}
+use Rattle.timecode.specs.Stream.{windowLength, frameIn, windowAnswer, lastOf, plainAnswer, Plain, plainFeed, plainAnswers, plainReceived, elementsOf, IsElement, IsNewest, elementsUpTo, joined, EndsInFrames, SameWindow}
 use Rattle.timecode.specs.declared.Answer.{Answer}
 use Rattle.timecode.specs.declared.Answer.the-variants.{Quiet, Report}
 use Rattle.timecode.specs.declared.Format.{Format}
@@ -26,58 +27,54 @@ use Rattle.timecode.specs.declared.Time.{Time}
 
 -- ---- one Feed
 
-pub feed-accepts : (f : Format) (received : List ℕ) (s : ℕ) → s ≤ 3 → plainFeed f received s ≡ record { received = received ++ (s ∷ []); answer = plainAnswer f (received ++ (s ∷ [])) }
+pub feed-accepts : (f : Format) (k : ℕ) (received : List ℕ) (s : ℕ) → s ≤ 3 → plainFeed f k received s ≡ record { received = received ++ (s ∷ []); answer = plainAnswer f k (received ++ (s ∷ [])) }
 unfolding plainFeed
-feed-accepts f received s h = rw (le-leb s 3 h)
+feed-accepts f k received s h = rw (le-leb s 3 h)
 
-pub feed-refuses : (f : Format) (received : List ℕ) (s : ℕ) → 3 < s → plainFeed f received s ≡ record { received = received; answer = Answer.Refused UnknownSymbol }
+pub feed-refuses : (f : Format) (k : ℕ) (received : List ℕ) (s : ℕ) → 3 < s → plainFeed f k received s ≡ record { received = received; answer = Answer.Refused UnknownSymbol }
 unfolding plainFeed
-feed-refuses f received s h = rw (lt-leb s 3 h)
+feed-refuses f k received s h = rw (lt-leb s 3 h)
 
-received-step : (f : Format) (received ss : List ℕ) (s : ℕ) → plainFeed f received s .received ++ elementsOf ss ≡ received ++ elementsOf (s ∷ ss)
+received-step : (f : Format) (k : ℕ) (received ss : List ℕ) (s : ℕ) → plainFeed f k received s .received ++ elementsOf ss ≡ received ++ elementsOf (s ∷ ss)
 unfolding plainFeed
-received-step f received ss s = by-test (isSymbol s) (λ y. rw y (append-assoc received (s ∷ []) (elementsOf ss))) (λ m. rw m)
+received-step f k received ss s = by-test (isSymbol s) (λ y. rw y (append-assoc received (s ∷ []) (elementsOf ss))) (λ m. rw m)
 
-pub received-elements : (f : Format) (received ss : List ℕ) → plainReceived f received ss ≡ received ++ elementsOf ss
+pub received-elements : (f : Format) (k : ℕ) (received ss : List ℕ) → plainReceived f k received ss ≡ received ++ elementsOf ss
 unfolding plainReceived
-received-elements f received [] = sym (append-nil received)
-received-elements f received (s ∷ ss) = received-elements f (plainFeed f received s .received) ss ∙ received-step f received ss s
+received-elements f k received [] = sym (append-nil received)
+received-elements f k received (s ∷ ss) = received-elements f k (plainFeed f k received s .received) ss ∙ received-step f k received ss s
 
 -- ---- long and short lists
 
-pub window-long : (f : Format) → windowLength f ≡ long f 1
-unfolding windowLength
-window-long f = omega arith
-
-pub answer-long : (f : Format) (received : List ℕ) → windowLength f ≤ length received → plainAnswer f received ≡ windowAnswer f (lastOf (windowLength f) received)
+pub answer-long : (f : Format) (k : ℕ) (received : List ℕ) → windowLength f k ≤ length received → plainAnswer f k received ≡ windowAnswer f k (lastOf (windowLength f k) received)
 unfolding plainAnswer
-answer-long f received h = rw (le-leb (windowLength f) (length received) h)
+answer-long f k received h = rw (le-leb (windowLength f k) (length received) h)
 
-pub answer-short : (f : Format) (received : List ℕ) → length received < windowLength f → plainAnswer f received ≡ Quiet
+pub answer-short : (f : Format) (k : ℕ) (received : List ℕ) → length received < windowLength f k → plainAnswer f k received ≡ Quiet
 unfolding plainAnswer
-answer-short f received h = rw (lt-leb (windowLength f) (length received) h)
+answer-short f k received h = rw (lt-leb (windowLength f k) (length received) h)
 
-pub answer-quiet : (f : Format) (received : List ℕ) → ((t : Time) (w : ℕ) → plainAnswer f received ≡ Report t w → ⊥) → plainAnswer f received ≡ Quiet
-answer-quiet f received n = go (decLe (windowLength f) (length received))
+pub answer-quiet : (f : Format) (k : ℕ) (received : List ℕ) → ((t : Time) (w : ℕ) → plainAnswer f k received ≡ Report t w → ⊥) → plainAnswer f k received ≡ Quiet
+answer-quiet f k received n = go (decLe (windowLength f k) (length received))
   where
-    go : Dec (windowLength f ≤ length received) → plainAnswer f received ≡ Quiet
-    go (no h) = answer-short f received (omega arith)
-    go (yes h) = answer-long f received h ∙ window-quiet f (lastOf (windowLength f) received) (λ t w r. n t w (answer-long f received h ∙ r))
+    go : Dec (windowLength f k ≤ length received) → plainAnswer f k received ≡ Quiet
+    go (no h) = answer-short f k received (omega arith)
+    go (yes h) = answer-long f k received h ∙ window-quiet f k (lastOf (windowLength f k) received) (λ t w r. n t w (answer-long f k received h ∙ r))
 
 -- an answer from a list of symbols is no refusal
-pub answer-no-refusal : (f : Format) (received : List ℕ) (r : Refusal) → plainAnswer f received ≡ Answer.Refused r → ⊥
-answer-no-refusal f received r h =
-    let quiet = answer-quiet f received (λ t w p. refused-no-report r t w (sym h ∙ p)) in
+pub answer-no-refusal : (f : Format) (k : ℕ) (received : List ℕ) (r : Refusal) → plainAnswer f k received ≡ Answer.Refused r → ⊥
+answer-no-refusal f k received r h =
+    let quiet = answer-quiet f k received (λ t w p. refused-no-report r t w (sym h ∙ p)) in
     let z : Quiet ≡ Answer.Refused r = sym quiet ∙ h in
     let n : _≡_ {A = ℕ} 0 1 = cc in
     omega arith
 
-pub report-long : (f : Format) (received : List ℕ) (t : Time) (w : ℕ) → plainAnswer f received ≡ Report t w → windowLength f ≤ length received
-report-long f received t w h = go (decLe (windowLength f) (length received))
+pub report-long : (f : Format) (k : ℕ) (received : List ℕ) (t : Time) (w : ℕ) → plainAnswer f k received ≡ Report t w → windowLength f k ≤ length received
+report-long f k received t w h = go (decLe (windowLength f k) (length received))
   where
-    go : Dec (windowLength f ≤ length received) → windowLength f ≤ length received
+    go : Dec (windowLength f k ≤ length received) → windowLength f k ≤ length received
     go (yes l) = l
-    go (no l) = quiet-no-report t w (sym (answer-short f received (omega arith)) ∙ h)
+    go (no l) = quiet-no-report t w (sym (answer-short f k received (omega arith)) ∙ h)
 
 pub length-last : (k : ℕ) (xs : List ℕ) → k ≤ length xs → length (lastOf k xs) ≡ k
 unfolding lastOf
@@ -85,80 +82,111 @@ length-last k xs h = length-drop (length xs - k) xs ∙ omega arith
 
 -- ---- exactly when a report comes
 
--- a window is its first symbol and its two frames
-window-parts : (f : Format) (window : List ℕ) → length window ≡ windowLength f → window ≡ getD window 0 0 ∷ (frameIn f window 0 ++ frameIn f window 1)
-unfolding windowLength frameIn
-window-parts f window l =
-    let a : 1 + size f * 0 ≡ 1 = omega arith in
-    let b : 1 + size f * 1 ≡ 1 + size f = omega arith in
-    rw (a, b)
-    (drop-cons window 0 0 (omega arith)
-    ∙ ap (λ (xs : List ℕ). getD window 0 0 ∷ xs)
-    (sym (take-append-drop (size f) (drop 1 window))
-    ∙ ap (λ (xs : List ℕ). take (size f) (drop 1 window) ++ xs)
-    (drop-drop (size f) 1 window ∙ sym (take-all (size f) (drop (1 + size f) window) (omega (arith, length-drop (1 + size f) window))))))
-
-parts-first : (f : Format) (s : ℕ) (first second : List ℕ) → length first ≡ size f → frameIn f (s ∷ (first ++ second)) 0 ≡ first
+-- a window is its first symbol and its frames
+window-parts : (f : Format) (window : List ℕ) (k : ℕ) → take (1 + size f * k) window ≡ take 1 window ++ joined (frameIn f window) k
 unfolding frameIn
-parts-first f s first second l =
-    let a : 1 + size f * 0 ≡ suc 0 = omega arith in
-    rw a (take-at first second (size f) l)
+window-parts f window zero = let u : 1 + size f * 0 ≡ 1 = omega arith in ap (λ (n : ℕ). take n window) u ∙ sym (append-nil (take 1 window))
+window-parts f window (suc k) =
+    let u : 1 + size f * suc k ≡ 1 + size f * k + size f = omega arith in
+    ap (λ (n : ℕ). take n window) u
+    ∙ take-add (1 + size f * k) (size f) window
+    ∙ ap (λ (xs : List ℕ). xs ++ frameIn f window k) (window-parts f window k)
+    ∙ append-assoc (take 1 window) (joined (frameIn f window) k) (frameIn f window k)
 
-parts-second : (f : Format) (s : ℕ) (first second : List ℕ) → length first ≡ size f → length second ≡ size f → frameIn f (s ∷ (first ++ second)) 1 ≡ second
-unfolding frameIn
-parts-second f s first second l m =
-    let a : 1 + size f * 1 ≡ suc (size f) = omega arith in
-    rw a (ap (take (size f)) (drop-at first second (size f) l) ∙ take-all (size f) second (omega arith))
+window-is : (f : Format) (k : ℕ) (window : List ℕ) → length window ≡ windowLength f k → getD window 0 0 ≡ 2 → window ≡ 2 ∷ joined (frameIn f window) k
+unfolding windowLength
+window-is f k window l b =
+    sym (take-all (1 + size f * k) window (omega arith))
+    ∙ window-parts f window k
+    ∙ ap (λ (xs : List ℕ). xs ++ joined (frameIn f window) k) (ap (take 1) (drop-cons window 0 0 (omega arith)) ∙ ap (λ (s : ℕ). s ∷ []) b)
 
-split-at-last : (k : ℕ) (xs : List ℕ) → xs ≡ take (length xs - k) xs ++ lastOf k xs
+module _ (f : Format) (frames : ℕ → List ℕ) where
+  length-joined : (k : ℕ) → ((j : ℕ) → j < k → length (frames j) ≡ size f) → length (joined frames k) ≡ size f * k
+  length-joined zero l = sym (mul-zero (size f))
+  length-joined (suc k) l = length-append (joined frames k) (frames k) ∙ omega (arith, length-joined k (λ j b. l j (omega arith)), l k (omega arith))
+
+  -- frame j of the frames joined
+  part-of : (k : ℕ) → ((j : ℕ) → j < k → length (frames j) ≡ size f) → (j : ℕ) → j < k → take (size f) (drop (size f * j) (joined frames k)) ≡ frames j
+  part-of zero l j b = absurd (not-suc-le-zero b)
+  part-of (suc k) l j b = go (part-of k (λ i c. l i (omega arith))) (ℕ-discrete j k)
+    where
+      n : length (joined frames k) ≡ size f * k
+      n = length-joined k (λ i c. l i (omega arith))
+
+      go : ((i : ℕ) → i < k → take (size f) (drop (size f * i) (joined frames k)) ≡ frames i) → Dec (j ≡ k) → take (size f) (drop (size f * j) (joined frames k ++ frames k)) ≡ frames j
+      go before (yes p) = rw p (ap (take (size f)) (drop-at (joined frames k) (frames k) (size f * k) n) ∙ take-all (size f) (frames k) (omega (arith, l k (omega arith))))
+      go before (no p) =
+          let whole : size f * suc j ≤ size f * k = mul-le-mul-left (size f) (omega arith) in
+          ap (take (size f)) (drop-append-le (size f * j) (joined frames k) (frames k) (omega (arith, n)))
+          ∙ take-append-le (size f) (drop (size f * j) (joined frames k)) (frames k) (omega (arith, n, length-drop (size f * j) (joined frames k)))
+          ∙ before j (omega arith)
+
+split-at-last : (n : ℕ) (xs : List ℕ) → xs ≡ take (length xs - n) xs ++ lastOf n xs
 unfolding lastOf
-split-at-last k xs = sym (take-append-drop (length xs - k) xs)
+split-at-last n xs = sym (take-append-drop (length xs - n) xs)
 
-confirmed-ends : (f : Format) (before window : List ℕ) (t : Time) (w : ℕ) → length window ≡ windowLength f → Confirmed f 1 window t w → EndsInFrames f (before ++ window) t w
-confirmed-ends f before window t w l c =
+confirmed-ends : (f : Format) (m : ℕ) (before window : List ℕ) (t : Time) (w : ℕ) → length window ≡ windowLength f (suc m) → Confirmed f m window t w → EndsInFrames f (suc m) (before ++ window) t w
+confirmed-ends f m before window t w l c =
     record {
       before = before;
-      first = frameIn f window 0;
-      second = frameIn f window 1;
-      first-time = c .times 0;
-      first-control = c .controls 0;
-      received-is = ap (λ (xs : List ℕ). before ++ xs) (window-parts f window l ∙ ap (λ (s : ℕ). s ∷ (frameIn f window 0 ++ frameIn f window 1)) (c .begins));
-      first-accepted = c .reads 0 (omega arith);
-      second-accepted = second-reads f window t w c;
-      next = follows-next f (c .times 0) t (second-follows f window t w c);
+      frames = frameIn f window;
+      times = c .times;
+      controls = c .controls;
+      received-is = ap (λ (xs : List ℕ). before ++ xs) (window-is f (suc m) window l (c .begins));
+      accepted = λ j b. c .reads j (omega arith);
+      next = λ j b. follows-next f (c .times j) (c .times (suc j)) (c .follows j (omega arith));
+      last-time = λ j b. let p : j ≡ m = omega arith in rw p (c .last-time);
+      last-control = λ j b. let p : j ≡ m = omega arith in rw p (c .last-control);
     }
 
-pub report-ends : (f : Format) (received : List ℕ) (t : Time) (w : ℕ) → plainAnswer f received ≡ Report t w → EndsInFrames f received t w
-report-ends f received t w h =
-    let l = report-long f received t w h in
-    let window = lastOf (windowLength f) received in
-    subst (λ (xs : List ℕ). EndsInFrames f xs t w) (sym (split-at-last (windowLength f) received))
-    (confirmed-ends f (take (length received - windowLength f) received) window t w (length-last (windowLength f) received l) (window-confirmed f window t w (sym (answer-long f received l) ∙ h)))
+pub report-ends : (f : Format) (m : ℕ) (received : List ℕ) (t : Time) (w : ℕ) → plainAnswer f (suc m) received ≡ Report t w → EndsInFrames f (suc m) received t w
+report-ends f m received t w h =
+    let l = report-long f (suc m) received t w h in
+    let window = lastOf (windowLength f (suc m)) received in
+    subst (λ (xs : List ℕ). EndsInFrames f (suc m) xs t w) (sym (split-at-last (windowLength f (suc m)) received))
+    (confirmed-ends f m (take (length received - windowLength f (suc m)) received) window t w (length-last (windowLength f (suc m)) received l)
+    (window-confirmed f m window t w (sym (answer-long f (suc m) received l) ∙ h)))
 
-pub ends-report : (f : Format) (received : List ℕ) (t : Time) (w : ℕ) → EndsInFrames f received t w → plainAnswer f received ≡ Report t w
-unfolding windowLength lastOf windowAnswer confirm
-ends-report f received t w e =
-    let window : List ℕ = 2 ∷ (e .first ++ e .second) in
-    let a = accepted-length f (e .first) (e .first-time) (e .first-control) (e .first-accepted) in
-    let b = accepted-length f (e .second) t w (e .second-accepted) in
-    let n : length received ≡ length (e .before) + suc (length (e .first) + length (e .second)) =
-    ap length (e .received-is) ∙ length-append (e .before) (2 ∷ (e .first ++ e .second)) ∙ ap (λ (k : ℕ). length (e .before) + suc k) (length-append (e .first) (e .second)) in
-    let front : length (e .before) ≡ length received - (2 * size f + 1) = omega arith in
-    let last : drop (length received - (2 * size f + 1)) received ≡ 2 ∷ (e .first ++ e .second) =
-    ap (drop (length received - (2 * size f + 1))) (e .received-is) ∙ drop-at (e .before) (2 ∷ (e .first ++ e .second)) (length received - (2 * size f + 1)) front in
-    answer-long f received (omega arith)
-    ∙ ap (windowAnswer f) last
-    ∙ rw (parts-first f 2 (e .first) (e .second) a, parts-second f 2 (e .first) (e .second) a b, e .first-accepted, e .second-accepted, e .next)
+pub ends-report : (f : Format) (m : ℕ) (received : List ℕ) (t : Time) (w : ℕ) → EndsInFrames f (suc m) received t w → plainAnswer f (suc m) received ≡ Report t w
+unfolding windowLength lastOf frameIn
+ends-report f m received t w e = answer-long f (suc m) received (omega (arith, n)) ∙ ap (windowAnswer f (suc m)) last ∙ confirmed-window f m window t w confirmed
+  where
+    window : List ℕ
+    window = 2 ∷ joined (e .frames) (suc m)
+
+    whole : (j : ℕ) → j < suc m → length (e .frames j) ≡ size f
+    whole j b = accepted-length f (e .frames j) (e .times j) (e .controls j) (e .accepted j b)
+
+    n : length received ≡ length (e .before) + suc (size f * suc m)
+    n = ap length (e .received-is) ∙ length-append (e .before) window ∙ ap (λ (x : ℕ). length (e .before) + suc x) (length-joined f (e .frames) (suc m) whole)
+
+    last : drop (length received - (suc m * size f + 1)) received ≡ window
+    last = ap (drop (length received - (suc m * size f + 1))) (e .received-is) ∙ drop-at (e .before) window (length received - (suc m * size f + 1)) (omega (arith, n))
+
+    frame-is : (j : ℕ) → j < suc m → take (size f) (drop (1 + size f * j) window) ≡ e .frames j
+    frame-is j b = let u : 1 + size f * j ≡ suc (size f * j) = omega arith in rw u (part-of f (e .frames) (suc m) whole j b)
+
+    confirmed : Confirmed f m window t w
+    confirmed =
+        record {
+          times = e .times;
+          controls = e .controls;
+          begins = refl;
+          reads = λ j b. ap (readOf f) (frame-is j (omega arith)) ∙ e .accepted j (omega arith);
+          follows = λ j b. next-follows f (e .times j) (e .times (suc j)) (e .next j (omega arith));
+          last-time = e .last-time m refl;
+          last-control = e .last-control m refl;
+        }
 
 -- with one Feed: the symbol is accepted, and the list then ends so
-pub feed-reports : (f : Format) (received : List ℕ) (s : ℕ) (t : Time) (w : ℕ) → (plainFeed f received s .answer ≡ Report t w) ↔ ((s ≤ 3) × EndsInFrames f (received ++ (s ∷ [])) t w)
-feed-reports f received s t w = (λ h. go h (decLe s 3), λ e. ap (λ (p : Plain). p .answer) (feed-accepts f received s (e .0)) ∙ ends-report f (received ++ (s ∷ [])) t w (e .1))
+pub feed-reports : (f : Format) (m : ℕ) (received : List ℕ) (s : ℕ) (t : Time) (w : ℕ) → (plainFeed f (suc m) received s .answer ≡ Report t w) ↔ ((s ≤ 3) × EndsInFrames f (suc m) (received ++ (s ∷ [])) t w)
+feed-reports f m received s t w = (λ h. go h (decLe s 3), λ e. ap (λ (p : Plain). p .answer) (feed-accepts f (suc m) received s (e .0)) ∙ ends-report f m (received ++ (s ∷ [])) t w (e .1))
   where
-    go : plainFeed f received s .answer ≡ Report t w → Dec (s ≤ 3) → (s ≤ 3) × EndsInFrames f (received ++ (s ∷ [])) t w
-    go h (yes l) = (l, report-ends f (received ++ (s ∷ [])) t w (sym (ap (λ (p : Plain). p .answer) (feed-accepts f received s l)) ∙ h))
-    go h (no l) = refused-no-report UnknownSymbol t w (sym (ap (λ (p : Plain). p .answer) (feed-refuses f received s (omega arith))) ∙ h)
+    go : plainFeed f (suc m) received s .answer ≡ Report t w → Dec (s ≤ 3) → (s ≤ 3) × EndsInFrames f (suc m) (received ++ (s ∷ [])) t w
+    go h (yes l) = (l, report-ends f m (received ++ (s ∷ [])) t w (sym (ap (λ (p : Plain). p .answer) (feed-accepts f (suc m) received s l)) ∙ h))
+    go h (no l) = refused-no-report UnknownSymbol t w (sym (ap (λ (p : Plain). p .answer) (feed-refuses f (suc m) received s (omega arith))) ∙ h)
 
--- ---- the answers depend on the last 2n + 1 symbols alone
+-- ---- the answers depend on the last kn + 1 symbols alone
 
 last-append : (k : ℕ) (xs : List ℕ) (s : ℕ) → 1 ≤ k → k ≤ length xs → lastOf k (xs ++ (s ∷ [])) ≡ drop 1 (lastOf k xs) ++ (s ∷ [])
 unfolding lastOf
@@ -170,65 +198,106 @@ last-append k xs s a h =
     index : length (xs ++ (s ∷ [])) - k ≡ length xs - k + 1
     index = omega (arith, length-append xs (s ∷ []))
 
-window-positive : (f : Format) → 1 ≤ windowLength f
+window-positive : (f : Format) (k : ℕ) → 1 ≤ windowLength f k
 unfolding windowLength
-window-positive f = omega arith
+window-positive f k = omega arith
 
-pub same-answer : (f : Format) (xs ys : List ℕ) → SameWindow f xs ys → plainAnswer f xs ≡ plainAnswer f ys
-same-answer f xs ys w = answer-long f xs (w .first-long) ∙ ap (windowAnswer f) (w .same) ∙ sym (answer-long f ys (w .second-long))
+pub same-answer : (f : Format) (k : ℕ) (xs ys : List ℕ) → SameWindow f k xs ys → plainAnswer f k xs ≡ plainAnswer f k ys
+same-answer f k xs ys w = answer-long f k xs (w .first-long) ∙ ap (windowAnswer f k) (w .same) ∙ sym (answer-long f k ys (w .second-long))
 
-same-longer : (f : Format) (xs ys : List ℕ) (s : ℕ) → SameWindow f xs ys → SameWindow f (xs ++ (s ∷ [])) (ys ++ (s ∷ []))
-same-longer f xs ys s w =
+same-longer : (f : Format) (k : ℕ) (xs ys : List ℕ) (s : ℕ) → SameWindow f k xs ys → SameWindow f k (xs ++ (s ∷ [])) (ys ++ (s ∷ []))
+same-longer f k xs ys s w =
     record {
       first-long = omega (arith, w .first-long, length-append xs (s ∷ []));
       second-long = omega (arith, w .second-long, length-append ys (s ∷ []));
-      same = last-append (windowLength f) xs s (window-positive f) (w .first-long) ∙ ap (λ (zs : List ℕ). drop 1 zs ++ (s ∷ [])) (w .same) ∙ sym (last-append (windowLength f) ys s (window-positive f) (w .second-long));
+      same = last-append (windowLength f k) xs s (window-positive f k) (w .first-long) ∙ ap (λ (zs : List ℕ). drop 1 zs ++ (s ∷ [])) (w .same) ∙ sym (last-append (windowLength f k) ys s (window-positive f k) (w .second-long));
     }
 
-pub same-answers : (f : Format) (ss xs ys : List ℕ) → SameWindow f xs ys → plainAnswers f xs ss ≡ plainAnswers f ys ss
+pub same-answers : (f : Format) (k : ℕ) (ss xs ys : List ℕ) → SameWindow f k xs ys → plainAnswers f k xs ss ≡ plainAnswers f k ys ss
 unfolding plainAnswers
-same-answers f [] xs ys w = refl
-same-answers f (s ∷ ss) xs ys w = go (same-answers f ss) (decLe s 3)
+same-answers f k [] xs ys w = refl
+same-answers f k (s ∷ ss) xs ys w = go (same-answers f k ss) (decLe s 3)
   where
-    go : ((xs ys : List ℕ) → SameWindow f xs ys → plainAnswers f xs ss ≡ plainAnswers f ys ss) → Dec (s ≤ 3)
-        → plainFeed f xs s .answer ∷ plainAnswers f (plainFeed f xs s .received) ss ≡ plainFeed f ys s .answer ∷ plainAnswers f (plainFeed f ys s .received) ss
+    go : ((xs ys : List ℕ) → SameWindow f k xs ys → plainAnswers f k xs ss ≡ plainAnswers f k ys ss) → Dec (s ≤ 3)
+        → plainFeed f k xs s .answer ∷ plainAnswers f k (plainFeed f k xs s .received) ss ≡ plainFeed f k ys s .answer ∷ plainAnswers f k (plainFeed f k ys s .received) ss
     go later (yes h) =
-        let longer = same-longer f xs ys s w in
-        rw (feed-accepts f xs s h, feed-accepts f ys s h)
-        (ap₂ (λ (a : Answer) (as′ : List Answer). a ∷ as′) (same-answer f (xs ++ (s ∷ [])) (ys ++ (s ∷ [])) longer) (later (xs ++ (s ∷ [])) (ys ++ (s ∷ [])) longer))
-    go later (no h) = rw (feed-refuses f xs s (omega arith), feed-refuses f ys s (omega arith)) (ap (λ (zs : List Answer). Answer.Refused UnknownSymbol ∷ zs) (later xs ys w))
+        let longer = same-longer f k xs ys s w in
+        rw (feed-accepts f k xs s h, feed-accepts f k ys s h)
+        (ap₂ (λ (a : Answer) (as′ : List Answer). a ∷ as′) (same-answer f k (xs ++ (s ∷ [])) (ys ++ (s ∷ [])) longer) (later (xs ++ (s ∷ [])) (ys ++ (s ∷ [])) longer))
+    go later (no h) = rw (feed-refuses f k xs s (omega arith), feed-refuses f k ys s (omega arith)) (ap (λ (zs : List Answer). Answer.Refused UnknownSymbol ∷ zs) (later xs ys w))
 
 -- ---- the answers by their index
 
-pub length-answers : (f : Format) (received ss : List ℕ) → length (plainAnswers f received ss) ≡ length ss
+pub length-answers : (f : Format) (k : ℕ) (received ss : List ℕ) → length (plainAnswers f k received ss) ≡ length ss
 unfolding plainAnswers
-length-answers f received [] = refl
-length-answers f received (s ∷ ss) = ap suc (length-answers f (plainFeed f received s .received) ss)
+length-answers f k received [] = refl
+length-answers f k received (s ∷ ss) = ap suc (length-answers f k (plainFeed f k received s .received) ss)
 
-pub answers-append : (f : Format) (received ss rs : List ℕ) → plainAnswers f received (ss ++ rs) ≡ plainAnswers f received ss ++ plainAnswers f (plainReceived f received ss) rs
+pub answers-append : (f : Format) (k : ℕ) (received ss rs : List ℕ) → plainAnswers f k received (ss ++ rs) ≡ plainAnswers f k received ss ++ plainAnswers f k (plainReceived f k received ss) rs
 unfolding plainAnswers plainReceived
-answers-append f received [] rs = refl
-answers-append f received (s ∷ ss) rs = ap (λ (zs : List Answer). plainFeed f received s .answer ∷ zs) (answers-append f (plainFeed f received s .received) ss rs)
+answers-append f k received [] rs = refl
+answers-append f k received (s ∷ ss) rs = ap (λ (zs : List Answer). plainFeed f k received s .answer ∷ zs) (answers-append f k (plainFeed f k received s .received) ss rs)
 
 -- the answers behind a list of Feeds
-pub answers-after : (f : Format) (received ss rs : List ℕ) → drop (length ss) (plainAnswers f received (ss ++ rs)) ≡ plainAnswers f (plainReceived f received ss) rs
-answers-after f received ss rs = ap (drop (length ss)) (answers-append f received ss rs) ∙ drop-at (plainAnswers f received ss) (plainAnswers f (plainReceived f received ss) rs) (length ss) (length-answers f received ss)
+pub answers-after : (f : Format) (k : ℕ) (received ss rs : List ℕ) → drop (length ss) (plainAnswers f k received (ss ++ rs)) ≡ plainAnswers f k (plainReceived f k received ss) rs
+answers-after f k received ss rs = ap (drop (length ss)) (answers-append f k received ss rs) ∙ drop-at (plainAnswers f k received ss) (plainAnswers f k (plainReceived f k received ss) rs) (length ss) (length-answers f k received ss)
 
-pub answer-at : (f : Format) (received ss : List ℕ) (none : Answer) → ((k : ℕ) → k < length ss → getD ss k 0 ≤ 3) → (i : ℕ) → i < length ss → getD (plainAnswers f received ss) i none ≡ plainAnswer f (received ++ take (suc i) ss)
+pub answer-at : (f : Format) (k : ℕ) (received ss : List ℕ) (none : Answer) → ((j : ℕ) → j < length ss → getD ss j 0 ≤ 3) → (i : ℕ) → i < length ss → getD (plainAnswers f k received ss) i none ≡ plainAnswer f k (received ++ take (suc i) ss)
 unfolding plainAnswers
-answer-at f received [] none a i b = absurd (not-suc-le-zero b)
-answer-at f received (s ∷ ss) none a zero b = rw (feed-accepts f received s (a 0 (omega arith)))
-answer-at f received (s ∷ ss) none a (suc i) b =
-    rw (feed-accepts f received s (a 0 (omega arith)))
-    (answer-at f (received ++ (s ∷ [])) ss none (λ k c. a (suc k) (omega arith)) i (omega arith) ∙ ap (plainAnswer f) (append-assoc received (s ∷ []) (take (suc i) ss)))
+answer-at f k received [] none a i b = absurd (not-suc-le-zero b)
+answer-at f k received (s ∷ ss) none a zero b = rw (feed-accepts f k received s (a 0 (omega arith)))
+answer-at f k received (s ∷ ss) none a (suc i) b =
+    rw (feed-accepts f k received s (a 0 (omega arith)))
+    (answer-at f k (received ++ (s ∷ [])) ss none (λ k c. a (suc k) (omega arith)) i (omega arith) ∙ ap (plainAnswer f k) (append-assoc received (s ∷ []) (take (suc i) ss)))
 
 -- the same where Feeds are refused: each is answered by the elements before it and its own symbol
-pub feed-at : (f : Format) (received ss : List ℕ) (none : Answer) (i : ℕ) → i < length ss → getD (plainAnswers f received ss) i none ≡ plainFeed f (received ++ elementsOf (take i ss)) (getD ss i 0) .answer
+pub feed-at : (f : Format) (k : ℕ) (received ss : List ℕ) (none : Answer) (i : ℕ) → i < length ss → getD (plainAnswers f k received ss) i none ≡ plainFeed f k (received ++ elementsOf (take i ss)) (getD ss i 0) .answer
 unfolding plainAnswers
-feed-at f received [] none i b = absurd (not-suc-le-zero b)
-feed-at f received (s ∷ ss) none zero b = ap (λ (xs : List ℕ). plainFeed f xs s .answer) (sym (append-nil received))
-feed-at f received (s ∷ ss) none (suc i) b =
-    feed-at f (plainFeed f received s .received) ss none i (omega arith) ∙ ap (λ (xs : List ℕ). plainFeed f xs (getD ss i 0) .answer) (received-step f received (take i ss) s)
+feed-at f k received [] none i b = absurd (not-suc-le-zero b)
+feed-at f k received (s ∷ ss) none zero b = ap (λ (xs : List ℕ). plainFeed f k xs s .answer) (sym (append-nil received))
+feed-at f k received (s ∷ ss) none (suc i) b =
+    feed-at f k (plainFeed f k received s .received) ss none i (omega arith) ∙ ap (λ (xs : List ℕ). plainFeed f k xs (getD ss i 0) .answer) (received-step f k received (take i ss) s)
+
+-- ---- a higher setting
+
+frame-later : (f : Format) (window : List ℕ) (d j : ℕ) → frameIn f (drop (size f * d) window) j ≡ frameIn f window (d + j)
+unfolding frameIn
+frame-later f window d j =
+    let u : size f * d + (1 + size f * j) ≡ 1 + size f * (d + j) = omega arith in
+    ap (take (size f)) (drop-drop (1 + size f * j) (size f * d) window ∙ ap (λ (i : ℕ). drop i window) u)
+
+-- the last m + 1 of d + m + 1 frames are confirmed too
+fewer-confirmed : (f : Format) (m d : ℕ) (window : List ℕ) (t : Time) (w : ℕ) → Confirmed f (d + m) window t w → Confirmed f m (drop (size f * d) window) t w
+fewer-confirmed f m d window t w c =
+    let u : size f * d + 0 ≡ size f * d = omega arith in
+    record {
+      times = λ j. c .times (d + j);
+      controls = λ j. c .controls (d + j);
+      begins = getD-drop (size f * d) window 0 0 ∙ ap (λ (i : ℕ). getD window i 0) u ∙ before-of f (d + m) window t w c d (omega arith);
+      reads = λ j b. rw (frame-later f window d j) (c .reads (d + j) (omega arith));
+      follows = λ j b. let v : d + suc j ≡ suc (d + j) = omega arith in rw v (c .follows (d + j) (omega arith));
+      last-time = c .last-time;
+      last-control = c .last-control;
+    }
+
+-- what d frames more report, is reported without these
+fewer-report : (f : Format) (m d : ℕ) (received : List ℕ) (t : Time) (w : ℕ) → plainAnswer f (suc (d + m)) received ≡ Report t w → plainAnswer f (suc m) received ≡ Report t w
+unfolding windowLength lastOf
+fewer-report f m d received t w h =
+    let l = report-long f (suc (d + m)) received t w h in
+    let long-window = lastOf (windowLength f (suc (d + m))) received in
+    let c = window-confirmed f (d + m) long-window t w (sym (answer-long f (suc (d + m)) received l) ∙ h) in
+    let r = confirmed-window f m (drop (size f * d) long-window) t w (fewer-confirmed f m d long-window t w c) in
+    let u : length received - (suc (d + m) * size f + 1) + size f * d ≡ length received - (suc m * size f + 1) = omega arith in
+    let z : drop (size f * d) (drop (length received - (suc (d + m) * size f + 1)) received) ≡ drop (length received - (suc m * size f + 1)) received =
+    drop-drop (size f * d) (length received - (suc (d + m) * size f + 1)) received ∙ ap (λ (i : ℕ). drop i received) u in
+    answer-long f (suc m) received (omega arith) ∙ ap (windowAnswer f (suc m)) (sym z) ∙ r
+
+pub higher-report : (f : Format) (k m : ℕ) → 1 ≤ k → k ≤ m → (received : List ℕ) (t : Time) (w : ℕ) → plainAnswer f m received ≡ Report t w → plainAnswer f k received ≡ Report t w
+higher-report f zero m a b received t w h = absurd (not-suc-le-zero a)
+higher-report f (suc k) m a b received t w h =
+    let u : m ≡ suc (m - suc k + k) = omega arith in
+    fewer-report f k (m - suc k) received t w (subst (λ (x : ℕ). plainAnswer f x received ≡ Report t w) u h)
 
 -- ---- the elements by the index of their Feeds
 
