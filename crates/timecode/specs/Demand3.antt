@@ -11,12 +11,12 @@ use native.Mathlib.Decide.{decLe}
 use borrow.Author.Tests.{leb-true}
 use lib.Dec.{leb, eqb}
 use lib.ListN.{getD, length, take, drop, set, length-drop, List·getD-append}
-use lib.Seq.{length-take-le}
+use lib.Seq.{getD-take, length-take-le}
 use Rattle.timecode.specs.Formats.{size}
 use Rattle.timecode.specs.Frames.{readOf, Sent, Generator, elements, sentAt, EndsFrame}
 use Rattle.timecode.specs.Laws.Checks.{refused-no-report}
 use Rattle.timecode.specs.Laws.Generators.{length-elements}
-use Rattle.timecode.specs.Laws.Machine.{feed-accepts, feed-refuses, received-elements, answer-no-refusal, feed-reports, same-answer, same-answers, length-answers, answers-append, answers-after, feed-at, elements-next, elements-to-newest, higher-report}
+use Rattle.timecode.specs.Laws.Machine.{feed-accepts, feed-refuses, received-elements, answer-no-refusal, feed-reports, same-answer, same-answers, length-answers, answers-append, answers-after, feed-at, elements-next, elements-to-newest, first-elements, all-elements, higher-report}
 use Rattle.timecode.specs.Laws.Marks.{size-positive}
 use Rattle.timecode.specs.Laws.Streams.{places-within-le, part-report, part-intact, part-replaced, none-replaced, one-replaced, symbol-replaced, report, first-report}
 use Rattle.timecode.specs.Laws.Tests.{and-left, and-right}
@@ -53,10 +53,10 @@ pub record Demand3 (f : Format) (k : ℕ) (ss : List ℕ) (answers : List Answer
       → ReplacedAt places window (take (windowLength f k) (drop start (elements f sent))) → length places < k
       → elementsUpTo ss i ≡ before ++ window
       → (t : Time) (w : ℕ) → getD answers i none ≡ Report t w → EndsFrame f sent (start + windowLength f k) t
-  -- The same of every answer to a whole stream of a generator, joined at any element, with at most k - 1 replaced by symbols among the kn + 1 that end there.
-  pub no-false-time-in-stream : (sent : List Sent) → Generator f sent → (places : List ℕ) (start : ℕ) → ReplacedAt places ss (drop start (elements f sent)) → ((j : ℕ) → j < length ss → IsElement ss j)
-      → (i : ℕ) → i < length ss → length (placesWithin (suc i - windowLength f k) (windowLength f k) places) < k
-      → (t : Time) (w : ℕ) → getD answers i none ≡ Report t w → EndsFrame f sent (start + suc i) t
+  -- The same of every answer to a whole stream of a generator, joined at any element, refused Feeds among it, with at most k - 1 replaced of the kn + 1 elements that end there.
+  pub no-false-time-in-stream : (sent : List Sent) → Generator f sent → (places : List ℕ) (start : ℕ) → ReplacedAt places (elementsOf ss) (drop start (elements f sent))
+      → (i : ℕ) → IsElement ss i → length (placesWithin (length (elementsUpTo ss i) - windowLength f k) (windowLength f k) places) < k
+      → (t : Time) (w : ℕ) → getD answers i none ≡ Report t w → EndsFrame f sent (start + length (elementsUpTo ss i)) t
   -- In an undamaged stream joined at index i of a frame, the first report comes with element (k + 1)n - i, counted from 1,
   pub first-report-exactly : (sent : List Sent) → Generator f sent → (q i : ℕ) → i < size f → q + k < length sent → ss ≡ drop (size f * q + i) (elements f sent)
       → ((j : ℕ) → suc j < suc k * size f - i → getD answers j none ≡ Quiet)
@@ -151,7 +151,10 @@ plain-demand-3 f m few ss none =
       intact-window-reports = λ sent gen i e before q h is. to-element f (suc m) ss none i e ∙ ap (plainAnswer f (suc m)) is ∙ intact f m few sent gen before q h;
       no-false-time = λ sent gen i e before window places start h at b is t w r.
           replaced f m few sent gen before window places start h at b t w (sym (ap (plainAnswer f (suc m)) is) ∙ sym (to-element f (suc m) ss none i e) ∙ r);
-      no-false-time-in-stream = λ sent gen places start at symbols i b c t w r. report f m sent gen start places ss at (λ j d. symbols j d .1) none i b (omega arith) (omega arith) t w r;
+      no-false-time-in-stream = λ sent gen places start at i e c t w r.
+          let first = first-elements ss i in
+          report f m sent gen start places (elementsOf ss) at (length (elementsUpTo ss i)) (first .0) (omega arith) (omega arith) t w
+          (sym (ap (plainAnswer f (suc m)) (first .1)) ∙ sym (to-element f (suc m) ss none i e) ∙ r);
       first-report-exactly = λ sent gen q i h b is. rw is (first-exactly f m few sent gen q i h b none);
       first-report-within = λ sent gen start h is. rw is (first-within f m few sent gen start h none);
     }
@@ -227,6 +230,10 @@ module _ (f : Format) (k : ℕ) (two : 2 ≤ k) (ss : List ℕ) (answers : List 
   pub no-false-time-in-stream-with-one-replaced : (start p x : ℕ) → x ≤ 3 → ss ≡ set (drop start (elements f sent)) p x
       → (i : ℕ) → i < length ss → (t : Time) (w : ℕ) → getD answers i none ≡ Report t w → EndsFrame f sent (start + suc i) t
   no-false-time-in-stream-with-one-replaced start p x small is i b t w r =
-      let at = subst (λ (xs : List ℕ). ReplacedAt (p ∷ []) xs (drop start (elements f sent))) (sym is) (one-replaced (drop start (elements f sent)) p x) in
-      holds .no-false-time-in-stream sent gen (p ∷ []) start at (λ j h. (h, rw is (symbol-replaced f sent start p x small j))) i b
-      (omega (arith, places-within-le (suc i - windowLength f k) (windowLength f k) (p ∷ []))) t w r
+      let stream = drop start (elements f sent) in
+      let symbols : (j : ℕ) → getD ss j 0 ≤ 3 = λ j. rw is (symbol-replaced f sent start p x small j) in
+      let at : ReplacedAt (p ∷ []) (elementsOf ss) (drop start (elements f sent)) = rw (all-elements ss (λ j c. symbols j), is) (one-replaced stream p x) in
+      let first : elementsUpTo ss i ≡ take (suc i) ss = all-elements (take (suc i) ss) (λ j c. rw (getD-take (suc i) ss j 0 (omega (arith, length-take-le (suc i) ss b))) (symbols j)) in
+      let n : length (elementsUpTo ss i) ≡ suc i = ap length first ∙ length-take-le (suc i) ss b in
+      let few = places-within-le (length (elementsUpTo ss i) - windowLength f k) (windowLength f k) (p ∷ []) in
+      rw n at (holds .no-false-time-in-stream sent gen (p ∷ []) start at i (b, symbols i) (omega (arith, few)) t w r)

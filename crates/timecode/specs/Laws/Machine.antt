@@ -9,7 +9,7 @@ use native.Mathlib.Omega.{arith}
 use native.Mathlib.Decide.{ℕ-discrete, decLe, decLt}
 use borrow.Author.Tests.{leb-true, leb-false, le-leb, lt-leb}
 use lib.ListN.{getD, length, take, drop, length-append, length-drop, take-append-drop}
-use lib.Seq.{drop-cons, drop-drop, drop-at, take-all, take-add, take-append-le, drop-append-le, getD-drop}
+use lib.Seq.{drop-cons, drop-drop, drop-at, take-all, take-add, take-append-le, take-append-seam, drop-append-le, getD-drop}
 use Rattle.timecode.specs.Formats.{isSymbol, size}
 use Rattle.timecode.specs.Laws.Checks.{quiet-no-report, refused-no-report}
 use Rattle.timecode.specs.Laws.Marks.{accepted-length}
@@ -307,6 +307,25 @@ elements-next (s ∷ ss) zero e = rw (le-leb s 3 (e .1))
 elements-next (s ∷ ss) (suc i) e =
     let later : elementsUpTo ss i ≡ elementsOf (take i ss) ++ (getD ss i 0 ∷ []) = elements-next ss i (omega (arith, e .0), e .1) in
     by-test (isSymbol s) (λ y. rw y (ap (λ (xs : List ℕ). s ∷ xs) later)) (λ m. rw m later)
+
+elements-append : (ss rs : List ℕ) → elementsOf (ss ++ rs) ≡ elementsOf ss ++ elementsOf rs
+elements-append [] rs = refl
+elements-append (s ∷ ss) rs = by-test (isSymbol s) (λ y. rw y (ap (λ (xs : List ℕ). s ∷ xs) (elements-append ss rs))) (λ m. rw m (elements-append ss rs))
+
+elements-split : (ss : List ℕ) (i : ℕ) → elementsOf ss ≡ elementsUpTo ss i ++ elementsOf (drop (suc i) ss)
+elements-split ss i = sym (ap elementsOf (take-append-drop (suc i) ss)) ∙ elements-append (take (suc i) ss) (drop (suc i) ss)
+
+-- the elements up to a Feed are the first of all
+pub first-elements : (ss : List ℕ) (i : ℕ) → (length (elementsUpTo ss i) ≤ length (elementsOf ss)) × (elementsUpTo ss i ≡ take (length (elementsUpTo ss i)) (elementsOf ss))
+first-elements ss i = (
+  omega (arith, ap length (elements-split ss i), length-append (elementsUpTo ss i) (elementsOf (drop (suc i) ss))),
+  sym (ap (take (length (elementsUpTo ss i))) (elements-split ss i) ∙ take-append-seam (elementsUpTo ss i) (elementsOf (drop (suc i) ss))),
+)
+
+-- where no Feed is refused
+pub all-elements : (ss : List ℕ) → ((j : ℕ) → j < length ss → getD ss j 0 ≤ 3) → elementsOf ss ≡ ss
+all-elements [] h = refl
+all-elements (s ∷ ss) h = rw (le-leb s 3 (h 0 (omega arith))) (ap (λ (xs : List ℕ). s ∷ xs) (all-elements ss (λ j b. h (suc j) (omega arith))))
 
 none-accepted : (ss : List ℕ) → ((k : ℕ) → k < length ss → 3 < getD ss k 0) → elementsOf ss ≡ []
 none-accepted [] h = refl

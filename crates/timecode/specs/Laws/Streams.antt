@@ -118,51 +118,59 @@ symbol-replaced f sent start p x small j = go (ℕ-discrete j p) (decLt p (lengt
     go (yes q) (yes c) = rw q (rw (getD-set-same (drop start (elements f sent)) p x 0 c) small)
     go (yes q) (no c) = omega (arith, List·getD-eq-default (set (drop start (elements f sent)) p x) 0 {n = j} (omega (arith, length-set (drop start (elements f sent)) p x)))
 
-module _ (f : Format) (m : ℕ) (sent : List Sent) (gen : Generator f sent) (start : ℕ) (places stream : List ℕ) (is : ReplacedAt places stream (drop start (elements f sent))) (symbols : (j : ℕ) → j < length stream → getD stream j 0 ≤ 3) (none : Answer) (i : ℕ) (b : i < length stream) where
+module _ (f : Format) (m : ℕ) (sent : List Sent) (gen : Generator f sent) (start : ℕ) (places stream : List ℕ) (is : ReplacedAt places stream (drop start (elements f sent))) where
+  first-part : (e : ℕ) → 1 ≤ e → e ≤ length stream → StreamPart f sent start places (take e stream)
+  first-part e a b =
+      let n : length (take e stream) ≡ e = length-take-le e stream b in
+      record {
+        inside = omega (arith, is .as-long, length-drop start (elements f sent));
+        same = λ j c d. getD-take e stream j 0 (omega arith) ∙ is .same j (omega (arith, is .as-long)) d ∙ getD-drop start (elements f sent) j 0;
+      }
+
+  -- At most m places replaced in the window that ends with the first e elements: a report is of the frame that has just ended.
+  pub report : (e : ℕ) → e ≤ length stream → length (placesWithin (e - windowLength f (suc m)) (windowLength f (suc m)) places) ≤ m → length (placesWithin (e - windowLength f (suc m)) (windowLength f (suc m)) places) < 7
+      → (t : Time) (w : ℕ) → plainAnswer f (suc m) (take e stream) ≡ Report t w → EndsFrame f sent (start + e) t
+  report e b few less t w r = go (decLe (windowLength f (suc m)) e)
+    where
+      n : length (take e stream) ≡ e
+      n = length-take-le e stream b
+
+      go : Dec (windowLength f (suc m) ≤ e) → EndsFrame f sent (start + e) t
+      go (no c) = quiet-no-report t w (sym (answer-short f (suc m) (take e stream) (omega (arith, n))) ∙ r)
+      go (yes c) =
+          let ends = part-report f m sent gen start places [] (take e stream) (first-part e (omega (arith, window-long f m)) b) (omega (arith, n)) (rw n few) (rw n less) t w r in
+          record { frame = ends .frame; inside = ends .inside; whole = omega (arith, ends .whole, n); time = ends .time }
+
+-- an undamaged stream
+module _ (f : Format) (m : ℕ) (sent : List Sent) (gen : Generator f sent) (start : ℕ) (none : Answer) (i : ℕ) (b : i < length (drop start (elements f sent))) where
+  abbrev stream : List ℕ
+  stream = drop start (elements f sent)
+
   -- the answer to the stream's element i, from 0
   abbrev pub answer : Answer
   answer = getD (plainAnswers f (suc m) [] stream) i none
 
-  -- the places in the window that ends with it
-  abbrev pub replacedInWindow : List ℕ
-  replacedInWindow = placesWithin (suc i - windowLength f (suc m)) (windowLength f (suc m)) places
-
   so-far : length (take (suc i) stream) ≡ suc i
   so-far = length-take-le (suc i) stream (omega arith)
 
-  part-so-far : StreamPart f sent start places (take (suc i) stream)
-  part-so-far =
-      record {
-        inside = omega (arith, so-far, is .as-long, length-drop start (elements f sent));
-        same = λ j c d. getD-take (suc i) stream j 0 (omega (arith, so-far)) ∙ is .same j (omega (arith, so-far, is .as-long)) d ∙ getD-drop start (elements f sent) j 0;
-      }
-
   answer-is : answer ≡ plainAnswer f (suc m) (take (suc i) stream)
-  answer-is = answer-at f (suc m) [] stream none symbols i b
+  answer-is = answer-at f (suc m) [] stream none (λ j c. symbols-intact f sent start j) i b
 
   pub early : suc i < windowLength f (suc m) → answer ≡ Quiet
   early c = answer-is ∙ answer-short f (suc m) (take (suc i) stream) (omega (arith, so-far))
 
-  -- at most m places replaced in the window: a report is of the frame that has just ended
-  pub report : length replacedInWindow ≤ m → length replacedInWindow < 7 → (t : Time) (w : ℕ) → answer ≡ Report t w → EndsFrame f sent (start + suc i) t
-  report few less t w r = go (decLe (windowLength f (suc m)) (suc i))
-    where
-      go : Dec (windowLength f (suc m) ≤ suc i) → EndsFrame f sent (start + suc i) t
-      go (no c) = quiet-no-report t w (sym (early (omega arith)) ∙ r)
-      go (yes c) =
-          let e = part-report f m sent gen start places [] (take (suc i) stream) part-so-far (omega (arith, so-far)) (rw so-far few) (rw so-far less) t w (sym answer-is ∙ r) in
-          record { frame = e .frame; inside = e .inside; whole = omega (arith, e .whole, so-far); time = e .time }
-
   -- elsewhere than at a frame's end: nothing
-  pub between : length replacedInWindow ≤ m → length replacedInWindow < 7 → ((j : ℕ) → start + suc i ≡ size f * suc j → ⊥) → answer ≡ Quiet
-  between few less n = answer-is ∙ answer-quiet f (suc m) (take (suc i) stream) (λ t w r. let e = report few less t w (answer-is ∙ r) in n (e .frame) (e .whole))
-
-  -- undamaged, at the end of frame q + m: that frame
-  pub at-end : places ≡ [] → windowLength f (suc m) ≤ suc i → (q : ℕ) → start + suc i ≡ size f * suc (q + m) → answer ≡ Report (sentAt sent (q + m) .time) (sentAt sent (q + m) .control)
-  at-end e c q a =
+  pub between : ((j : ℕ) → start + suc i ≡ size f * suc j → ⊥) → answer ≡ Quiet
+  between n =
       answer-is
-      ∙ part-intact f m sent gen start places [] (take (suc i) stream) part-so-far (omega (arith, so-far))
-      (λ j h. ap (λ (ps : List ℕ). member j (placesWithin (length (take (suc i) stream) - windowLength f (suc m)) (windowLength f (suc m)) ps)) e) q (omega (arith, so-far))
+      ∙ answer-quiet f (suc m) (take (suc i) stream)
+      (λ t w r. let e = report f m sent gen start [] stream (none-replaced stream) (suc i) (omega arith) (omega arith) (omega arith) t w r in n (e .frame) (e .whole))
+
+  -- at the end of frame q + m: that frame
+  pub at-end : windowLength f (suc m) ≤ suc i → (q : ℕ) → start + suc i ≡ size f * suc (q + m) → answer ≡ Report (sentAt sent (q + m) .time) (sentAt sent (q + m) .control)
+  at-end c q a =
+      answer-is
+      ∙ part-intact f m sent gen start [] [] (take (suc i) stream) (first-part f m sent gen start [] stream (none-replaced stream) (suc i) (omega arith) (omega arith)) (omega (arith, so-far)) (λ j h. refl) q (omega (arith, so-far))
 
 -- ---- joining an undamaged stream
 
@@ -173,19 +181,16 @@ unfolding windowLength
 first-report f m sent gen q i h b none =
     let whole : size f * suc (suc q + m) ≤ size f * length sent = mul-le-mul-left (size f) b in
     let e : length (elements f sent) ≡ size f * length sent = length-elements f sent in
-    let l : length (drop (size f * q + i) (elements f sent)) ≡ length (elements f sent) - (size f * q + i) = length-drop (size f * q + i) (elements f sent) in
-    let stream = drop (size f * q + i) (elements f sent) in (
+    let l : length (drop (size f * q + i) (elements f sent)) ≡ length (elements f sent) - (size f * q + i) = length-drop (size f * q + i) (elements f sent) in (
       λ j c. quiet j c (omega arith) (decLe (windowLength f (suc m)) (suc j)),
-      at-end f m sent gen (size f * q + i) [] stream (none-replaced stream) (λ j c. symbols-intact f sent (size f * q + i) j) none (suc (suc m) * size f - i - 1) (omega arith) refl (omega arith) (suc q) (omega arith),
+      at-end f m sent gen (size f * q + i) none (suc (suc m) * size f - i - 1) (omega arith) (omega arith) (suc q) (omega arith),
     )
   where
     quiet : (j : ℕ) → suc j < suc (suc m) * size f - i → j < length (drop (size f * q + i) (elements f sent)) → Dec (windowLength f (suc m) ≤ suc j)
         → getD (plainAnswers f (suc m) [] (drop (size f * q + i) (elements f sent))) j none ≡ Quiet
-    quiet j c k (no z) =
-        early f m sent gen (size f * q + i) [] (drop (size f * q + i) (elements f sent)) (none-replaced (drop (size f * q + i) (elements f sent))) (λ j c. symbols-intact f sent (size f * q + i) j) none j k (omega arith)
+    quiet j c k (no z) = early f m sent gen (size f * q + i) none j k (omega arith)
     quiet j c k (yes z) =
-        between f m sent gen (size f * q + i) [] (drop (size f * q + i) (elements f sent)) (none-replaced (drop (size f * q + i) (elements f sent))) (λ j c. symbols-intact f sent (size f * q + i) j) none j k (omega arith)
-        (omega arith)
+        between f m sent gen (size f * q + i) none j k
         (λ p a.
         let u : suc q + m < suc p = lt-of-mul-lt-mul-left (size f) (omega arith) in
         let v : suc p < suc (suc q + m) = lt-of-mul-lt-mul-left (size f) (omega arith) in
