@@ -175,6 +175,7 @@ lines =
     ∷ (scan (format B 0) (replicate 4 2) 5 refused 12)
     -- a day with a second added, a day with one taken, the end of a year of 366 days
     ∷ (step (format B 0) (time 181 8639900) 365 secondAdded gives indices (181 ∷ 8640000 ∷ []))
+    ∷ (step (format A 0) (time 181 8639990) 365 secondAdded gives indices (181 ∷ 8640000 ∷ []))
     ∷ (step (format G 1) (time 181 8640099) 365 secondAdded gives indices (182 ∷ 0 ∷ []))
     ∷ (step (format B 0) (time 181 8639800) 365 secondTaken gives indices (182 ∷ 0 ∷ []))
     ∷ (step (format D 2) (time 366 8280000) 366 usual gives indices (1 ∷ 0 ∷ []))
