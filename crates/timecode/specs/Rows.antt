@@ -173,6 +173,9 @@ lines =
     -- Scan asks 1, 12
     ∷ (scan (format B 4) (replicate 4 2) 5 refused 1)
     ∷ (scan (format B 0) (replicate 4 2) 5 refused 12)
+    -- what Read and Scan give: one mark and one frame are enough for Scan
+    ∷ (read (format B 0) (written (format B 0) (time 181 8640000) 5) gives indices (181 ∷ 8640000 ∷ 5 ∷ []))
+    ∷ (scan (format H 1) (3 ∷ 2 ∷ written (format H 1) (time 191 5088000) 7) 0 gives indices (2 ∷ 191 ∷ 5088000 ∷ 7 ∷ []))
     -- a day with a second added, a day with one taken, the end of a year of 366 days
     ∷ (step (format B 0) (time 181 8639900) 365 secondAdded gives indices (181 ∷ 8640000 ∷ []))
     ∷ (step (format A 0) (time 181 8639990) 365 secondAdded gives indices (181 ∷ 8640000 ∷ []))
