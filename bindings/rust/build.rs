@@ -1,8 +1,10 @@
 //! Links librecorder.a from the directory in DUSKVEYRA_LIB, or else from target/staticlib of this repository.
-//! A relative path counts from the directory of this file.
+//! A relative path counts from the directory of this file. The archive must be of the interface that src/sys.rs declares.
 
 use std::path::{Path, PathBuf};
 use std::{env, process};
+
+const INTERFACE: &[u8] = b"duskveyra_interface_2";
 
 fn main() {
     println!("cargo:rerun-if-env-changed=DUSKVEYRA_LIB");
@@ -19,6 +21,16 @@ fn main() {
         eprintln!(
             "no {}: run `rt staticlib recorder` in the repository, or set DUSKVEYRA_LIB",
             archive.display()
+        );
+        process::exit(1);
+    }
+    // The archive's interface, by the symbol that sys.rs refers to: another one is told here and not by the linker.
+    let bytes = std::fs::read(&archive).unwrap_or_default();
+    if !bytes.windows(INTERFACE.len()).any(|part| part == INTERFACE) {
+        eprintln!(
+            "{} is of another interface than this package: it has no symbol {}",
+            archive.display(),
+            String::from_utf8_lossy(INTERFACE)
         );
         process::exit(1);
     }

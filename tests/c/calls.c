@@ -1,41 +1,37 @@
-/* Every function of duskveyra.h but duskveyra_feed_block, which blocks.c calls: its answers, each refusal it can give,
+/* Every function of duskveyra.h: its result, each refusal it can give,
  * their order, and the memory it must leave. What is expected stands in documents 01 and 02: the examples, the table of
  * places, the rules. Also compiles as C++. */
 #include "check.h"
 #include "duskveyra.h"
 
+#include <stddef.h>
 #include <stdio.h>
 #include <stdlib.h>
 #include <string.h>
 
-/* Out-parameters with guard words around each. All bytes start as FILL, the expected ones are set with SET in a second
- * struct, and the two are compared whole, so that anything else that was touched shows. */
+/* The members of the results, and a reader with guard words around it. The members start as 0 and the reader as FILL, the
+ * expected ones are set with SET in a second struct, and the two are compared whole, so that anything else that a result
+ * has or that was touched shows. */
 struct outs {
-    uint64_t guard0;
     uint8_t flag;
-    uint64_t guard1;
     uint16_t day;
-    uint64_t guard2;
     uint32_t hundredths;
-    uint64_t guard3;
     uint64_t control;
-    uint64_t guard4;
     size_t index;
-    uint64_t guard5;
     int64_t difference;
-    uint64_t guard6;
     uint8_t symbol;
-    uint64_t guard7;
+    uint64_t guard0;
     duskveyra_reader reader;
-    uint64_t guard8;
+    uint64_t guard1;
 };
 
 static struct outs got, want;
 
 static void reset(void)
 {
-    memset(&got, FILL, sizeof got);
-    memset(&want, FILL, sizeof want);
+    memset(&got, 0, sizeof got);
+    memset(&got.guard0, FILL, sizeof got - offsetof(struct outs, guard0));
+    memcpy(&want, &got, sizeof want);
 }
 
 /* memcpy and not an assignment, which may change the bytes between the members. */
@@ -239,30 +235,62 @@ static size_t symbols_of(const char *text, uint8_t *symbols)
     return length;
 }
 
+static duskveyra_format format_of(uint8_t letter, uint8_t expression)
+{
+    duskveyra_format format;
+    format.letter = letter;
+    format.expression = expression;
+    return format;
+}
+
+static duskveyra_time time_of(uint16_t day, uint32_t hundredths)
+{
+    duskveyra_time time;
+    time.day = day;
+    time.hundredths = hundredths;
+    return time;
+}
+
+static void got_time(duskveyra_time time)
+{
+    got.day = time.day;
+    got.hundredths = time.hundredths;
+}
+
 static uint8_t call_write(uint8_t letter, uint8_t expression, uint16_t day, uint32_t hundredths, uint64_t control,
                           uint8_t *frame, size_t length)
 {
-    return duskveyra_write(letter, expression, day, hundredths, control, frame, length);
+    return duskveyra_write(format_of(letter, expression), time_of(day, hundredths), control, frame, length).number;
 }
 
 static uint8_t call_read(uint8_t letter, uint8_t expression, const uint8_t *frame, size_t length)
 {
+    duskveyra_read_result result = duskveyra_read(format_of(letter, expression), frame, length);
     reset();
-    return duskveyra_read(letter, expression, frame, length, &got.day, &got.hundredths, &got.control, &got.index);
+    got_time(result.time);
+    got.control = result.control;
+    got.index = result.index;
+    return result.number;
 }
 
 static uint8_t call_step(uint8_t letter, uint8_t expression, uint16_t day, uint32_t hundredths, uint16_t year_length,
                          uint8_t day_kind)
 {
+    duskveyra_step_result result =
+        duskveyra_step(format_of(letter, expression), time_of(day, hundredths), year_length, day_kind);
     reset();
-    return duskveyra_step(letter, expression, day, hundredths, year_length, day_kind, &got.day, &got.hundredths);
+    got_time(result.time);
+    return result.number;
 }
 
 static uint8_t call_step_back(uint8_t letter, uint8_t expression, uint16_t day, uint32_t hundredths,
                               uint16_t year_length, uint8_t day_kind)
 {
+    duskveyra_step_result result =
+        duskveyra_step_back(format_of(letter, expression), time_of(day, hundredths), year_length, day_kind);
     reset();
-    return duskveyra_step_back(letter, expression, day, hundredths, year_length, day_kind, &got.day, &got.hundredths);
+    got_time(result.time);
+    return result.number;
 }
 
 /* Both steps, for what holds of either. */
@@ -272,39 +300,63 @@ static step_call *const both_steps[] = {call_step, call_step_back};
 
 static uint8_t call_scan(uint8_t letter, uint8_t expression, const uint8_t *recording, size_t length, size_t start)
 {
+    duskveyra_scan_result result = duskveyra_scan(format_of(letter, expression), recording, length, start);
     reset();
-    return duskveyra_scan(letter, expression, recording, length, start, &got.flag, &got.index, &got.day,
-                          &got.hundredths, &got.control);
+    got.flag = result.found;
+    got.index = result.start;
+    got_time(result.time);
+    got.control = result.control;
+    return result.number;
 }
 
 static uint8_t call_difference(uint16_t first_day, uint32_t first, uint16_t second_day, uint32_t second)
 {
+    duskveyra_difference_result result =
+        duskveyra_difference(time_of(first_day, first), time_of(second_day, second));
     reset();
-    return duskveyra_difference(first_day, first, second_day, second, &got.difference);
+    got.difference = result.hundredths;
+    return result.number;
 }
 
 static uint8_t call_classify(uint32_t interval, uint32_t width, uint32_t period)
 {
+    duskveyra_classify_result result = duskveyra_classify(interval, width, period);
     reset();
-    return duskveyra_classify(interval, width, period, &got.symbol);
+    got.symbol = result.symbol;
+    return result.number;
+}
+
+static uint8_t call_fresh(uint8_t letter, uint8_t expression, uint8_t setting, duskveyra_reader *reader)
+{
+    return duskveyra_fresh(format_of(letter, expression), setting, reader).number;
 }
 
 /* Sets the reader on both sides, so that a change of it shows. */
-static uint8_t call_feed(const duskveyra_reader *reader, uint8_t symbol)
+static void set_reader(const duskveyra_reader *reader)
 {
     reset();
     got.reader = *reader;
     want.reader = *reader;
-    return duskveyra_feed(&got.reader, symbol, &got.flag, &got.day, &got.hundredths, &got.control);
+}
+
+static uint8_t got_fed(duskveyra_feed_result result)
+{
+    got.flag = result.reported;
+    got_time(result.time);
+    got.control = result.control;
+    return result.number;
+}
+
+static uint8_t call_feed(const duskveyra_reader *reader, uint8_t symbol)
+{
+    set_reader(reader);
+    return got_fed(duskveyra_feed(&got.reader, symbol));
 }
 
 static uint8_t call_feed_pulse(const duskveyra_reader *reader, uint32_t interval, uint32_t width, uint32_t period)
 {
-    reset();
-    got.reader = *reader;
-    want.reader = *reader;
-    return duskveyra_feed_pulse(&got.reader, interval, width, period, &got.flag, &got.day, &got.hundredths,
-                                &got.control);
+    set_reader(reader);
+    return got_fed(duskveyra_feed_pulse(&got.reader, interval, width, period));
 }
 
 static void unknown_formats(void)
@@ -316,9 +368,10 @@ static void unknown_formats(void)
             uint8_t l = (uint8_t)letter, e = (uint8_t)expression;
             uint8_t number = known(l, e) ? 0 : 1;
             reset();
-            CHECK(duskveyra_fresh(l, e, &got.reader) == number);
+            CHECK(call_fresh(l, e, 2, &got.reader) == number);
             if (number == 0) {
-                CHECK(got.reader.words[0] == letter && got.reader.words[1] == expression && got.reader.words[2] == 0);
+                CHECK(got.reader.words[0] == letter && got.reader.words[1] == expression && got.reader.words[2] == 2 &&
+                      got.reader.words[3] == 0);
                 memcpy(&want.reader, &got.reader, sizeof want.reader);
             }
             CHECK(same());
@@ -331,12 +384,24 @@ static void unknown_formats(void)
             CHECK(call_scan(l, e, frame, 100, 0) == 1 && same());
         }
     free(frame);
+    /* Every setting, after the format. */
+    for (letter = 0; letter < 256; letter++) {
+        uint8_t s = (uint8_t)letter;
+        reset();
+        CHECK(call_fresh('H', 3, s, &got.reader) == 1 && same());
+        CHECK(call_fresh('H', 1, s, &got.reader) == (s < 2 || s > 5 ? 26 : 0));
+        if (s >= 2 && s <= 5) {
+            CHECK(got.reader.words[2] == s);
+            memcpy(&want.reader, &got.reader, sizeof want.reader);
+        }
+        CHECK(same());
+    }
     /* A fresh reader sets all words, whatever they held. */
     {
         duskveyra_reader first, second;
         memset(&first, 0, sizeof first);
         memset(&second, 0xff, sizeof second);
-        CHECK(duskveyra_fresh('B', 0, &first) == 0 && duskveyra_fresh('B', 0, &second) == 0);
+        CHECK(call_fresh('B', 0, 3, &first) == 0 && call_fresh('B', 0, 3, &second) == 0);
         CHECK(memcmp(&first, &second, sizeof first) == 0);
     }
 }
@@ -532,7 +597,7 @@ static void orders(void)
         uint8_t number = bad & 1 ? 10 : bad & 2 ? 3 : 0;
         uint32_t *widths = ticks(5, 200), *periods = ticks(bad & 2 ? 4 : 5, 1000);
         uint8_t *symbols = bytes(5, FILL);
-        CHECK(duskveyra_classify_list(bad & 1 ? 99 : 1000, widths, 5, periods, bad & 2 ? 4 : 5, symbols, 5) == number);
+        CHECK(duskveyra_classify_list(bad & 1 ? 99 : 1000, widths, 5, periods, bad & 2 ? 4 : 5, symbols, 5).number == number);
         CHECK(all_bytes(symbols, 5, number == 0 ? 0 : FILL));
         free(widths);
         free(periods);
@@ -541,9 +606,9 @@ static void orders(void)
     for (bad = 0; bad < 4; bad++) {
         duskveyra_reader reader;
         uint8_t number = bad & 1 ? 13 : bad & 2 ? 4 : 0;
-        CHECK(duskveyra_fresh('H', 1, &reader) == 0);
+        CHECK(call_fresh('H', 1, 2, &reader) == 0);
         if (bad & 1)
-            reader.words[2] = 60;
+            reader.words[3] = 60;
         CHECK(call_feed(&reader, bad & 2 ? 4 : 2) == number);
         CHECK(number == 0 || same());
         number = bad & 2 ? 10 : bad & 1 ? 13 : 0;
@@ -940,10 +1005,10 @@ static void classifier(void)
                     widths[m] = (uint32_t)below(1000);
                 for (m = 0; m < j; m++)
                     periods[m] = 900 + (uint32_t)below(200);
-                CHECK(duskveyra_classify_list(99, widths, i, periods, j, lent + 16, k) == 10);
+                CHECK(duskveyra_classify_list(99, widths, i, periods, j, lent + 16, k).number == 10);
                 CHECK(all_bytes(lent, 32 + k, FILL));
-                CHECK(duskveyra_classify_list(1000, widths, i, periods, j, lent + 16, k) == number);
-                CHECK(duskveyra_classify_list(1000, widths, i, periods, j, exact, k) == number);
+                CHECK(duskveyra_classify_list(1000, widths, i, periods, j, lent + 16, k).number == number);
+                CHECK(duskveyra_classify_list(1000, widths, i, periods, j, exact, k).number == number);
                 CHECK(all_bytes(lent, 16, FILL) && all_bytes(lent + 16 + k, 16, FILL));
                 for (m = 0; m < k; m++) {
                     uint8_t expected = number == 0 ? symbol_of(1000, widths[m], periods[m]) : FILL;
@@ -985,7 +1050,7 @@ static void listing(void)
     CHECK(length == 121);
     for (pulse = 0; pulse < 2; pulse++) {
         duskveyra_reader reader;
-        CHECK(duskveyra_fresh('H', 1, &reader) == 0);
+        CHECK(call_fresh('H', 1, 2, &reader) == 0);
         for (i = 0; i < length; i++) {
             int reported;
             /* A refused symbol or interval in between changes nothing. */
@@ -997,20 +1062,20 @@ static void listing(void)
         }
         CHECK(got.day == 191 && got.hundredths == 5094000 && got.control == 0);
         CHECK(got.hundredths == ((14 * 60 + 9) * 60) * 100);
-        CHECK(reader.words[2] == 121 % 60);
+        CHECK(reader.words[3] == 121 % 60);
         /* One more element brings nothing. */
         CHECK(!feed(&reader, 2, pulse));
     }
 }
 
-/* An undamaged stream over the end of a year, joined at every element: the first report with element 3n - i, then one
- * with each frame. */
+/* An undamaged stream over the end of a year, joined at every element i with every setting k: the first report with
+ * element (k + 1)n - i, then one with each frame. */
 static void streams(void)
 {
     int f;
     for (f = 0; f < FORMATS; f++) {
         uint8_t letter = (uint8_t)letters[f], expression = expressions[f];
-        size_t n = size_of(letter), i, joined, heard;
+        size_t n = size_of(letter), i, joined, received;
         uint16_t day[6];
         uint32_t c[6];
         uint64_t control[6];
@@ -1026,12 +1091,13 @@ static void streams(void)
                 c[i + 1] = got.hundredths;
             }
         }
-        for (joined = 0; joined < n; joined++) {
+        for (joined = 0; joined < 4 * n; joined++) {
             duskveyra_reader reader;
-            CHECK(duskveyra_fresh(letter, expression, &reader) == 0);
-            for (i = joined, heard = 1; i < 6 * n; i++, heard++) {
+            size_t setting = 2 + joined / n, first = joined % n;
+            CHECK(call_fresh(letter, expression, (uint8_t)setting, &reader) == 0);
+            for (i = first, received = 1; i < 6 * n; i++, received++) {
                 int reported = feed(&reader, stream[i], 0);
-                int due = (i + 1) % n == 0 && heard >= 3 * n - joined;
+                int due = (i + 1) % n == 0 && received >= (setting + 1) * n - first;
                 CHECK(reported == due);
                 if (reported) {
                     size_t k = i / n;
@@ -1077,7 +1143,7 @@ static void leap_streams(void)
                 size_t reports = 0;
                 if (!whole)
                     stream[at] = (uint8_t)((kept + 1 + below(3)) % 4);
-                CHECK(duskveyra_fresh(letter, expression, &reader) == 0);
+                CHECK(call_fresh(letter, expression, 2, &reader) == 0);
                 for (i = 0; i <= 5 * n; i++)
                     if (feed(&reader, stream[i], 0)) {
                         reports++;
@@ -1144,8 +1210,8 @@ static void empty(void)
     uint32_t *widths = ticks(0, 7), *periods = ticks(0, 7);
     CHECK(call_write('B', 0, 1, 0, 0, none, 0) == 3 && none[0] == FILL);
     CHECK(call_read('B', 0, none, 0) == 3 && same());
-    CHECK(duskveyra_classify_list(1000, widths, 0, periods, 0, none, 0) == 0 && none[0] == FILL);
-    CHECK(duskveyra_classify_list(99, widths, 0, periods, 0, none, 0) == 10 && none[0] == FILL);
+    CHECK(duskveyra_classify_list(1000, widths, 0, periods, 0, none, 0).number == 0 && none[0] == FILL);
+    CHECK(duskveyra_classify_list(99, widths, 0, periods, 0, none, 0).number == 10 && none[0] == FILL);
     CHECK(call_scan('B', 0, none, 0, 0) == 0);
     SET(uint8_t, flag, 0);
     CHECK(same());
@@ -1159,17 +1225,22 @@ static int valid(const duskveyra_reader *reader)
 {
     const uint64_t *words = reader->words;
     return words[0] < 256 && words[1] < 256 && known((uint8_t)words[0], (uint8_t)words[1]) &&
-           words[2] < size_of((uint8_t)words[0]);
+           words[3] < size_of((uint8_t)words[0]);
 }
 
-/* Feeds a reader that no feeding made: 13, else 4 for a symbol above 3, else Quiet or Report, and nothing else touched. */
+static int is_set(const duskveyra_reader *reader)
+{
+    return 2 <= reader->words[2] && reader->words[2] <= 5;
+}
+
+/* Feeds a reader that no feeding made: 13, else 26 for a setting that is none, else 4 for a symbol above 3, else Quiet or Report, and nothing else touched. */
 static void feed_any(const duskveyra_reader *reader)
 {
     static const uint8_t symbols[] = {0, 1, 2, 3, 4, 255};
     size_t i;
     for (i = 0; i < sizeof symbols; i++) {
         uint8_t answer = call_feed(reader, symbols[i]);
-        uint8_t number = !valid(reader) ? 13 : symbols[i] > 3 ? 4 : 0;
+        uint8_t number = !valid(reader) ? 13 : !is_set(reader) ? 26 : symbols[i] > 3 ? 4 : 0;
         CHECK(answer == number);
         if (number == 0) {
             CHECK(got.flag <= 1);
@@ -1181,8 +1252,8 @@ static void feed_any(const duskveyra_reader *reader)
         }
         CHECK(same());
         CHECK(call_feed_pulse(reader, 99, 800, 1000) == 10 && same());
-        CHECK(call_feed_pulse(reader, 1000, 800, 1000) == (valid(reader) ? 0 : 13));
-        CHECK(valid(reader) || same());
+        CHECK(call_feed_pulse(reader, 1000, 800, 1000) == (!valid(reader) ? 13 : is_set(reader) ? 0 : 26));
+        CHECK((valid(reader) && is_set(reader)) || same());
     }
 }
 
@@ -1197,15 +1268,15 @@ static void any_reader(void)
     feed_any(&reader);
     for (f = 0; f < FORMATS; f++) {
         size_t n = size_of((uint8_t)letters[f]);
-        CHECK(duskveyra_fresh((uint8_t)letters[f], expressions[f], &reader) == 0);
+        CHECK(call_fresh((uint8_t)letters[f], expressions[f], 2, &reader) == 0);
         feed_any(&reader);
-        reader.words[2] = n;
+        reader.words[3] = n;
         feed_any(&reader);
-        reader.words[2] = UINT64_MAX;
+        reader.words[3] = UINT64_MAX;
         feed_any(&reader);
-        reader.words[2] = UINT64_C(1) << 32;
+        reader.words[3] = UINT64_C(1) << 32;
         feed_any(&reader);
-        reader.words[2] = n - 1;
+        reader.words[3] = n - 1;
         feed_any(&reader);
         /* The low byte is a letter, the word is none. */
         reader.words[0] += 256;
@@ -1224,10 +1295,12 @@ static void any_reader(void)
         if (turn % 4 != 0) {
             reader.words[0] = (uint64_t)letters[turn % FORMATS];
             reader.words[1] = expressions[turn % FORMATS];
-            reader.words[2] = below(110);
+            reader.words[2] = turn % 3 == 0 ? below(8) : 2 + below(4);
+            reader.words[3] = below(110);
+            reader.words[4] = turn % 7 == 0 ? random64() : below(102);
         }
         if (turn % 5 == 0)
-            reader.words[3 + turn % 7] = UINT64_C(0xaaaaaaaaaaaaaaaa); /* marks */
+            reader.words[5 + turn % 4] = UINT64_C(0xaaaaaaaaaaaaaaaa); /* marks */
         feed_any(&reader);
     }
 }

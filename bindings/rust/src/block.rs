@@ -41,7 +41,7 @@ impl Reader {
     /// write(format, Time { day: 191, hundredths: 5_088_000 }, 0, &mut symbols[1..61])?;
     /// write(format, Time { day: 191, hundredths: 5_094_000 }, 0b101, &mut symbols[61..])?;
     ///
-    /// let mut reader = Reader::fresh(format)?;
+    /// let mut reader = Reader::fresh(format, 2)?;
     /// let (mut indexes, mut days, mut hundredths, mut controls) = ([0; 2], [0; 2], [0; 2], [0; 2]);
     /// let block =
     ///     reader.feed_block(&symbols, &mut indexes, &mut days, &mut hundredths, &mut controls)?;
@@ -59,10 +59,9 @@ impl Reader {
         hundredths: &mut [u32],
         controls: &mut [u64],
     ) -> Result<Block, Refusal> {
-        let (mut taken, mut reports, mut stop) = (0, 0, 0);
-        // SAFETY: the reader's words are lent alone, each pointer and length are those of one slice that nothing else
-        // points into, and the other three pointers point to locals.
-        let number = unsafe {
+        // SAFETY: the reader's words are lent alone, and each pointer and length are those of one slice that nothing else
+        // points into.
+        let result = unsafe {
             sys::duskveyra_feed_block(
                 &mut self.words,
                 symbols.as_ptr(),
@@ -75,21 +74,18 @@ impl Reader {
                 hundredths.len(),
                 controls.as_mut_ptr(),
                 controls.len(),
-                &mut taken,
-                &mut reports,
-                &mut stop,
             )
         };
-        Refusal::check(number, 0)?;
-        let stop = match stop {
+        Refusal::check(result.number, 0)?;
+        let stop = match result.stop {
             0 => Stop::AllTaken,
             1 => Stop::UnknownSymbol,
             2 => Stop::NoRoom,
-            _ => unreachable!("the library stopped for {stop}, which is no number of a stop"),
+            stop => unreachable!("the library stopped for {stop}, which is no number of a stop"),
         };
         Ok(Block {
-            taken,
-            reports,
+            taken: result.taken,
+            reports: result.reports,
             stop,
         })
     }

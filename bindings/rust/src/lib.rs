@@ -8,9 +8,9 @@
 //! use duskveyra::{write, Format, Reader, Report, Time};
 //!
 //! let format = Format { letter: b'H', expression: 1 };
-//! let mut reader = Reader::fresh(format)?;
+//! let mut reader = Reader::fresh(format, 2)?;
 //! let mut frame = [0; 60];
-//! // A reader reports with the last element of the second of two frames behind a mark.
+//! // A reader with setting 2 reports with the last element of the second of two frames behind a mark.
 //! assert_eq!(reader.feed(duskveyra::MARK), Ok(None));
 //! write(format, Time { day: 191, hundredths: 5_088_000 }, 0, &mut frame)?;
 //! for symbol in frame {
@@ -68,7 +68,11 @@ pub const SECOND_TAKEN: u8 = 2;
 /// The elements of the longest frame.
 pub const LONGEST_FRAME: usize = 100;
 /// The words of a [`Reader`].
-pub const READER_WORDS: usize = 10;
+pub const READER_WORDS: usize = 13;
+/// The least setting of a [`Reader`]: how many frames in a row it asks for.
+pub const LEAST_SETTING: u8 = 2;
+/// The greatest setting.
+pub const GREATEST_SETTING: u8 = 5;
 
 /// A rate letter and a coded expression. Any two bytes make a value of this type; a call refuses one that is no format
 /// with [`Refusal::UnknownFormat`].
@@ -82,6 +86,7 @@ pub const READER_WORDS: usize = 10;
 /// | G | 1, 2 | 100 | 1 | 36 |
 /// | H | 1, 2 | 60 | 6,000 | 9 |
 #[derive(Clone, Copy, Debug, PartialEq, Eq, Hash)]
+#[repr(C)]
 pub struct Format {
     /// The rate letter in capital ASCII.
     pub letter: u8,
@@ -94,6 +99,7 @@ pub struct Format {
 /// it lies in a second that was added to its day, 23:59:60; D, E and H do not carry that second, and
 /// [`write`](fn@write), [`step`] and [`step_back`] refuse it there with [`Refusal::SecondNotCarried`].
 #[derive(Clone, Copy, Debug, PartialEq, Eq, Hash)]
+#[repr(C)]
 pub struct Time {
     /// The day, 1 to 366.
     pub day: u16,
@@ -114,7 +120,7 @@ pub struct Report {
 #[derive(Clone, Copy, Debug, PartialEq, Eq, Hash)]
 pub struct Found {
     /// The index of the frame's first element in the recording.
-    pub at: usize,
+    pub start: usize,
     /// What the frame says.
     pub report: Report,
 }
@@ -126,18 +132,9 @@ pub struct Found {
 #[inline]
 pub fn write(format: Format, time: Time, control: u64, frame: &mut [u8]) -> Result<(), Refusal> {
     // SAFETY: the pointer and the length are those of one lent slice, which nothing else points into.
-    let number = unsafe {
-        sys::duskveyra_write(
-            format.letter,
-            format.expression,
-            time.day,
-            time.hundredths,
-            control,
-            frame.as_mut_ptr(),
-            frame.len(),
-        )
-    };
-    Refusal::check(number, 0)
+    let result =
+        unsafe { sys::duskveyra_write(format, time, control, frame.as_mut_ptr(), frame.len()) };
+    Refusal::check(result.number, 0)
 }
 
 /// Reads one frame: the time and the control word that are written as these symbols.
@@ -145,22 +142,13 @@ pub fn write(format: Format, time: Time, control: u64, frame: &mut [u8]) -> Resu
 /// Refuses with 1; 3; 4; the lowest index that offends with 5 or 6; 7; 8; in this order.
 #[inline]
 pub fn read(format: Format, frame: &[u8]) -> Result<Report, Refusal> {
-    let (mut day, mut hundredths, mut control, mut index) = (0, 0, 0, 0);
-    // SAFETY: the pointer and the length are those of one slice, and the other four point to locals.
-    let number = unsafe {
-        sys::duskveyra_read(
-            format.letter,
-            format.expression,
-            frame.as_ptr(),
-            frame.len(),
-            &mut day,
-            &mut hundredths,
-            &mut control,
-            &mut index,
-        )
-    };
-    Refusal::check(number, index)?;
-    Ok(report(day, hundredths, control))
+    // SAFETY: the pointer and the length are those of one slice.
+    let result = unsafe { sys::duskveyra_read(format, frame.as_ptr(), frame.len()) };
+    Refusal::check(result.number, result.index)?;
+    Ok(Report {
+        time: result.time,
+        control: result.control,
+    })
 }
 
 /// The time of the frame after the one with this time, in a year of `year_length` days. The kind is that of the given
@@ -169,22 +157,10 @@ pub fn read(format: Format, frame: &[u8]) -> Result<Report, Refusal> {
 /// Refuses with 1; 2; 14; 11; 15; in this order.
 #[inline]
 pub fn step(format: Format, time: Time, year_length: u16, kind: u8) -> Result<Time, Refusal> {
-    let (mut day, mut hundredths) = (0, 0);
-    // SAFETY: both pointers point to locals.
-    let number = unsafe {
-        sys::duskveyra_step(
-            format.letter,
-            format.expression,
-            time.day,
-            time.hundredths,
-            year_length,
-            kind,
-            &mut day,
-            &mut hundredths,
-        )
-    };
-    Refusal::check(number, 0)?;
-    Ok(Time { day, hundredths })
+    // SAFETY: no pointer is lent.
+    let result = unsafe { sys::duskveyra_step(format, time, year_length, kind) };
+    Refusal::check(result.number, 0)?;
+    Ok(result.time)
 }
 
 /// The time of the frame before the one with this time. The year length and the kind are those of the year and the day
@@ -194,22 +170,10 @@ pub fn step(format: Format, time: Time, year_length: u16, kind: u8) -> Result<Ti
 /// Refuses as [`step`] does, by the time that is given: 1; 2; 14; 11; 15; in this order.
 #[inline]
 pub fn step_back(format: Format, time: Time, year_length: u16, kind: u8) -> Result<Time, Refusal> {
-    let (mut day, mut hundredths) = (0, 0);
-    // SAFETY: both pointers point to locals.
-    let number = unsafe {
-        sys::duskveyra_step_back(
-            format.letter,
-            format.expression,
-            time.day,
-            time.hundredths,
-            year_length,
-            kind,
-            &mut day,
-            &mut hundredths,
-        )
-    };
-    Refusal::check(number, 0)?;
-    Ok(Time { day, hundredths })
+    // SAFETY: no pointer is lent.
+    let result = unsafe { sys::duskveyra_step_back(format, time, year_length, kind) };
+    Refusal::check(result.number, 0)?;
+    Ok(result.time)
 }
 
 /// The first time less the second, within one year, in signed hundredths of a second. A day counts 8,640,000 of them,
@@ -218,19 +182,10 @@ pub fn step_back(format: Format, time: Time, year_length: u16, kind: u8) -> Resu
 /// Refuses with 2 where a day or hundredths are out of range; no grid of a format is asked for.
 #[inline]
 pub fn difference(first: Time, second: Time) -> Result<i64, Refusal> {
-    let mut difference = 0;
-    // SAFETY: the pointer points to a local.
-    let number = unsafe {
-        sys::duskveyra_difference(
-            first.day,
-            first.hundredths,
-            second.day,
-            second.hundredths,
-            &mut difference,
-        )
-    };
-    Refusal::check(number, 0)?;
-    Ok(difference)
+    // SAFETY: no pointer is lent.
+    let result = unsafe { sys::duskveyra_difference(first, second) };
+    Refusal::check(result.number, 0)?;
+    Ok(result.hundredths)
 }
 
 /// The symbol of one pulse by its width and its period, in the ticks of `interval`, the nominal element interval.
@@ -238,11 +193,10 @@ pub fn difference(first: Time, second: Time) -> Result<i64, Refusal> {
 /// Refuses with 10.
 #[inline]
 pub fn classify(interval: u32, width: u32, period: u32) -> Result<u8, Refusal> {
-    let mut symbol = 0;
-    // SAFETY: the pointer points to a local.
-    let number = unsafe { sys::duskveyra_classify(interval, width, period, &mut symbol) };
-    Refusal::check(number, 0)?;
-    Ok(symbol)
+    // SAFETY: no pointer is lent.
+    let result = unsafe { sys::duskveyra_classify(interval, width, period) };
+    Refusal::check(result.number, 0)?;
+    Ok(result.symbol)
 }
 
 /// Classifies a list of pulses: symbol i is that of width i and period i; every symbol is set.
@@ -256,7 +210,7 @@ pub fn classify_list(
     symbols: &mut [u8],
 ) -> Result<(), Refusal> {
     // SAFETY: each pointer and length are those of one slice, and nothing else points into the symbols.
-    let number = unsafe {
+    let result = unsafe {
         sys::duskveyra_classify_list(
             interval,
             widths.as_ptr(),
@@ -267,7 +221,7 @@ pub fn classify_list(
             symbols.len(),
         )
     };
-    Refusal::check(number, 0)
+    Refusal::check(result.number, 0)
 }
 
 /// Looks in a recording of symbols for the first frame that begins at `start` or later, and at index 1 or later, behind
@@ -276,89 +230,69 @@ pub fn classify_list(
 /// Refuses with 1; 12 where `start` is above the recording's length; in this order.
 #[inline]
 pub fn scan(format: Format, recording: &[u8], start: usize) -> Result<Option<Found>, Refusal> {
-    let (mut found, mut at, mut day, mut hundredths, mut control) = (0, 0, 0, 0, 0);
-    // SAFETY: the pointer and the length are those of one slice, and the other five point to locals.
-    let number = unsafe {
-        sys::duskveyra_scan(
-            format.letter,
-            format.expression,
-            recording.as_ptr(),
-            recording.len(),
-            start,
-            &mut found,
-            &mut at,
-            &mut day,
-            &mut hundredths,
-            &mut control,
-        )
-    };
-    Refusal::check(number, 0)?;
-    Ok((found != 0).then(|| Found {
-        at,
-        report: report(day, hundredths, control),
+    // SAFETY: the pointer and the length are those of one slice.
+    let result = unsafe { sys::duskveyra_scan(format, recording.as_ptr(), recording.len(), start) };
+    Refusal::check(result.number, 0)?;
+    Ok((result.found != 0).then_some(Found {
+        start: result.start,
+        report: Report {
+            time: result.time,
+            control: result.control,
+        },
     }))
 }
 
-/// A stream reader: it hears one symbol at a time and reports with the one that ends the second of two frames behind a
-/// mark, the second's time next after the first's for some year length and some kind of day.
+/// A stream reader: it receives one symbol at a time and reports with the one that ends the last of as many frames as its
+/// setting says, directly one after the other behind a mark, each time next after the one before for some year length and
+/// some kind of day.
 #[derive(Clone, Debug, PartialEq, Eq, Hash)]
 pub struct Reader {
     words: [u64; READER_WORDS],
 }
 
 impl Reader {
-    /// A reader that has a format and has heard nothing.
+    /// A reader that has a format and a setting, 2 to 5, and has received nothing.
     ///
-    /// Refuses with 1.
+    /// Refuses with 1; 26; in this order.
     #[inline]
-    pub fn fresh(format: Format) -> Result<Reader, Refusal> {
+    pub fn fresh(format: Format, setting: u8) -> Result<Reader, Refusal> {
         let mut words = [0; READER_WORDS];
-        // SAFETY: the pointer points to a local of ten words.
-        let number = unsafe { sys::duskveyra_fresh(format.letter, format.expression, &mut words) };
-        Refusal::check(number, 0)?;
+        // SAFETY: the pointer points to a local of as many words as the library's reader has.
+        let result = unsafe { sys::duskveyra_fresh(format, setting, &mut words) };
+        Refusal::check(result.number, 0)?;
         Ok(Reader { words })
     }
 
-    /// The reader that these words hold, as [`words`](Reader::words) gave them. Any words are allowed: a letter,
-    /// expression or place out of range is refused with 13 when the reader is fed. Of other words that no feeding
+    /// The reader with these words, as [`words`](Reader::words) gave them. Any words are allowed: a letter, expression or
+    /// place out of range is refused with 13 when the reader is fed, a setting with 26. Of other words that no feeding
     /// made, what is reported is not promised.
     #[inline]
     pub fn from_words(words: [u64; READER_WORDS]) -> Reader {
         Reader { words }
     }
 
-    /// The reader's words, to be stored: the letter, the expression, the place, and seven of the symbols heard last.
+    /// The reader's words, to be stored: the letter, the expression, the setting and the place; the count of the frame
+    /// under way, the newest symbols, three words of the frame's symbols and the row; the day, the hundredths and the
+    /// control word of the row's last frame.
     #[inline]
     pub fn words(&self) -> [u64; READER_WORDS] {
         self.words
     }
 
-    /// Feeds one symbol: `Some` where it ended the second of two frames that follow each other behind a mark, with that
-    /// frame's time and control word; else `None`.
+    /// Feeds one symbol: `Some` where it ended the last of as many frames that follow each other behind a mark as the
+    /// setting says, with that frame's time and control word; else `None`.
     ///
-    /// Refuses with 13; 4; in this order, and then feeds nothing and leaves the reader as it was. A reader made by
-    /// [`fresh`](Reader::fresh) and changed by feeding alone never meets 13.
+    /// Refuses with 13; 26; 4; in this order, and then feeds nothing and leaves the reader as it was. A reader made by
+    /// [`fresh`](Reader::fresh) and changed by feeding alone never meets 13 or 26.
     #[inline]
     pub fn feed(&mut self, symbol: u8) -> Result<Option<Report>, Refusal> {
-        let (mut reported, mut day, mut hundredths, mut control) = (0, 0, 0, 0);
-        // SAFETY: the reader's words are lent alone, and the other four pointers point to locals.
-        let number = unsafe {
-            sys::duskveyra_feed(
-                &mut self.words,
-                symbol,
-                &mut reported,
-                &mut day,
-                &mut hundredths,
-                &mut control,
-            )
-        };
-        Refusal::check(number, 0)?;
-        Ok((reported != 0).then(|| report(day, hundredths, control)))
+        // SAFETY: the reader's words are lent alone.
+        reported(unsafe { sys::duskveyra_feed(&mut self.words, symbol) })
     }
 
     /// Classifies one pulse, as [`classify`] does, and feeds its symbol.
     ///
-    /// Refuses with 10; 13; in this order, and then feeds nothing and leaves the reader as it was.
+    /// Refuses with 10; 13; 26; in this order, and then feeds nothing and leaves the reader as it was.
     #[inline]
     pub fn feed_pulse(
         &mut self,
@@ -366,29 +300,16 @@ impl Reader {
         width: u32,
         period: u32,
     ) -> Result<Option<Report>, Refusal> {
-        let (mut reported, mut day, mut hundredths, mut control) = (0, 0, 0, 0);
-        // SAFETY: the reader's words are lent alone, and the other four pointers point to locals.
-        let number = unsafe {
-            sys::duskveyra_feed_pulse(
-                &mut self.words,
-                interval,
-                width,
-                period,
-                &mut reported,
-                &mut day,
-                &mut hundredths,
-                &mut control,
-            )
-        };
-        Refusal::check(number, 0)?;
-        Ok((reported != 0).then(|| report(day, hundredths, control)))
+        // SAFETY: the reader's words are lent alone.
+        reported(unsafe { sys::duskveyra_feed_pulse(&mut self.words, interval, width, period) })
     }
 }
 
 #[inline]
-fn report(day: u16, hundredths: u32, control: u64) -> Report {
-    Report {
-        time: Time { day, hundredths },
-        control,
-    }
+fn reported(result: sys::FeedResult) -> Result<Option<Report>, Refusal> {
+    Refusal::check(result.number, 0)?;
+    Ok((result.reported != 0).then_some(Report {
+        time: result.time,
+        control: result.control,
+    }))
 }

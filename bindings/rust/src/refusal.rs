@@ -1,4 +1,4 @@
-//! The fifteen numbers that a call refuses with.
+//! The sixteen numbers that a call refuses with.
 
 use std::error::Error;
 use std::fmt;
@@ -37,10 +37,12 @@ pub enum Refusal {
     SecondNotCarried,
     /// 15: kind of day above 2, or in A, B and G a time past the end of a day of that kind.
     InvalidKind,
+    /// 26: the reader's setting not 2 to 5.
+    InvalidSetting,
 }
 
 impl Refusal {
-    /// The number, 1 to 15.
+    /// The number, 1 to 15 or 26.
     pub fn number(self) -> u8 {
         match self {
             Refusal::UnknownFormat => 1,
@@ -58,6 +60,7 @@ impl Refusal {
             Refusal::InvalidReader => 13,
             Refusal::SecondNotCarried => 14,
             Refusal::InvalidKind => 15,
+            Refusal::InvalidSetting => 26,
         }
     }
 
@@ -88,6 +91,7 @@ impl Refusal {
             13 => Refusal::InvalidReader,
             14 => Refusal::SecondNotCarried,
             15 => Refusal::InvalidKind,
+            26 => Refusal::InvalidSetting,
             _ => unreachable!("the library returned {number}, which is no number of a refusal"),
         })
     }
@@ -113,6 +117,7 @@ impl fmt::Display for Refusal {
             Refusal::InvalidReader => "reader's letter, expression or place out of range",
             Refusal::SecondNotCarried => "added second in a format that does not carry it",
             Refusal::InvalidKind => "kind of day above 2, or the time is past the day's end",
+            Refusal::InvalidSetting => "setting not 2 to 5",
         };
         write!(f, "refused {}: {why}", self.number())?;
         match self.index() {

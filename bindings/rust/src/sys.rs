@@ -1,73 +1,101 @@
 //! The library's functions as include/duskveyra.h declares them.
 //!
-//! Each returns 0 or the number of a refusal. No pointer may be null, and no two pointers of one call may point into
-//! the same memory; beside that every value is allowed.
+//! Each returns a struct: its number is 0 or that of a refusal, and where it is not 0 every other field is 0, but the
+//! index with 5 and 6. No pointer may be null, and no two pointers of one call may point into the same memory; beside
+//! that every value is allowed.
+
+use crate::{Format, Time, READER_WORDS};
+
+#[repr(C)]
+pub struct WriteResult {
+    pub number: u8,
+}
+
+#[repr(C)]
+pub struct ReadResult {
+    pub number: u8,
+    pub index: usize,
+    pub time: Time,
+    pub control: u64,
+}
+
+#[repr(C)]
+pub struct StepResult {
+    pub number: u8,
+    pub time: Time,
+}
+
+#[repr(C)]
+pub struct DifferenceResult {
+    pub number: u8,
+    pub hundredths: i64,
+}
+
+#[repr(C)]
+pub struct ClassifyResult {
+    pub number: u8,
+    pub symbol: u8,
+}
+
+#[repr(C)]
+pub struct ScanResult {
+    pub number: u8,
+    pub found: u8,
+    pub start: usize,
+    pub time: Time,
+    pub control: u64,
+}
+
+#[repr(C)]
+pub struct FeedResult {
+    pub number: u8,
+    pub reported: u8,
+    pub time: Time,
+    pub control: u64,
+}
+
+#[repr(C)]
+pub struct BlockResult {
+    pub number: u8,
+    pub stop: u8,
+    pub taken: usize,
+    pub reports: usize,
+}
 
 extern "C" {
+    pub fn duskveyra_interface_2() -> u32;
+
     pub fn duskveyra_write(
-        letter: u8,
-        expression: u8,
-        day: u16,
-        hundredths: u32,
+        format: Format,
+        time: Time,
         control: u64,
         frame: *mut u8,
         frame_length: usize,
-    ) -> u8;
+    ) -> WriteResult;
 
-    pub fn duskveyra_read(
-        letter: u8,
-        expression: u8,
-        frame: *const u8,
-        frame_length: usize,
-        day: *mut u16,
-        hundredths: *mut u32,
-        control: *mut u64,
-        index: *mut usize,
-    ) -> u8;
+    pub fn duskveyra_read(format: Format, frame: *const u8, frame_length: usize) -> ReadResult;
 
-    pub fn duskveyra_step(
-        letter: u8,
-        expression: u8,
-        day: u16,
-        hundredths: u32,
-        year_length: u16,
-        kind: u8,
-        next_day: *mut u16,
-        next_hundredths: *mut u32,
-    ) -> u8;
+    pub fn duskveyra_step(format: Format, time: Time, year_length: u16, kind: u8) -> StepResult;
 
     pub fn duskveyra_step_back(
-        letter: u8,
-        expression: u8,
-        day: u16,
-        hundredths: u32,
+        format: Format,
+        time: Time,
         year_length: u16,
         kind: u8,
-        earlier_day: *mut u16,
-        earlier_hundredths: *mut u32,
-    ) -> u8;
+    ) -> StepResult;
 
-    pub fn duskveyra_difference(
-        first_day: u16,
-        first_hundredths: u32,
-        second_day: u16,
-        second_hundredths: u32,
-        difference: *mut i64,
-    ) -> u8;
+    pub fn duskveyra_difference(first: Time, second: Time) -> DifferenceResult;
 
-    pub fn duskveyra_fresh(letter: u8, expression: u8, reader: *mut [u64; 10]) -> u8;
+    pub fn duskveyra_fresh(
+        format: Format,
+        setting: u8,
+        reader: *mut [u64; READER_WORDS],
+    ) -> WriteResult;
 
-    pub fn duskveyra_feed(
-        reader: *mut [u64; 10],
-        symbol: u8,
-        reported: *mut u8,
-        day: *mut u16,
-        hundredths: *mut u32,
-        control: *mut u64,
-    ) -> u8;
+    pub fn duskveyra_feed(reader: *mut [u64; READER_WORDS], symbol: u8) -> FeedResult;
 
     pub fn duskveyra_feed_block(
-        reader: *mut [u64; 10],
+        reader: *mut [u64; READER_WORDS],
         symbols: *const u8,
         symbols_length: usize,
         indexes: *mut usize,
@@ -78,12 +106,16 @@ extern "C" {
         hundredths_length: usize,
         controls: *mut u64,
         controls_length: usize,
-        taken: *mut usize,
-        reports: *mut usize,
-        stop: *mut u8,
-    ) -> u8;
+    ) -> BlockResult;
 
-    pub fn duskveyra_classify(interval: u32, width: u32, period: u32, symbol: *mut u8) -> u8;
+    pub fn duskveyra_feed_pulse(
+        reader: *mut [u64; READER_WORDS],
+        interval: u32,
+        width: u32,
+        period: u32,
+    ) -> FeedResult;
+
+    pub fn duskveyra_classify(interval: u32, width: u32, period: u32) -> ClassifyResult;
 
     pub fn duskveyra_classify_list(
         interval: u32,
@@ -93,29 +125,16 @@ extern "C" {
         periods_length: usize,
         symbols: *mut u8,
         symbols_length: usize,
-    ) -> u8;
-
-    pub fn duskveyra_feed_pulse(
-        reader: *mut [u64; 10],
-        interval: u32,
-        width: u32,
-        period: u32,
-        reported: *mut u8,
-        day: *mut u16,
-        hundredths: *mut u32,
-        control: *mut u64,
-    ) -> u8;
+    ) -> WriteResult;
 
     pub fn duskveyra_scan(
-        letter: u8,
-        expression: u8,
+        format: Format,
         recording: *const u8,
         recording_length: usize,
         start: usize,
-        found: *mut u8,
-        at: *mut usize,
-        day: *mut u16,
-        hundredths: *mut u32,
-        control: *mut u64,
-    ) -> u8;
+    ) -> ScanResult;
 }
+
+// The number of the interface that this file declares: an archive of another one does not link.
+#[used]
+static INTERFACE: unsafe extern "C" fn() -> u32 = duskveyra_interface_2;

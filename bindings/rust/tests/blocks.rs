@@ -94,7 +94,7 @@ impl Recording {
             write(format, time, control - u64::from(index), &mut frame).expect("a time and a word");
             symbols.extend_from_slice(&frame);
         }
-        let mut after = vec![Reader::fresh(format).expect("a format")];
+        let mut after = vec![Reader::fresh(format, 2).expect("a format")];
         let mut reports = Vec::new();
         for (index, &symbol) in symbols.iter().enumerate() {
             let mut reader = after[index].clone();

@@ -3,8 +3,8 @@
 
 use duskveyra::{
     classify, classify_list, difference, read, scan, step, step_back, write, Format, Found, Reader,
-    Refusal, Report, Time, LONGEST_FRAME, MARK, ONE, SECOND_ADDED, SECOND_TAKEN, SPOILED,
-    USUAL_DAY, ZERO,
+    Refusal, Report, Time, GREATEST_SETTING, LEAST_SETTING, LONGEST_FRAME, MARK, ONE, READER_WORDS,
+    SECOND_ADDED, SECOND_TAKEN, SPOILED, USUAL_DAY, ZERO,
 };
 
 const FORMATS: [&str; 16] = [
@@ -372,7 +372,7 @@ fn days_of_every_kind_are_reported() {
         let (format, interval) = (format(name), table(format(name)).1);
         for (kind, end) in (USUAL_DAY..=SECOND_TAKEN).zip(day_ends(format)) {
             let mut at = time(365, end - 2 * interval);
-            let mut reader = Reader::fresh(format).unwrap();
+            let mut reader = Reader::fresh(format, 2).unwrap();
             let mut reports = Vec::new();
             assert_eq!(reader.feed(MARK), Ok(None));
             for _ in 0..4 {
@@ -413,7 +413,7 @@ fn scan_finds_the_first_frame_behind_a_mark() {
     let recording = symbols(LISTING);
     let found = |at, hundredths| {
         Ok(Some(Found {
-            at,
+            start: at,
             report: Report {
                 time: time(191, hundredths),
                 control: 0,
@@ -437,7 +437,7 @@ fn scan_finds_the_first_frame_behind_a_mark() {
 #[test]
 fn the_listing_is_reported_once_at_element_121() {
     let widths = [200, 500, 800, 300];
-    let mut reader = Reader::fresh(format("H1")).unwrap();
+    let mut reader = Reader::fresh(format("H1"), 2).unwrap();
     let mut by_pulse = reader.clone();
     for (index, symbol) in symbols(LISTING).into_iter().enumerate() {
         let before = reader.clone();
@@ -473,7 +473,7 @@ fn a_stream_joined_at_any_element_is_reported_within_3n() {
             at = step(format(name), at, 366, USUAL_DAY).unwrap();
         }
         for joined in 0..n {
-            let mut reader = Reader::fresh(format(name)).unwrap();
+            let mut reader = Reader::fresh(format(name), 2).unwrap();
             for (index, &symbol) in stream.iter().enumerate().skip(joined) {
                 let due = (index + 1) % n == 0 && index + 1 >= 3 * n;
                 let expected = due.then(|| Report {
@@ -488,14 +488,14 @@ fn a_stream_joined_at_any_element_is_reported_within_3n() {
 
 #[test]
 fn readers_of_any_words() {
-    let good = Reader::fresh(format("H1")).unwrap().words();
-    let mut bad = vec![[u64::MAX; 10], [0; 10]];
+    let good = Reader::fresh(format("H1"), 2).unwrap().words();
+    let mut bad = vec![[u64::MAX; READER_WORDS], [0; READER_WORDS]];
     for (word, value) in [
         (0, 256 + 72),
         (0, 65 + (1 << 32)),
         (1, 257),
         (1, 0),
-        (2, 60),
+        (3, 60),
     ] {
         let mut words = good;
         words[word] = value;
@@ -512,11 +512,27 @@ fn readers_of_any_words() {
         assert_eq!(pulse, Err(Refusal::InvalidInterval));
         assert_eq!(reader.words(), words);
     }
+    for setting in [0, 1, 6, 255, 256 + 2, u64::MAX] {
+        let mut words = good;
+        words[2] = setting;
+        let mut reader = Reader::from_words(words);
+        for symbol in [0, 2, 4, 255] {
+            assert_eq!(reader.feed(symbol), Err(Refusal::InvalidSetting));
+        }
+        assert_eq!(reader.words(), words);
+    }
+    for setting in 0..=255 {
+        let made = Reader::fresh(format("H1"), setting);
+        let is_setting = (LEAST_SETTING..=GREATEST_SETTING).contains(&setting);
+        assert_eq!(made.is_ok(), is_setting);
+        assert!(is_setting || made == Err(Refusal::InvalidSetting));
+    }
     let mut random = 0x9e37_79b9_7f4a_7c15_u64;
     for turn in 0..10_000 {
         let mut words = good;
-        words[2] = turn % 60;
-        for word in &mut words[3..] {
+        words[2] = 2 + turn % 4;
+        words[3] = turn % 60;
+        for word in &mut words[4..] {
             random ^= random << 13;
             random ^= random >> 7;
             random ^= random << 17;
@@ -527,7 +543,7 @@ fn readers_of_any_words() {
         assert_eq!(reader.words(), words);
         assert!(reader.feed((turn % 4) as u8).is_ok());
     }
-    assert_eq!(Reader::fresh(format("D0")), Err(Refusal::UnknownFormat));
+    assert_eq!(Reader::fresh(format("D0"), 1), Err(Refusal::UnknownFormat));
 }
 
 #[test]

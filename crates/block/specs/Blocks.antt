@@ -7,9 +7,10 @@ use lib.IntN.{pos}
 use lib.ListN.{getD, length, take, drop}
 use Rattle.timecode.specs.Answers.{check, Result, success, refusalResult}
 use Rattle.timecode.specs.Layout.{tabulate}
+use Rattle.timecode.specs.Stream.{isSetting}
 use Rattle.timecode.specs.declared.Answer.{Answer}
 use Rattle.timecode.specs.declared.Answer.the-variants.{Quiet, Report}
-use Rattle.timecode.specs.declared.Refusal.the-variants.{WrongLength, InvalidReader}
+use Rattle.timecode.specs.declared.Refusal.the-variants.{WrongLength, InvalidReader, InvalidSetting}
 use Rattle.timecode.specs.declared.Time.{Time}
 use Rattle.stream.specs.Feeding.{isValid}
 use Rattle.stream.specs.Refinement.{answers, readerAfter}
@@ -49,7 +50,7 @@ blockIn i room (Answer.Refused x ∷ as′) = stopped UnknownSymbol
 blockIn i zero (Report t w ∷ as′) = stopped NoRoom
 blockIn i (suc room) (Report t w ∷ as′) = withFirst (reportAt i t w ∷ []) (blockIn (suc i) room as′)
 
--- the block of a valid reader
+-- the block of a reader that passes 13 and 26
 abbrev pub blockOf : Reader → ℕ → List ℕ → Block
 blockOf r room ss = blockIn 0 room (answers r ss)
 
@@ -108,15 +109,16 @@ answersFrom i (suc n) (r ∷ rs) = cond (eqb (r .index) i) (Report (r .time) (r 
 
 -- ---- the call
 
--- The block checks 13, then 3; where it refuses, nothing is taken.
+-- The block checks 13, 26, 3; where it refuses, nothing is taken.
 unfoldable pub blockFor : Reader → List ℕ → Lists → Block
-blockFor r ss l = cond (isValid r && areRecords l) (blockOf r (roomIn l) ss) (stopped AllTaken)
+blockFor r ss l = cond (isValid r && (isSetting (r .setting) && areRecords l)) (blockOf r (roomIn l) ss) (stopped AllTaken)
 
 unfoldable pub blockAnswer : Reader → List ℕ → Lists → BlockAnswer
 blockAnswer r ss l =
     check BlockAnswer.Refused InvalidReader (isValid r)  -- 13
+    (check BlockAnswer.Refused InvalidSetting (isSetting (r .setting))  -- 26
     (check BlockAnswer.Refused WrongLength (areRecords l)  -- 3
-    (BlockAnswer.Taken (blockOf r (roomIn l) ss .taken) (length (blockOf r (roomIn l) ss .reports)) (blockOf r (roomIn l) ss .stop)))
+    (BlockAnswer.Taken (blockOf r (roomIn l) ss .taken) (length (blockOf r (roomIn l) ss .reports)) (blockOf r (roomIn l) ss .stop))))
 
 -- what the answer says: the symbols taken, the reports put in, and why it stopped (0 all taken, 1 before a symbol above 3, 2 no room)
 abbrev pub stopNumber : Stop → ℕ

@@ -13,6 +13,7 @@ use Rattle.timecode.specs.Laws.Checks.{refused-no-report}
 use Rattle.timecode.specs.Laws.Runs.{length-tabulate, getD-tabulate}
 use Rattle.timecode.specs.Laws.Tests.{by-test}
 use Rattle.timecode.specs.Layout.{tabulate}
+use Rattle.timecode.specs.Stream.{isSetting}
 use Rattle.timecode.specs.declared.Answer.{Answer}
 use Rattle.timecode.specs.declared.Answer.the-variants.{Quiet, Report}
 use Rattle.timecode.specs.declared.Refusal.{Refusal}
@@ -20,7 +21,7 @@ use Rattle.timecode.specs.declared.Time.{Time}
 use Rattle.stream.specs.Feeding.{isValid, answerOf}
 use Rattle.stream.specs.Refinement.{answers, readerAfter}
 use Rattle.stream.specs.declared.Reader.{Reader}
-use Rattle.stream.specs.FeedLists.{feed-answers-append, reader-append, length-feed-answers, answers-take, answers-at, valid-after, refused-above, quiet-no-refusal, above-refused}
+use Rattle.stream.specs.FeedLists.{feed-answers-append, reader-append, length-feed-answers, answers-take, answers-at, valid-after, has-setting-after, refused-above, quiet-no-refusal, above-refused}
 use Rattle.block.specs.Blocks.{Reported, reportAt, Block, withFirst, blockIn, blockOf, Lists, areRecords, fieldLeft, indexOf, dayOf, hundredthsOf, controlOf, listsLeft, recordAt, recordsIn, answersFrom, blockFor, blockAnswer, feedBlockOf}
 use Rattle.block.specs.declared.BlockAnswer.{BlockAnswer}
 use Rattle.block.specs.declared.Stop.{Stop}
@@ -119,27 +120,27 @@ pub record FedSingly (r : Reader) (room : ℕ) (ss : List ℕ) (b : Block) : Typ
   pub accepted : (k : ℕ) → k < b .taken → getD ss k 0 ≤ 3
   pub stops : StopsBefore (b .stop) r room ss (b .taken) (length (b .reports))
 
-stops-before : (why : Stop) (r : Reader) (room : ℕ) (ss : List ℕ) (taken reports : ℕ) → isValid r ≡ true → StopsFor why room (answers r ss) taken reports → StopsBefore why r room ss taken reports
-stops-before AllTaken r room ss taken reports v h = h ∙ length-feed-answers r ss
-stops-before UnknownSymbol r room ss taken reports v h =
+stops-before : (why : Stop) (r : Reader) (room : ℕ) (ss : List ℕ) (taken reports : ℕ) → isValid r ≡ true → isSetting (r .setting) ≡ true → StopsFor why room (answers r ss) taken reports → StopsBefore why r room ss taken reports
+stops-before AllTaken r room ss taken reports v k h = h ∙ length-feed-answers r ss
+stops-before UnknownSymbol r room ss taken reports v k h =
     let b : taken < length ss = omega (arith, h .0, length-feed-answers r ss) in
-    (b, above-refused (readerAfter r (take taken ss)) (getD ss taken 0) (h .1 .0) (valid-after r (take taken ss) v) (sym (answers-at r ss Quiet taken b) ∙ h .1 .1 Quiet))
-stops-before NoRoom r room ss taken reports v h =
+    (b, above-refused (readerAfter r (take taken ss)) (getD ss taken 0) (h .1 .0) (valid-after r (take taken ss) v) (has-setting-after r (take taken ss) k) (sym (answers-at r ss Quiet taken b) ∙ h .1 .1 Quiet))
+stops-before NoRoom r room ss taken reports v k h =
     let b : taken < length ss = omega (arith, h .0, length-feed-answers r ss) in
     (b, h .1, (h .2 .0, h .2 .1, sym (answers-at r ss Quiet taken b) ∙ h .2 .2 Quiet))
 
-pub block-is-fed-singly : (r : Reader) (room : ℕ) (ss : List ℕ) → isValid r ≡ true → FedSingly r room ss (blockOf r room ss)
-block-is-fed-singly r room ss v =
+pub block-is-fed-singly : (r : Reader) (room : ℕ) (ss : List ℕ) → isValid r ≡ true → isSetting (r .setting) ≡ true → FedSingly r room ss (blockOf r room ss)
+block-is-fed-singly r room ss v k =
     let b = blockOf r room ss in
     let t = block-takes 0 room (answers r ss) in
     record {
       within = omega (arith, t .within, length-feed-answers r ss);
       fits = t .fits;
       reported = t .reported ∙ ap (reportsIn 0) (sym (answers-take r ss (b .taken)));
-      accepted = λ k h. by-test (isSymbol (getD ss k 0)) (λ y. leb-true (getD ss k 0) 3 y) (λ n.
-          absurd (t .refused-none k h Refusal.UnknownSymbol Quiet
-          (answers-at r ss Quiet k (omega (arith, t .within, length-feed-answers r ss)) ∙ refused-above (readerAfter r (take k ss)) (getD ss k 0) (valid-after r (take k ss) v) (leb-false (getD ss k 0) 3 n))));
-      stops = stops-before (b .stop) r room ss (b .taken) (length (b .reports)) v (t .stops);
+      accepted = λ j h. by-test (isSymbol (getD ss j 0)) (λ y. leb-true (getD ss j 0) 3 y) (λ n.
+          absurd (t .refused-none j h Refusal.UnknownSymbol Quiet
+          (answers-at r ss Quiet j (omega (arith, t .within, length-feed-answers r ss)) ∙ refused-above (readerAfter r (take j ss)) (getD ss j 0) (valid-after r (take j ss) v) (has-setting-after r (take j ss) k) (leb-false (getD ss j 0) 3 n))));
+      stops = stops-before (b .stop) r room ss (b .taken) (length (b .reports)) v k (t .stops);
     }
 
 -- ---- a block in two parts
@@ -249,8 +250,11 @@ unfolding feedBlockOf blockAnswer blockFor fieldLeft readerAfter
 refused-block-leaves r ss l x h =
     by-test (isValid r)
     (λ v.
+    by-test (isSetting (r .setting))
+    (λ k.
     by-test (areRecords l)
-    (λ y. absurd (taken-not-refused _ _ _ x (rw (v, y) at h)))
+    (λ y. absurd (taken-not-refused _ _ _ x (rw (v, k, y) at h)))
+    (λ n. rw (v, k, n) (refl, refl)))
     (λ n. rw (v, n) (refl, refl)))
     (λ n. rw n (refl, refl))
 

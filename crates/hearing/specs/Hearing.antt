@@ -1,13 +1,14 @@
 -- Feeds heard in blocks: the progress after those that a block takes, the lines of its records, and blocks one after the other.
 use mathlib.Core.Path.{_≡_, refl, sym, ap, ap₂, _∙_}
-use mathlib.Core.Bool.{true, false}
+use mathlib.Core.Bool.{Bool, true, false, _&&_}
 use mathlib.Core.List.{List, [], _∷_, _++_, map, append-assoc, append-nil}
 use Prim.Native.Nat.{ℕ, zero, suc, _+_, _-_, _<_, _≤_}
 use native.Mathlib.Numerals.{add-one}
 use native.Mathlib.Omega.{arith}
 use lib.ListN.{getD, length, take, drop, length-drop, take-append-drop, List·getD-map}
 use lib.Seq.{take-suc, take-add, take-length}
-use Rattle.timecode.specs.Laws.Tests.{by-test}
+use Rattle.timecode.specs.Laws.Tests.{by-test, and-left, and-right}
+use Rattle.timecode.specs.Stream.{isSetting}
 use Rattle.timecode.specs.declared.Answer.{Answer}
 use Rattle.timecode.specs.declared.Answer.the-variants.{Quiet, Report}
 use Rattle.lines.specs.Text.{reportLine}
@@ -166,28 +167,35 @@ reportsOf (BlockAnswer.Refused x) = 0
 
 answer-says : (r : Reader) (ss : List ℕ) (l : Lists) → (takenOf (blockAnswer r ss l) ≡ blockFor r ss l .taken) × (reportsOf (blockAnswer r ss l) ≡ length (blockFor r ss l .reports))
 unfolding blockAnswer blockFor
-answer-says r ss l = by-test (isValid r) (λ v. by-test (areRecords l) (λ y. rw (v, y) (refl, refl)) (λ n. rw (v, n) (refl, refl))) (λ n. rw n (refl, refl))
+answer-says r ss l =
+    by-test (isValid r)
+    (λ v. by-test (isSetting (r .setting)) (λ k. by-test (areRecords l) (λ y. rw (v, k, y) (refl, refl)) (λ n. rw (v, k, n) (refl, refl))) (λ n. rw (v, n) (refl, refl)))
+    (λ n. rw n (refl, refl))
+
+-- neither 13 nor 26
+abbrev passes : Reader → Bool
+passes r = isValid r && isSetting (r .setting)
 
 module _ (r : Reader) (ss : List ℕ) (l : Lists) (same : areRecords l ≡ true) where
   abbrev b : Block
   b = blockFor r ss l
 
-  for-valid : isValid r ≡ true → b ≡ blockOf r (roomIn l) ss
+  for-valid : passes r ≡ true → b ≡ blockOf r (roomIn l) ss
   unfolding blockFor
-  for-valid v = rw (v, same)
+  for-valid y = rw (and-left (isValid r) (isSetting (r .setting)) y, and-right (isValid r) (isSetting (r .setting)) y, same)
 
-  for-invalid : isValid r ≡ false → b ≡ stopped AllTaken
+  for-invalid : passes r ≡ false → b ≡ stopped AllTaken
   unfolding blockFor
-  for-invalid n = rw n
+  for-invalid n = by-test (isValid r) (λ v. let k : isSetting (r .setting) ≡ false = rw v at n in rw (v, k)) (λ m. rw m)
 
   taken-within : b .taken ≤ length ss
-  taken-within = by-test (isValid r) (λ v. rw (for-valid v) (omega (arith, block-takes 0 (roomIn l) (answers r ss) .within, length-feed-answers r ss))) (λ n. rw (for-invalid n) (omega arith))
+  taken-within = by-test (passes r) (λ v. rw (for-valid v) (omega (arith, block-takes 0 (roomIn l) (answers r ss) .within, length-feed-answers r ss))) (λ n. rw (for-invalid n) (omega arith))
 
   reports-fit : length (b .reports) ≤ roomIn l
-  reports-fit = by-test (isValid r) (λ v. rw (for-valid v) (block-takes 0 (roomIn l) (answers r ss) .fits)) (λ n. rw (for-invalid n) (omega arith))
+  reports-fit = by-test (passes r) (λ v. rw (for-valid v) (block-takes 0 (roomIn l) (answers r ss) .fits)) (λ n. rw (for-invalid n) (omega arith))
 
   reports-few : length (b .reports) ≤ b .taken
-  reports-few = by-test (isValid r) (λ v. rw (for-valid v) (few-reports 0 (roomIn l) (answers r ss))) (λ n. rw (for-invalid n) (omega arith))
+  reports-few = by-test (passes r) (λ v. rw (for-valid v) (few-reports 0 (roomIn l) (answers r ss))) (λ n. rw (for-invalid n) (omega arith))
 
 -- ---- the progress that the call makes, and its lines
 
@@ -227,7 +235,7 @@ module _ (p : Progress) (ss : List ℕ) (l : Lists) (same : areRecords l ≡ tru
     block-told : Heard (p .elements) p ss block
     unfolding moreBy
     block-told =
-        by-test (isValid (p .reader))
+        by-test (passes (p .reader))
         (λ v. rw (for-valid (p .reader) ss l same v) (block-heard (p .elements) 0 (roomIn l) p ss g refl))
         (λ f. rw (for-invalid (p .reader) ss l same f) (heard-none AllTaken (p .elements) p ss g))
 

@@ -10,6 +10,7 @@ use lib.ListN.{getD, length, take, drop, length-drop}
 use Rattle.timecode.specs.Answers.{refusalNumber}
 use Rattle.timecode.specs.Formats.{known}
 use Rattle.timecode.specs.Laws.Tests.{and-right}
+use Rattle.timecode.specs.Stream.{isSetting, twoFrames}
 use Rattle.timecode.specs.declared.Answer.{Answer}
 use Rattle.timecode.specs.declared.Answer.the-variants.{Quiet, Report}
 use Rattle.timecode.specs.declared.Refusal.{Refusal}
@@ -119,6 +120,10 @@ rest-is (s ∷ ss) p g room = fed-agrees s ss (rest-is ss) p g room (answerOf (p
 
 -- ---- the whole
 
+two-frames-set : isSetting twoFrames ≡ true
+unfolding isSetting
+two-frames-set = refl
+
 module _ (bytes : List ℕ) (first : isFirstLine bytes ≡ true) (short : length bytes < 18446744073709551616) where
   format-known : known (formatIn bytes) ≡ true
   unfolding isFirstLine
@@ -128,11 +133,11 @@ module _ (bytes : List ℕ) (first : isFirstLine bytes ≡ true) (short : length
       (and-right (leb 3 (length bytes)) (eqb (getD bytes 2 0) 10 && (leb 48 (getD bytes 1 0) && known (formatIn bytes))) first))
 
   -- After a first line that is so, the lines put while the bytes behind it are read and the last line are what document 01 says.
-  pub listing-is-printed : printed bytes ≡ remainingPrinted (runningAt (freshReader (formatIn bytes)) 0 0) (drop 3 bytes)
+  pub listing-is-printed : printed bytes ≡ remainingPrinted (runningAt (freshReader (formatIn bytes) twoFrames) 0 0) (drop 3 bytes)
   unfolding printed
   listing-is-printed =
-      rw (first, ← answers-are-plain (formatIn bytes) format-known (feedsOf (drop 3 bytes)))
-      (rest-is (feedsOf (drop 3 bytes)) (runningAt (freshReader (formatIn bytes)) 0 0) refl (record { elements-room = omega (arith, length-drop 3 bytes, feeds-few (drop 3 bytes)); reports-room = omega (arith, length-drop 3 bytes, feeds-few (drop 3 bytes)) }))
+      rw (first, ← answers-are-plain (formatIn bytes) twoFrames format-known two-frames-set (feedsOf (drop 3 bytes)))
+      (rest-is (feedsOf (drop 3 bytes)) (runningAt (freshReader (formatIn bytes) twoFrames) 0 0) refl (record { elements-room = omega (arith, length-drop 3 bytes, feeds-few (drop 3 bytes)); reports-room = omega (arith, length-drop 3 bytes, feeds-few (drop 3 bytes)) }))
 
 -- Any other input prints `refused 1`, and no other line follows.
 pub other-line-refused : (bytes : List ℕ) → isFirstLine bytes ≡ false → printed bytes ≡ refusedLine 1

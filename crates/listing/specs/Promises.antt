@@ -5,6 +5,7 @@ use mathlib.Core.List.{List, []}
 use Prim.Native.Nat.{ℕ, _≤_}
 use lib.ListN.{length, take}
 use Rattle.timecode.specs.Answers.{check}
+use Rattle.timecode.specs.Stream.{twoFrames}
 use Rattle.timecode.specs.declared.Refusal.the-variants.{UnknownFormat}
 use Rattle.lines.specs.Text.{countsLine}
 use Rattle.stream.specs.Feeding.{freshReader}
@@ -16,7 +17,7 @@ use Rattle.listing.specs.declared.Listed.{Listed}
 
 -- the reader that the first line asks for, or number 1
 unfoldable pub madeFromHead : List ℕ → Made
-madeFromHead bytes = check Made.Refused UnknownFormat (isFirstLine bytes) (Made.Fresh (freshReader (formatIn bytes)))
+madeFromHead bytes = check Made.Refused UnknownFormat (isFirstLine bytes) (Made.Fresh (freshReader (formatIn bytes) twoFrames))
 
 -- the last line, unless a refusal was it
 unfoldable pub endingOf : Progress → List ℕ

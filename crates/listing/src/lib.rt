@@ -1,6 +1,6 @@
 // timeread's work: a recording in characters becomes the list of Feeds that it is, and its reports lines.
 ghost use mathlib.Core.Path.{_≡_};
-ghost use Prim.Native.Nat.{_≤_};
+ghost use Prim.Native.Nat.{_+_, _≤_, _<_};
 ghost use lib.ListN.{length, take};
 ghost use Rattle.lines.specs.Text.{countsLine};
 ghost use Rattle.progress.specs.Progress.{runningAt};
@@ -8,7 +8,6 @@ ghost use Rattle.listing.specs.Promises.{madeFromHead, ListsBytes, PutsL
 use hearing::hear;
 use lines::counts_line;
 use lines::put_text;
-use parts::part_end;
 use progress::Progress;
 use progress::progress_at;
 use stream::Made;
@@ -18,6 +17,9 @@ use timecode::Refusal;
 
 // Up to here there is room in 65,536 bytes for a line of 64 for each of a part's 512 symbols, and for the last line.
 const LAST_START: usize = 32_704;
+
+// timeread keeps two frames.
+const SETTING: u8 = 2;
 
 // How many bytes were taken, how many were put, and the progress.
 pub struct Listed {
@@ -33,10 +35,11 @@ pub fn begin(head: &[u8]) -> Made
     if 3 <= head.len() {
         if head[2] == b'\n' {
             if b'0' <= head[1] {
-                return Reader::fresh(Format {
+                let format = Format {
                     letter: head[0],
                     expression: head[1] - 48,
-                });
+                };
+                return Reader::fresh(format, SETTING);
             }
         }
     }
@@ -48,6 +51,17 @@ pub fn start(reader: Reader) -> Progress
     ensures { λ r. ⌜ r ≡ runningAt reader 0 0 ⌝ }
 {
     progress_at(reader, 0, 0)
+}
+
+// Where the bytes that are fed together end: at most 512, so that there is room for their lines.
+fn part_end(from: usize, end: usize) -> usize
+    requires { ⌜ from < end ⌝ }
+    ensures { λ r. ⌜ (from < r) × (r ≤ end) × (r ≤ from + 512) ⌝ }
+{
+    if end - from <= 512 {
+        return end;
+    }
+    from + 512
 }
 
 // A part has no more reports than symbols: below half of the lent memory there is room for their lines.

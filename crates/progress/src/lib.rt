@@ -134,8 +134,8 @@ pub fn feed_one(progress: Progress, symbol: u8, out: &mut [u8], at: usize) -> Pr
     ensures { λ r. ⌜ (r .filled ≤ at + 64) × (length (now (out .exit)) ≡ 65536) × (r .progress ≡ afterFeed progress symbol) × (take (r .filled) (now (out .exit)) ≡ take at (now (out .entry)) ++ feedLine progress symbol) ⌝ }
 {
     let reader = progress.reader;
-    let answer = answer_to(reader, symbol);
     let next = next_reader(reader, symbol);
+    let answer = answer_to(reader, symbol, next);
     let current = advance(progress, next, answer);
     let filled = put_line(out, at, current.elements, answer);
     progressed_at(current, filled)

@@ -4,15 +4,15 @@ use mathlib.Core.Bool.{true, cond}
 use mathlib.Core.List.{List, [], _∷_, _++_}
 use Prim.Native.Nat.{ℕ}
 use Rattle.timecode.specs.Calls.{symbolOf, isInterval}
-use Rattle.timecode.specs.Demand3.{Demand3, two-is-setting, SameAnswers, demand-3, two-readers}
+use Rattle.timecode.specs.Demand3.{Demand3, SameAnswers, demand-3, two-readers}
 use Rattle.timecode.specs.Formats.{known}
 use Rattle.timecode.specs.Laws.Tests.{by-test}
-use Rattle.timecode.specs.Stream.{twoFrames, plainAnswers, plainReceived, elementsOf, SameWindow}
+use Rattle.timecode.specs.Stream.{isSetting, plainAnswers, plainReceived, elementsOf, SameWindow}
 use Rattle.timecode.specs.declared.Answer.{Answer}
 use Rattle.timecode.specs.declared.Format.{Format}
 use Rattle.stream.specs.FeedLists.{feed-answers-append, reader-append}
 use Rattle.stream.specs.Feeding.{freshReader, isValid}
-use Rattle.stream.specs.Refinement.{answers, readerAfter, Receives, fresh-receives, receives-valid, feed-receives, answers-plain, receives-after, answers-are-plain}
+use Rattle.stream.specs.Refinement.{answers, readerAfter, Receives, fresh-receives, receives-valid, receives-setting, feed-receives, answers-plain, receives-after, answers-are-plain}
 use Rattle.stream.specs.declared.Reader.{Reader}
 use Rattle.block.specs.Blocks.{Lists, roomIn, areRecords, fieldLeft, listsLeft, blockFor, blockAnswer, feedBlockOf}
 use Rattle.block.specs.Folds.{Takes, block-takes, block-answers}
@@ -28,7 +28,7 @@ call-answers r (symbolInPlace s) = refl
 call-answers r (pulse T width period) = by-test (isInterval T) (λ y. rw y) (λ n. rw n)
 call-answers r (block ss l) =
     by-test (isValid r)
-    (λ v. by-test (areRecords l) (λ y. rw (v, y) (block-answers r (roomIn l) ss l)) (λ n. rw (v, n)))
+    (λ v. by-test (isSetting (r .setting)) (λ k. by-test (areRecords l) (λ y. rw (v, k, y) (block-answers r (roomIn l) ss l)) (λ n. rw (v, k, n))) (λ n. rw (v, n)))
     (λ n. rw n)
 
 pulse-reader : (r : Reader) (T width period : ℕ) → feedPulseOf r T width period .reader ≡ readerAfter r (cond (isInterval T) (symbolOf T width period ∷ []) [])
@@ -39,7 +39,7 @@ block-reader : (r : Reader) (ss : List ℕ) (l : Lists) → feedBlockOf r ss l .
 unfolding readerAfter feedBlockOf blockAnswer blockFor
 block-reader r ss l =
     by-test (isValid r)
-    (λ v. by-test (areRecords l) (λ y. rw (v, y)) (λ n. rw (v, n)))
+    (λ v. by-test (isSetting (r .setting)) (λ k. by-test (areRecords l) (λ y. rw (v, k, y)) (λ n. rw (v, k, n))) (λ n. rw (v, n)))
     (λ n. rw n)
 
 pub call-reader : (r : Reader) (c : ReaderCall) → readerOf r c ≡ readerAfter r (symbolsFed (callResult r c))
@@ -73,52 +73,52 @@ reader-is-fed r (c ∷ cs) =
 -- ---- from a fresh reader
 
 -- The plain machine's block takes symbols that it accepts, puts in their reports with their indexes, and stops where all are taken, where the machine refuses or where no room is left.
-pub plain-block-takes : (f : Format) (received ss : List ℕ) (l : Lists) → Takes 0 (roomIn l) (plainAnswers f twoFrames received ss) (plainBlock f received ss l)
-plain-block-takes f received ss l = block-takes 0 (roomIn l) (plainAnswers f twoFrames received ss)
+pub plain-block-takes : (f : Format) (k : ℕ) (received ss : List ℕ) (l : Lists) → Takes 0 (roomIn l) (plainAnswers f k received ss) (plainBlock f k received ss l)
+plain-block-takes f k received ss l = block-takes 0 (roomIn l) (plainAnswers f k received ss)
 
-module _ (f : Format) (k : known f ≡ true) where
-  call-plain : (r : Reader) (received : List ℕ) (c : ReaderCall) → Receives f r received → callResult r c ≡ plainCallResult f received c
+module _ (f : Format) (k : ℕ) (is-known : known f ≡ true) (is-setting : isSetting k ≡ true) where
+  call-plain : (r : Reader) (received : List ℕ) (c : ReaderCall) → Receives f k r received → callResult r c ≡ plainCallResult f k received c
   unfolding feedPulseOf feedBlockOf blockAnswer blockFor fieldLeft
-  call-plain r received (symbol s) h = ap (symbolCallResult s) (feed-receives f r received s k h .0)
-  call-plain r received (symbolInPlace s) h = ap (inPlaceCallResult s) (feed-receives f r received s k h .0)
-  call-plain r received (pulse T width period) h = by-test (isInterval T) (λ y. rw y (ap (pulseCallResult T width period) (feed-receives f r received (symbolOf T width period) k h .0))) (λ n. rw n)
+  call-plain r received (symbol s) h = ap (symbolCallResult s) (feed-receives f k is-known is-setting r received s h .0)
+  call-plain r received (symbolInPlace s) h = ap (inPlaceCallResult s) (feed-receives f k is-known is-setting r received s h .0)
+  call-plain r received (pulse T width period) h = by-test (isInterval T) (λ y. rw y (ap (pulseCallResult T width period) (feed-receives f k is-known is-setting r received (symbolOf T width period) h .0))) (λ n. rw n)
   call-plain r received (block ss l) h =
-      rw (receives-valid f r received k h, answers-plain f k r received ss h)
+      rw (receives-valid f k is-known is-setting r received h, receives-setting f k is-known is-setting r received h, answers-plain f k is-known is-setting r received ss h)
       (by-test (areRecords l) (λ y. rw y) (λ n. rw n))
 
-  results-plain : (r : Reader) (received : List ℕ) (cs : List ReaderCall) → Receives f r received → callResults r cs ≡ plainCallResults f received cs
+  results-plain : (r : Reader) (received : List ℕ) (cs : List ReaderCall) → Receives f k r received → callResults r cs ≡ plainCallResults f k received cs
   unfolding callResults plainCallResults
   results-plain r received [] h = refl
   results-plain r received (c ∷ cs) h =
       let same = call-plain r received c h in
-      let fed = receives-after f k r received (symbolsFed (callResult r c)) h in
-      let next : Receives f (readerOf r c) (plainReceived f twoFrames received (symbolsFed (plainCallResult f received c))) =
-      subst (λ (q : Reader). Receives f q (plainReceived f twoFrames received (symbolsFed (plainCallResult f received c)))) (sym (call-reader r c))
-      (subst (λ (x : CallResult). Receives f (readerAfter r (symbolsFed (callResult r c))) (plainReceived f twoFrames received (symbolsFed x))) same fed) in
-      ap₂ (λ (x : CallResult) (xs : List CallResult). x ∷ xs) same (results-plain (readerOf r c) (plainReceived f twoFrames received (symbolsFed (plainCallResult f received c))) cs next)
+      let fed = receives-after f k is-known is-setting r received (symbolsFed (callResult r c)) h in
+      let next : Receives f k (readerOf r c) (plainReceived f k received (symbolsFed (plainCallResult f k received c))) =
+      subst (λ (q : Reader). Receives f k q (plainReceived f k received (symbolsFed (plainCallResult f k received c)))) (sym (call-reader r c))
+      (subst (λ (x : CallResult). Receives f k (readerAfter r (symbolsFed (callResult r c))) (plainReceived f k received (symbolsFed x))) same fed) in
+      ap₂ (λ (x : CallResult) (xs : List CallResult). x ∷ xs) same (results-plain (readerOf r c) (plainReceived f k received (symbolsFed (plainCallResult f k received c))) cs next)
 
   -- Of any list of calls in any mix: each result is the plain machine's, the answers are the plain machine's to the symbols fed, and the reader afterwards is the one that single Feeds of these give.
   pub record ArePlain (cs : List ReaderCall) : Type 0 where
-    pub each-result : callResults (freshReader f) cs ≡ plainCallResults f [] cs
-    pub all-answers : allAnswers (callResults (freshReader f) cs) ≡ plainAnswers f twoFrames [] (allFed (callResults (freshReader f) cs))
-    pub reader-after : readerAfterCalls (freshReader f) cs ≡ readerAfter (freshReader f) (allFed (callResults (freshReader f) cs))
+    pub each-result : callResults (freshReader f k) cs ≡ plainCallResults f k [] cs
+    pub all-answers : allAnswers (callResults (freshReader f k) cs) ≡ plainAnswers f k [] (allFed (callResults (freshReader f k) cs))
+    pub reader-after : readerAfterCalls (freshReader f k) cs ≡ readerAfter (freshReader f k) (allFed (callResults (freshReader f k) cs))
 
   pub calls-are-plain : (cs : List ReaderCall) → ArePlain cs
   calls-are-plain cs =
       record {
-        each-result = results-plain (freshReader f) [] cs (fresh-receives f);
-        all-answers = calls-are-feeds (freshReader f) cs ∙ answers-are-plain f k (allFed (callResults (freshReader f) cs));
-        reader-after = reader-is-fed (freshReader f) cs;
+        each-result = results-plain (freshReader f k) [] cs (fresh-receives f k);
+        all-answers = calls-are-feeds (freshReader f k) cs ∙ answers-are-plain f k is-known is-setting (allFed (callResults (freshReader f k) cs));
+        reader-after = reader-is-fed (freshReader f k) cs;
       }
 
   -- So demand 3 holds of any list of calls.
-  pub calls-demand-3 : (cs : List ReaderCall) (none : Answer) → Demand3 f twoFrames (allFed (callResults (freshReader f) cs)) (allAnswers (callResults (freshReader f) cs)) none
-  calls-demand-3 cs = demand-3 f twoFrames two-is-setting (allFed (callResults (freshReader f) cs)) (allAnswers (callResults (freshReader f) cs)) (calls-are-plain cs .all-answers)
+  pub calls-demand-3 : (cs : List ReaderCall) (none : Answer) → Demand3 f k (allFed (callResults (freshReader f k) cs)) (allAnswers (callResults (freshReader f k) cs)) none
+  calls-demand-3 cs = demand-3 f k is-setting (allFed (callResults (freshReader f k) cs)) (allAnswers (callResults (freshReader f k) cs)) (calls-are-plain cs .all-answers)
 
   -- Two readers, each by its own calls.
-  pub two-callers-agree : (cs ds : List ReaderCall) (ss rs xs : List ℕ) → allFed (callResults (freshReader f) cs) ≡ ss ++ xs → allFed (callResults (freshReader f) ds) ≡ rs ++ xs
-      → SameWindow f twoFrames (elementsOf ss) (elementsOf rs) → (none : Answer) → SameAnswers ss rs (allAnswers (callResults (freshReader f) cs)) (allAnswers (callResults (freshReader f) ds)) none
+  pub two-callers-agree : (cs ds : List ReaderCall) (ss rs xs : List ℕ) → allFed (callResults (freshReader f k) cs) ≡ ss ++ xs → allFed (callResults (freshReader f k) ds) ≡ rs ++ xs
+      → SameWindow f k (elementsOf ss) (elementsOf rs) → (none : Answer) → SameAnswers ss rs (allAnswers (callResults (freshReader f k) cs)) (allAnswers (callResults (freshReader f k) ds)) none
   two-callers-agree cs ds ss rs xs first second =
-      two-readers f twoFrames ss rs xs (allAnswers (callResults (freshReader f) cs)) (allAnswers (callResults (freshReader f) ds))
-      (calls-are-plain cs .all-answers ∙ ap (plainAnswers f twoFrames []) first)
-      (calls-are-plain ds .all-answers ∙ ap (plainAnswers f twoFrames []) second)
+      two-readers f k ss rs xs (allAnswers (callResults (freshReader f k) cs)) (allAnswers (callResults (freshReader f k) ds))
+      (calls-are-plain cs .all-answers ∙ ap (plainAnswers f k []) first)
+      (calls-are-plain ds .all-answers ∙ ap (plainAnswers f k []) second)

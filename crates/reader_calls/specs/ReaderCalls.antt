@@ -4,7 +4,7 @@ use mathlib.Core.List.{List, [], _∷_, _++_}
 use Prim.Native.Nat.{ℕ}
 use lib.ListN.{length, take}
 use Rattle.timecode.specs.Calls.{symbolOf, isInterval}
-use Rattle.timecode.specs.Stream.{twoFrames, plainFeed, plainAnswers, plainReceived}
+use Rattle.timecode.specs.Stream.{plainFeed, plainAnswers, plainReceived}
 use Rattle.timecode.specs.declared.Answer.{Answer}
 use Rattle.timecode.specs.declared.Format.{Format}
 use Rattle.timecode.specs.declared.Refusal.the-variants.{WrongLength, InvalidInterval}
@@ -76,21 +76,21 @@ unfoldable pub readerAfterCalls : Reader → List ReaderCall → Reader
 readerAfterCalls r [] = r
 readerAfterCalls r (c ∷ cs) = readerAfterCalls (readerOf r c) cs
 
--- ---- the same calls of the plain machine, which holds a list of symbols and meets no 13
+-- ---- the same calls of the plain machine, which holds a list of symbols and meets no 13 and no 26
 
 -- the block stops before the first symbol that the machine refuses or whose report would not fit
-abbrev pub plainBlock : Format → List ℕ → List ℕ → Lists → Block
-plainBlock f received ss l = blockIn 0 (roomIn l) (plainAnswers f twoFrames received ss)
+abbrev pub plainBlock : Format → ℕ → List ℕ → List ℕ → Lists → Block
+plainBlock f k received ss l = blockIn 0 (roomIn l) (plainAnswers f k received ss)
 
-abbrev pub plainCallResult : Format → List ℕ → ReaderCall → CallResult
-plainCallResult f received (symbol s) = symbolCallResult s (plainFeed f twoFrames received s .answer)
-plainCallResult f received (symbolInPlace s) = inPlaceCallResult s (plainFeed f twoFrames received s .answer)
-plainCallResult f received (pulse T width period) = pulseCallResult T width period (cond (isInterval T) (plainFeed f twoFrames received (symbolOf T width period) .answer) (Answer.Refused InvalidInterval))
-plainCallResult f received (block ss l) =
+abbrev pub plainCallResult : Format → ℕ → List ℕ → ReaderCall → CallResult
+plainCallResult f k received (symbol s) = symbolCallResult s (plainFeed f k received s .answer)
+plainCallResult f k received (symbolInPlace s) = inPlaceCallResult s (plainFeed f k received s .answer)
+plainCallResult f k received (pulse T width period) = pulseCallResult T width period (cond (isInterval T) (plainFeed f k received (symbolOf T width period) .answer) (Answer.Refused InvalidInterval))
+plainCallResult f k received (block ss l) =
     cond (areRecords l)
-    (blockCallResult ss l (BlockAnswer.Taken (plainBlock f received ss l .taken) (length (plainBlock f received ss l .reports)) (plainBlock f received ss l .stop)) (listsLeft (plainBlock f received ss l) l))
+    (blockCallResult ss l (BlockAnswer.Taken (plainBlock f k received ss l .taken) (length (plainBlock f k received ss l .reports)) (plainBlock f k received ss l .stop)) (listsLeft (plainBlock f k received ss l) l))
     (blockCallResult ss l (BlockAnswer.Refused WrongLength) l)
 
-unfoldable pub plainCallResults : Format → List ℕ → List ReaderCall → List CallResult
-plainCallResults f received [] = []
-plainCallResults f received (c ∷ cs) = plainCallResult f received c ∷ plainCallResults f (plainReceived f twoFrames received (symbolsFed (plainCallResult f received c))) cs
+unfoldable pub plainCallResults : Format → ℕ → List ℕ → List ReaderCall → List CallResult
+plainCallResults f k received [] = []
+plainCallResults f k received (c ∷ cs) = plainCallResult f k received c ∷ plainCallResults f k (plainReceived f k received (symbolsFed (plainCallResult f k received c))) cs

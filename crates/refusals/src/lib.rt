@@ -22,5 +22,6 @@ pub fn number_of(refusal: Refusal) -> u8
         Refusal::InvalidReader => 13,
         Refusal::SecondNotCarried => 14,
         Refusal::InvalidKind => 15,
+        Refusal::InvalidSetting => 26,
     }
 }

@@ -1,46 +1,43 @@
 -- What the program's reader is, and what a Feed makes of it, for every reader and symbol.
 use mathlib.Core.Path.{_≡_}
 use mathlib.Core.Bool.{Bool, true, cond, _&&_}
-use mathlib.Core.List.{List, []}
+use mathlib.Core.List.{[]}
 use Prim.Native.Nat.{ℕ, _+_, _%_, _<_}
 use borrow.Author.Tests.{ltb-true}
-use lib.Dec.{eqb, ltb}
+use lib.Dec.{leb, eqb, ltb}
 use Rattle.timecode.specs.Answers.{check, Result, success, refusalResult}
 use Rattle.timecode.specs.Formats.{isSymbol, known, size}
+use Rattle.timecode.specs.Frames.{readOf}
 use Rattle.timecode.specs.Laws.Tests.{and-right}
-use Rattle.timecode.specs.Stream.{twoFrames, windowLength, windowAnswer}
+use Rattle.timecode.specs.Stream.{isSetting}
 use Rattle.timecode.specs.declared.Answer.{Answer}
+use Rattle.timecode.specs.declared.Answer.the-variants.{Quiet, Report}
 use Rattle.timecode.specs.declared.Format.{Format}
-use Rattle.timecode.specs.declared.Refusal.the-variants.{UnknownFormat, UnknownSymbol, InvalidReader}
-use Rattle.register.specs.Symbols.{wordsOf, pushOf, heardFrame}
+use Rattle.timecode.specs.declared.Reading.{Reading}
+use Rattle.timecode.specs.declared.Reading.the-variants.{Accepted}
+use Rattle.timecode.specs.declared.Refusal.the-variants.{UnknownFormat, UnknownSymbol, InvalidReader, InvalidSetting}
+use Rattle.following.specs.Following.{noTime, rowAfter}
+use Rattle.register.specs.Receiving.{receiveOf, frameOf}
 use Rattle.register.specs.declared.Register.{Register}
 use Rattle.stream.specs.declared.Fed.{Fed}
 use Rattle.stream.specs.declared.Made.{Made}
-use Rattle.stream.specs.declared.Passed.{Passed}
 use Rattle.stream.specs.declared.Reader.{Reader}
 
--- spoiled symbols alone
-abbrev pub spoiledRegister : Register
-spoiledRegister =
-    record {
-      word0 = 18446744073709551615;
-      word1 = 18446744073709551615;
-      word2 = 18446744073709551615;
-      word3 = 18446744073709551615;
-      word4 = 18446744073709551615;
-      word5 = 18446744073709551615;
-      word6 = 18446744073709551615;
-    }
+-- no frame under way and no row, and the last symbols spoiled
+abbrev pub freshRegister : Register
+freshRegister = record { count = 0; newest = 18446744073709551615; word0 = 0; word1 = 0; word2 = 0; row = 0 }
 
--- a format, place 0, nothing received
-abbrev pub freshReader : Format → Reader
-freshReader f = record { format = f; place = 0; received = spoiledRegister }
+abbrev pub freshReader : Format → ℕ → Reader
+freshReader f k = record { format = f; setting = k; place = 0; received = freshRegister; time = noTime; control = 0 }
 
--- Making a fresh reader checks 1.
-unfoldable pub madeOf : Format → Made
-madeOf f = check Made.Refused UnknownFormat (known f) (Made.Fresh (freshReader f))
+-- Making a fresh reader checks 1, 26.
+unfoldable pub madeOf : Format → ℕ → Made
+madeOf f k =
+    check Made.Refused UnknownFormat (known f)  -- 1
+    (check Made.Refused InvalidSetting (isSetting k)  -- 26
+    (Made.Fresh (freshReader f k)))
 
--- what making a reader says: document 01 gives no value with it
+-- the result of making a reader: document 01 gives no value with it
 abbrev pub madeResult : Made → Result
 madeResult (Made.Fresh r) = success []
 madeResult (Made.Refused x) = refusalResult x
@@ -49,27 +46,39 @@ madeResult (Made.Refused x) = refusalResult x
 unfoldable pub isValid : Reader → Bool
 isValid r = known (r .format) && ltb (r .place) (size (r .format))
 
+abbrev pub withRow : Register → ℕ → Register
+withRow h c = record { count = h .count; newest = h .newest; word0 = h .word0; word1 = h .word1; word2 = h .word2; row = c }
+
+abbrev pub withRegister : Reader → ℕ → Register → Reader
+withRegister r place h = record { format = r .format; setting = r .setting; place = place; received = h; time = r .time; control = r .control }
+
+-- the frame is whole: accepted, it joins the row; refused, it ends it
+unfoldable pub readerWithReading : Reader → Reading → Reader
+readerWithReading r (Accepted t w) = record { format = r .format; setting = r .setting; place = r .place; received = withRow (r .received) (rowAfter (r .format) (r .received .row) (r .time) t); time = t; control = w }
+readerWithReading r (Reading.Refused x) = record { format = r .format; setting = r .setting; place = r .place; received = withRow (r .received) 0; time = r .time; control = r .control }
+
+unfoldable pub whenWhole : Reader → Reader
+whenWhole r = cond (eqb (r .received .count) (size (r .format))) (readerWithReading r (readOf (r .format) (frameOf (r .received) (size (r .format))))) r
+
+-- one symbol more
+unfoldable pub withSymbolOf : Reader → ℕ → Reader
+withSymbolOf r s = whenWhole (withRegister r ((r .place + 1) % size (r .format)) (receiveOf (r .format) (size (r .format)) (r .received) s))
+
 -- a symbol of 0 to 3 is accepted; a refused Feed hands back the same reader
 unfoldable pub nextOf : Reader → ℕ → Reader
-nextOf r s =
-    cond (isValid r && isSymbol s)
-    (record { format = r .format; place = (r .place + 1) % size (r .format); received = pushOf (r .received) s })
-    r
+nextOf r s = cond (isValid r && (isSetting (r .setting) && isSymbol s)) (withSymbolOf r s) r
 
--- an accepted symbol that is no mark: the reader after it
-unfoldable pub passOf : Reader → ℕ → Passed
-passOf r s = cond (eqb s 2) Passed.NotPassed (cond (isSymbol s && isValid r) (Passed.Next (nextOf r s)) Passed.NotPassed)
+-- the answer to an accepted symbol, from the reader after it alone
+unfoldable pub answerAfter : Reader → Answer
+answerAfter r = cond (eqb (r .received .count) (size (r .format)) && leb (r .setting) (r .received .row)) (Report (r .time) (r .control)) Quiet
 
--- the last 2n + 1 symbols, oldest first
-unfoldable pub windowIn : Format → List ℕ → List ℕ
-windowIn f words = heardFrame words 0 (windowLength f twoFrames)
-
--- Feed checks 13, 4.
+-- Feed checks 13, 26, 4.
 unfoldable pub answerOf : Reader → ℕ → Answer
 answerOf r s =
     check Answer.Refused InvalidReader (isValid r)  -- 13
+    (check Answer.Refused InvalidSetting (isSetting (r .setting))  -- 26
     (check Answer.Refused UnknownSymbol (isSymbol s)  -- 4
-    (windowAnswer (r .format) twoFrames (windowIn (r .format) (wordsOf (pushOf (r .received) s)))))
+    (answerAfter (nextOf r s))))
 
 unfoldable pub feedOf : Reader → ℕ → Fed
 feedOf r s = record { reader = nextOf r s; answer = answerOf r s }

@@ -1,6 +1,5 @@
 -- Feeding is what the contracts say; Marked its laws; Refinement demand 3 of the program's reader; FeedLists laws of lists of Feeds; ReaderRows worked rows.
 pub mod Feeding
-pub mod Marked
 pub mod Refinement
 pub mod FeedLists
 pub mod ReaderRows

@@ -1,36 +1,37 @@
-// The stream reader: made fresh, and fed one symbol at a time.
-// It holds the last symbols received and nothing of earlier frames, so each answer is found in the last 2n + 1 symbols alone.
+// The stream reader with its setting k: made fresh, and fed one symbol at a time.
+// It follows the one frame that can be under way and counts the accepted frames in a row before it: each frame is read once, when it is whole.
 ghost use mathlib.Core.Path.{_≡_};
 ghost use mathlib.Core.Bool.{true};
 ghost use Prim.Native.Nat.{_+_, _%_, _≤_, _<_};
-ghost use lib.ListN.{length};
-ghost use Rattle.timecode.specs.Formats.{known};
+ghost use lib.ListN.{length, take, drop};
+ghost use Rattle.timecode.specs.Formats.{size};
 ghost use Rattle.timecode.specs.Frames.{readOf};
-ghost use Rattle.timecode.specs.Stream.{twoFrames, confirm, windowAnswer};
-ghost use Rattle.register.specs.Symbols.{heardFrame};
-ghost use Rattle.stream.specs.Feeding.{isValid, madeOf, nextOf, passOf, windowIn, answerOf, feedOf};
-ghost use Rattle.stream.specs.Marked.{marksStand};
+ghost use Rattle.timecode.specs.Stream.{isSetting};
+ghost use Rattle.following.specs.Following.{rowAfter};
+ghost use Rattle.register.specs.Receiving.{frameOf};
+ghost use Rattle.stream.specs.Feeding.{isValid, madeOf, withRow, withRegister, readerWithReading, whenWhole, withSymbolOf, nextOf, answerAfter, answerOf, feedOf};
 use clock::next_after;
 use frame::read;
 use layout::frame_size;
 use layout::is_known;
 use register::Register;
-use register::frame_at;
-use register::push;
-use register::symbol_at;
-use register::words;
+use register::frame_symbols;
+use register::receive;
 use timecode::Answer;
 use timecode::Format;
-use timecode::MARK;
 use timecode::Reading;
 use timecode::Refusal;
 use timecode::SPOILED;
+use timecode::Time;
 
-// The place is document 01's: the number of symbols accepted so far, modulo n.
+// The place is document 01's: the number of symbols accepted so far, modulo n. Time and control word are those of the row's last frame.
 pub struct Reader {
     pub format: Format,
+    pub setting: u8,
     pub place: usize,
     pub received: Register,
+    pub time: Time,
+    pub control: u64,
 }
 
 // A fresh reader, or why there is none.
@@ -45,33 +46,52 @@ pub struct Fed {
     pub answer: Answer,
 }
 
-// The reader after a symbol that is accepted and no mark; or another symbol, or an invalid reader.
-pub enum Passed {
-    Next(Reader),
-    NotPassed,
+// the settings: from two frames to five, and no longer row needs to be counted
+const LEAST_SETTING: u8 = 2;
+
+const GREATEST_SETTING: u8 = 5;
+
+const LONGEST_ROW: usize = 5;
+
+// Number 26.
+pub fn is_setting(setting: u8) -> bool
+    ensures { λ r. ⌜ r ≡ isSetting setting ⌝ }
+{
+    if LEAST_SETTING <= setting {
+        return setting <= GREATEST_SETTING;
+    }
+    false
 }
 
 impl Reader {
-    // A fresh reader has received nothing: its register holds spoiled symbols alone, and no window begins with one.
-    pub fn fresh(format: Format) -> Made
-        ensures { λ r. ⌜ r ≡ madeOf format ⌝ }
+    // A fresh reader has received nothing: no frame is under way, and the newest symbol is no mark.
+    pub fn fresh(format: Format, setting: u8) -> Made
+        ensures { λ r. ⌜ r ≡ madeOf format setting ⌝ }
     {
         if is_known(format) {
-            let spoiled = 18_446_744_073_709_551_615;
-            let received = Register {
-                word0: spoiled,
-                word1: spoiled,
-                word2: spoiled,
-                word3: spoiled,
-                word4: spoiled,
-                word5: spoiled,
-                word6: spoiled,
-            };
-            return Made::Fresh(Reader {
-                format: format,
-                place: 0,
-                received: received,
-            });
+            if is_setting(setting) {
+                let received = Register {
+                    count: 0,
+                    newest: 18_446_744_073_709_551_615,
+                    word0: 0,
+                    word1: 0,
+                    word2: 0,
+                    row: 0,
+                };
+                let time = Time {
+                    day: 0,
+                    hundredths: 0,
+                };
+                return Made::Fresh(Reader {
+                    format: format,
+                    setting: setting,
+                    place: 0,
+                    received: received,
+                    time: time,
+                    control: 0,
+                });
+            }
+            return Made::Refused(Refusal::InvalidSetting);
         }
         Made::Refused(Refusal::UnknownFormat)
     }
@@ -87,7 +107,7 @@ pub fn is_valid(reader: Reader) -> bool
     false
 }
 
-fn place_after(place: usize, n: usize) -> usize
+pub fn place_after(place: usize, n: usize) -> usize
     requires { ⌜ (place < n) × (n ≤ 100) ⌝ }
     ensures { λ r. ⌜ r ≡ (place + 1) % n ⌝ }
 {
@@ -97,80 +117,120 @@ fn place_after(place: usize, n: usize) -> usize
     place + 1
 }
 
-// Marks stand where two frames behind a mark have them, and the newest symbol but one is none.
-fn has_marks(words: &[u64], n: usize) -> bool
-    requires { ⌜ (length (now words) ≡ 7) × (60 ≤ n) × (n ≤ 100) ⌝ }
-    ensures { λ r. ⌜ r ≡ marksStand (now (words .entry)) n ⌝ }
+// One accepted frame more in the row; it begins anew where the time is not next after the last one's.
+pub fn row_after(format: Format, row: usize, before: Time, time: Time) -> usize
+    ensures { λ r. ⌜ r ≡ rowAfter format row before time ⌝ }
 {
-    if symbol_at(words, 1) == MARK {
-        return false;
+    if row == 0 {
+        return 1;
     }
-    if symbol_at(words, 0) != MARK {
-        return false;
+    if next_after(format, before, time) {
+        if row < LONGEST_ROW {
+            return row + 1;
+        }
+        return LONGEST_ROW;
     }
-    if symbol_at(words, n - 1) != MARK {
-        return false;
-    }
-    if symbol_at(words, n) != MARK {
-        return false;
-    }
-    if symbol_at(words, n + n - 1) != MARK {
-        return false;
-    }
-    symbol_at(words, n + n) == MARK
+    1
 }
 
-fn read_at(format: Format, words: &[u64], back: usize, n: usize) -> Reading
-    requires { ⌜ (length (now words) ≡ 7) × (n ≤ 100) × (back ≤ 100) ⌝ }
-    ensures { λ r. ⌜ r ≡ readOf format (heardFrame (now (words .entry)) back n) ⌝ }
+fn read_part(format: Format, bytes: &[u8], n: usize) -> Reading
+    requires { ⌜ (length (now bytes) ≡ 160) × (n ≤ 100) ⌝ }
+    ensures { λ r. ⌜ r ≡ readOf format (take n (drop 32 (now (bytes .entry)))) ⌝ }
 {
-    let frame = frame_at(words, back, n);
-    read(format, &frame[..n])
+    read(format, &bytes[32..32 + n])
 }
 
-fn confirm_frames(format: Format, words: &[u64], n: usize) -> Answer
-    requires { ⌜ (length (now words) ≡ 7) × (n ≤ 100) ⌝ }
-    ensures { λ r. ⌜ r ≡ confirm format (readOf format (heardFrame (now (words .entry)) n n)) (readOf format (heardFrame (now (words .entry)) 0 n)) ⌝ }
+fn read_received(format: Format, register: Register, n: usize) -> Reading
+    requires { ⌜ n ≤ 100 ⌝ }
+    ensures { λ r. ⌜ r ≡ readOf format (frameOf register n) ⌝ }
 {
-    let earlier = read_at(format, words, n, n);
-    let Reading::Accepted { time: first, .. } = earlier else {
-        return Answer::Quiet;
-    };
-    let later = read_at(format, words, 0, n);
-    let Reading::Accepted { time, control } = later else {
-        return Answer::Quiet;
-    };
-    if next_after(format, first, time) {
-        return Answer::Report { time, control };
+    let bytes = frame_symbols(register, n);
+    read_part(format, &bytes, n)
+}
+
+fn register_with_row(register: Register, row: usize) -> Register
+    ensures { λ r. ⌜ r ≡ withRow register row ⌝ }
+{
+    Register {
+        count: register.count,
+        newest: register.newest,
+        word0: register.word0,
+        word1: register.word1,
+        word2: register.word2,
+        row: row,
     }
-    Answer::Quiet
 }
 
-// The marks are looked at first: without them no frame is read.
-fn window_answer(format: Format, words: &[u64]) -> Answer
-    requires { ⌜ length (now words) ≡ 7 ⌝ }
-    ensures { λ r. ⌜ r ≡ windowAnswer format twoFrames (windowIn format (now (words .entry))) ⌝ }
+pub fn with_row(reader: Reader, row: usize, time: Time, control: u64) -> Reader
+    ensures { λ r. ⌜ r ≡ record { format = reader .format; setting = reader .setting; place = reader .place; received = withRow (reader .received) row; time = time; control = control } ⌝ }
 {
-    let n = frame_size(format);
-    if has_marks(words, n) {
-        return confirm_frames(format, words, n);
+    let format = reader.format;
+    let received = register_with_row(reader.received, row);
+    Reader {
+        format: format,
+        setting: reader.setting,
+        place: reader.place,
+        received: received,
+        time: time,
+        control: control,
     }
-    Answer::Quiet
 }
 
-fn with_symbol(reader: Reader, symbol: u8) -> Reader
-    requires { ⌜ (isValid reader ≡ true) × (symbol ≤ 3) ⌝ }
-    ensures { λ r. ⌜ r ≡ nextOf reader symbol ⌝ }
+// A whole frame is read, once: accepted, it joins the row; refused, it ends it.
+fn with_reading(reader: Reader, n: usize) -> Reader
+    requires { ⌜ n ≤ 100 ⌝ }
+    ensures { λ r. ⌜ r ≡ readerWithReading reader (readOf (reader .format) (frameOf (reader .received) n)) ⌝ }
 {
     let format = reader.format;
     let received = reader.received;
-    let place = place_after(reader.place, frame_size(format));
-    let longer = push(received, symbol);
+    let before = reader.time;
+    let reading = read_received(format, received, n);
+    match reading {
+        Reading::Accepted { time, control } => {
+            let row = row_after(format, received.row, before, time);
+            with_row(reader, row, time, control)
+        }
+        Reading::Refused(_) => with_row(reader, 0, before, reader.control),
+    }
+}
+
+pub fn with_register(reader: Reader, place: usize, received: Register) -> Reader
+    ensures { λ r. ⌜ r ≡ withRegister reader place received ⌝ }
+{
+    let format = reader.format;
+    let time = reader.time;
     Reader {
         format: format,
+        setting: reader.setting,
         place: place,
-        received: longer,
+        received: received,
+        time: time,
+        control: reader.control,
     }
+}
+
+// A whole frame is read.
+pub fn when_whole(reader: Reader, n: usize) -> Reader
+    requires { ⌜ (n ≡ size (reader .format)) × (n ≤ 100) ⌝ }
+    ensures { λ r. ⌜ r ≡ whenWhole reader ⌝ }
+{
+    let received = reader.received;
+    if received.count == n {
+        return with_reading(reader, n);
+    }
+    reader
+}
+
+fn with_symbol(reader: Reader, symbol: u8) -> Reader
+    requires { ⌜ isValid reader ≡ true ⌝ }
+    ensures { λ r. ⌜ r ≡ withSymbolOf reader symbol ⌝ }
+{
+    let format = reader.format;
+    let n = frame_size(format);
+    let received = receive(format, n, reader.received, symbol);
+    let place = place_after(reader.place, n);
+    let next = with_register(reader, place, received);
+    when_whole(next, n)
 }
 
 // The reader after a Feed; a refused Feed hands back the same.
@@ -178,52 +238,58 @@ pub fn next_reader(reader: Reader, symbol: u8) -> Reader
     ensures { λ r. ⌜ r ≡ nextOf reader symbol ⌝ }
 {
     if is_valid(reader) {
-        if symbol <= SPOILED {
-            return with_symbol(reader, symbol);
+        if is_setting(reader.setting) {
+            if symbol <= SPOILED {
+                return with_symbol(reader, symbol);
+            }
         }
     }
     reader
 }
 
-// Most symbols are no marks. An accepted one is a Feed that brings nothing, since no frame ends in it, so a loop calls this before `feed`.
-pub fn pass(reader: Reader, symbol: u8) -> Passed
-    ensures { λ r. ⌜ r ≡ passOf reader symbol ⌝ }
+// The answer to an accepted symbol, from the reader after it alone: a report exactly if a frame is whole and k in a row end with it.
+pub fn answer_after(reader: Reader) -> Answer
+    ensures { λ r. ⌜ r ≡ answerAfter reader ⌝ }
 {
-    if symbol == MARK {
-        return Passed::NotPassed;
-    }
-    if symbol <= SPOILED {
-        if is_valid(reader) {
-            return Passed::Next(with_symbol(reader, symbol));
+    let received = reader.received;
+    if received.count == frame_size(reader.format) {
+        if reader.setting as usize <= received.row {
+            let time = reader.time;
+            return Answer::Report {
+                time: time,
+                control: reader.control,
+            };
         }
     }
-    Passed::NotPassed
+    Answer::Quiet
 }
 
-// The answer to a Feed. Only a mark ends a frame.
-pub fn answer_to(reader: Reader, symbol: u8) -> Answer
+// The answer to a Feed after which the reader is `next`: 13, 26, 4, then that reader's.
+pub fn answer_to(reader: Reader, symbol: u8, next: Reader) -> Answer
+    requires { ⌜ next ≡ nextOf reader symbol ⌝ }
     ensures { λ r. ⌜ r ≡ answerOf reader symbol ⌝ }
 {
     if is_valid(reader) {
-        if SPOILED < symbol {
-            return Answer::Refused(Refusal::UnknownSymbol);
+        if is_setting(reader.setting) {
+            if SPOILED < symbol {
+                return Answer::Refused(Refusal::UnknownSymbol);
+            }
+            return answer_after(next);
         }
-        if symbol == MARK {
-            let window = words(push(reader.received, symbol));
-            return window_answer(reader.format, &window);
-        }
-        return Answer::Quiet;
+        return Answer::Refused(Refusal::InvalidSetting);
     }
     Answer::Refused(Refusal::InvalidReader)
 }
 
-// Feeds one symbol and gives back the reader. A reader that no feeding made is answered from its register as any other.
+// Feeds one symbol and gives back the reader. A reader that no feeding made is fed as any other, by its fields.
 pub fn feed(reader: Reader, symbol: u8) -> Fed
     ensures { λ r. ⌜ r ≡ feedOf reader symbol ⌝ }
 {
+    let next = next_reader(reader, symbol);
+    let answer = answer_to(reader, symbol, next);
     Fed {
-        reader: next_reader(reader, symbol),
-        answer: answer_to(reader, symbol),
+        reader: next,
+        answer: answer,
     }
 }
 

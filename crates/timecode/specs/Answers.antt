@@ -1,4 +1,4 @@
--- Document 01, "Numbers a call refuses with": the number and the values of each case of each answer. 14 and 15 are document 02's.
+-- Document 01, "Numbers a call refuses with": the number and the values of each case of each answer. 14, 15 and 26 are document 02's.
 use mathlib.Core.Bool.{Bool, true, false}
 use mathlib.Core.List.{List, [], _∷_}
 use Prim.Native.Nat.{ℕ}
@@ -26,6 +26,7 @@ use Rattle.timecode.specs.declared.Refusal.the-variants.{
   InvalidReader,
   SecondNotCarried,
   InvalidKind,
+  InvalidSetting,
 }
 use Rattle.timecode.specs.declared.Scanned.{Scanned}
 use Rattle.timecode.specs.declared.Scanned.the-variants.{Found, None}
@@ -53,6 +54,7 @@ refusalNumber StartPastEnd = 12
 refusalNumber InvalidReader = 13
 refusalNumber SecondNotCarried = 14
 refusalNumber InvalidKind = 15
+refusalNumber InvalidSetting = 26
 
 -- One check of a call: the answer goes on where it passes, and is that refusal where it fails.
 abbrev pub check : {Any : Type 0} → (Refusal → Any) → Refusal → Bool → Any → Any
@@ -81,6 +83,7 @@ index StartPastEnd = []
 index InvalidReader = []
 index SecondNotCarried = []
 index InvalidKind = []
+index InvalidSetting = []
 
 -- a refusal carries its number, with 5 and 6 the index, and no value beside
 abbrev pub refusalResult : Refusal → Result

@@ -1,7 +1,8 @@
-// What the calls of the time code engine take and what they answer: types only, no function.
-// Document 01 and of document 02 the step back and the leap second as definitions, and the theorems over them, stand in specs/.
+// What the calls of the time code engine take and what they answer: types only, no function. A format and a time are C's structs too.
+// Document 01 and of document 02 the step back, the leap second and the setting k as definitions, and the theorems over them, stand in specs/.
 
 // A rate letter, in capital ASCII, and a coded expression.
+#[repr(C)]
 pub struct Format {
     pub letter: u8,
     pub expression: u8,
@@ -17,6 +18,7 @@ pub const MARK: u8 = 2;
 pub const SPOILED: u8 = 3;
 
 // The day of the year, and document 01's c: hundredths of a second since midnight.
+#[repr(C)]
 pub struct Time {
     pub day: u16,
     pub hundredths: u32,
@@ -43,7 +45,7 @@ impl Time {
     pub const SECOND_TAKEN: u8 = 2;
 }
 
-// Document 01's thirteen numbers and document 02's 14 and 15, in their order. With 5 and 6 goes the index of the element.
+// Document 01's thirteen numbers and document 02's 14, 15 and 26, in their order. With 5 and 6 goes the index of the element.
 pub enum Refusal {
     UnknownFormat,
     InvalidTime,
@@ -60,6 +62,7 @@ pub enum Refusal {
     InvalidReader,
     SecondNotCarried,
     InvalidKind,
+    InvalidSetting,
 }
 
 // Write, and the classifier over lists: whether the lent memory was written.

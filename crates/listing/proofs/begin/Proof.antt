@@ -4,6 +4,7 @@ use mathlib.Core.Path.{_∙_}
 use borrow.Author.Tests.{eq-eqb, ne-eqb, le-leb, lt-leb}
 use Rattle.listing.specs.Printed.{isFirstLine}
 use Rattle.listing.specs.Promises.{madeFromHead}
+use Rattle.timecode.specs.Stream.{isSetting}
 use Rattle.stream.specs.Feeding.{madeOf}
 use Rattle.listing.proofs.begin.Statement.{statement}
 use Rattle.listing.proofs.begin.Tie as tie
@@ -17,20 +18,20 @@ shared-slice-read-if2 c = search needs
 shared-slice-read-if3 : tie.Need-shared-slice-read-if3
 shared-slice-read-if3 c = search needs
 
-shared-slice-read-t11 : tie.Need-shared-slice-read-t11
-shared-slice-read-t11 c = search needs
+shared-slice-read-t12 : tie.Need-shared-slice-read-t12
+shared-slice-read-t12 c = search needs
 
-shared-slice-read-t13 : tie.Need-shared-slice-read-t13
-shared-slice-read-t13 c = search needs
+shared-slice-read-t14 : tie.Need-shared-slice-read-t14
+shared-slice-read-t14 c = search needs
 
-sub-t14 : tie.Need-sub-t14
-sub-t14 c = search needs
+sub-t15 : tie.Need-sub-t15
+sub-t15 c = search needs
 
 fresh-requires : tie.Need-fresh-requires
 fresh-requires c κs = search needs
 
 returns : tie.Need-returns
-unfolding madeFromHead isFirstLine madeOf
+unfolding madeFromHead isFirstLine madeOf isSetting
 returns c = c .fresh .ensures ∙ rw (le-leb _ _ (c .before .before .before .before .before .before .before .if1 .taken), eq-eqb _ _ (c .before .before .before .before .before .if2 .taken), le-leb _ _ (c .before .before .before .if3 .taken))
 
 returns-2 : tie.Need-returns-2
@@ -51,9 +52,9 @@ begin-spec =
     (tie.spec
     shared-slice-read-if2
     shared-slice-read-if3
-    shared-slice-read-t11
-    shared-slice-read-t13
-    sub-t14
+    shared-slice-read-t12
+    shared-slice-read-t14
+    sub-t15
     fresh-requires
     returns
     returns-2

@@ -3,15 +3,15 @@ use native.Mathlib.Omega.{arith}
 use borrow.Author.Tests.{leb-true, leb-false}
 use mathlib.Core.Path.{_≡_, refl}
 use Prim.Native.Nat.{_-_, _≤_}
-use lib.ListN.{length}
-use Rattle.search.specs.Ends.{length-part}
+use lib.ListN.{length, drop, length-drop}
+use lib.Seq.{length-take-le}
 use Rattle.listing.specs.Parts.{ListedTo, listed-start, listed-turn, some-taken}
 use Rattle.listing.proofs.fill.Statement.{statement}
 use Rattle.listing.proofs.fill.Tie as tie
 use Rattle.listing.proofs.fill.Reads as reads
 use Rattle.listing.proofs.fill.Lts as lts
 use Rattle.hearing.proofs.hear.Reads as hear-reads
-use Rattle.parts.proofs.part_end.Reads as part-end-reads
+use Rattle.listing.proofs.part_end.Reads as part-end-reads
 
 abbrev Inv-loop : tie.InvT-loop
 Inv-loop bytes out₀ current₀ taken₀ filled₀ out current taken filled = (taken ≤ length bytes) × (filled ≤ 65536) × (length out ≡ 65536) × ListedTo current₀ current bytes out taken filled × (taken ≡ 0 → filled ≡ 0)
@@ -35,7 +35,7 @@ part-hear-end : tie.Need-part-hear-end Inv-loop μ-loop
 part-hear-end c = omega (arith, c .part-end .ensures .1)
 
 hear-requires : tie.Need-hear-requires Inv-loop μ-loop
-hear-requires c κs = let long = length-part (c .before .before .before .before .before .before .before .before .args .bytes .now) (c .before .before .before .before .before .loop .taken) (c .before .before .part-end .result - c .before .before .before .before .before .loop .taken) (omega (arith, c .before .before .part-end .ensures .0, c .before .before .part-end .ensures .1)) in
+hear-requires c κs = let long = length-take-le (c .before .before .part-end .result - c .before .before .before .before .before .loop .taken) (drop (c .before .before .before .before .before .loop .taken) (c .before .before .before .before .before .before .before .before .args .bytes .now)) (omega (arith, c .before .before .part-end .ensures .0, c .before .before .part-end .ensures .1, length-drop (c .before .before .before .before .before .loop .taken) (c .before .before .before .before .before .before .before .before .args .bytes .now))) in
     (omega (arith, long, c .before .before .part-end .ensures .2), omega (arith, leb-true (c .before .before .before .before .before .loop .filled) _ (c .before .before .before .if1 .taken)), c .before .before .before .before .before .loop .inv .2)
 
 loop-less : tie.Need-loop-less Inv-loop μ-loop

@@ -1,12 +1,7 @@
--- `duskveyra_feed_pulse` meets its contract: one Feed of the reader that the words are.
+-- `duskveyra_feed_pulse` meets its contract: the struct of the pulse's answer, and the words as it leaves them.
 use borrow.Author.Needs.{needs}
 use Rattle.recorder.proofs.duskveyra_feed_pulse.Statement.{statement}
 use Rattle.recorder.proofs.duskveyra_feed_pulse.Tie as tie
-use Rattle.recorder.proofs.duskveyra_feed_pulse.Reads as reads
-use Rattle.recorder.proofs.duskveyra_feed_pulse.Lts as lts
-use Rattle.pulse_feed.proofs.feed_pulse.Reads as feed-pulse-reads
-use Rattle.ffi.proofs.put_fed.Reads as put-fed-reads
-use Rattle.ffi.proofs.reader_in.Reads as reader-in-reads
 
 reader-in-requires : tie.Need-reader-in-requires
 reader-in-requires c κs = search needs
@@ -18,8 +13,13 @@ put-fed-requires : tie.Need-put-fed-requires
 put-fed-requires c κs = search needs
 
 returns : tie.Need-returns
-returns c = rw (← c .before .before .before .before .before .before .before .before .reader-in .ensures, ← c .before .before .before .before .before .before .before .feed-pulse .ensures) (c .put-fed .ensures)
+returns c = rw (← c .before .before .before .before .reader-in .ensures, ← c .before .before .before .feed-pulse .ensures) (c .put-fed .ensures)
 
 pub duskveyra-feed-pulse-spec : {M : Type 1} → statement M
 duskveyra-feed-pulse-spec =
-    tie.close (tie.spec reader-in-requires feed-pulse-requires put-fed-requires returns)
+    tie.close
+    (tie.spec
+    reader-in-requires
+    feed-pulse-requires
+    put-fed-requires
+    returns)

@@ -1,8 +1,12 @@
 -- `is_valid` meets its contract.
-use borrow.Author.Needs.{needs}
 use Rattle.stream.specs.Feeding.{isValid}
+use borrow.Author.Needs.{needs}
 use Rattle.stream.proofs.is_valid.Statement.{statement}
 use Rattle.stream.proofs.is_valid.Tie as tie
+use Rattle.stream.proofs.is_valid.Reads as reads
+use Rattle.stream.proofs.is_valid.Lts as lts
+use Rattle.layout.proofs.frame_size.Reads as frame-size-reads
+use Rattle.layout.proofs.is_known.Reads as is-known-reads
 
 is-known-requires : tie.Need-is-known-requires
 is-known-requires c κs = search needs

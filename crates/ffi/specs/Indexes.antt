@@ -1,0 +1,69 @@
+-- No call but Read refuses with 5 or 6: a struct without an index leaves out no value of a refusal.
+use mathlib.Core.Path.{_≡_, refl}
+use mathlib.Core.Bool.{Bool, true, false, _&&_}
+use mathlib.Core.List.{List, []}
+use Prim.Native.Nat.{ℕ, zero, suc, _+_, _-_}
+use lib.Dec.{leb, eqb}
+use lib.IntN.{ℤ}
+use lib.ListN.{getD, length}
+use Rattle.timecode.specs.Answers.{Result, writtenResult, steppedResult, subtractedResult, classifiedResult, scannedResult}
+use Rattle.timecode.specs.Calls.{isInterval, classifyOf, classifyListOf, differenceOf, found, lowestOf, scanOf, partAt, firstPlace}
+use Rattle.timecode.specs.Formats.{known, size, inRange, onFormat, secondCarried}
+use Rattle.timecode.specs.Frames.{inYear, onDay, controlFits, stepOf, stepBackOf, writeOf, readOf}
+use Rattle.timecode.specs.Laws.Tests.{by-test}
+use Rattle.timecode.specs.declared.Format.{Format}
+use Rattle.timecode.specs.declared.Reading.{Reading}
+use Rattle.timecode.specs.declared.Reading.the-variants.{Accepted}
+use Rattle.timecode.specs.declared.Scanned.{Scanned}
+use Rattle.timecode.specs.declared.Time.{Time}
+use Rattle.ffi.specs.Fields.{unlessRefused}
+
+-- the values of a refusal
+abbrev pub refusedValues : Result → List ℤ
+refusedValues s = unlessRefused s [] (s .values)
+
+pub write-no-index : (f : Format) (t : Time) (w : ℕ) (lent : List ℕ) → refusedValues (writtenResult (writeOf f t w lent)) ≡ []
+unfolding writeOf
+write-no-index f t w lent = by-test (known f) (λ a. rw a (by-test (onFormat f t) (λ b. rw b (by-test (secondCarried f t) (λ d. rw d (by-test (controlFits f w) (λ g. rw g (by-test (eqb (length lent) (size f)) (λ h. rw h) (λ h. rw h))) (λ g. rw g))) (λ d. rw d))) (λ b. rw b))) (λ a. rw a)
+
+pub step-no-index : (f : Format) (t : Time) (year kind : ℕ) → refusedValues (steppedResult (stepOf f t year kind)) ≡ []
+unfolding stepOf
+step-no-index f t year kind = by-test (known f) (λ a. rw a (by-test (onFormat f t) (λ b. rw b (by-test (secondCarried f t) (λ d. rw d (by-test (inYear t year) (λ g. rw g (by-test (onDay f t kind) (λ h. rw h) (λ h. rw h))) (λ g. rw g))) (λ d. rw d))) (λ b. rw b))) (λ a. rw a)
+
+pub step-back-no-index : (f : Format) (t : Time) (year kind : ℕ) → refusedValues (steppedResult (stepBackOf f t year kind)) ≡ []
+unfolding stepBackOf
+step-back-no-index f t year kind = by-test (known f) (λ a. rw a (by-test (onFormat f t) (λ b. rw b (by-test (secondCarried f t) (λ d. rw d (by-test (inYear t year) (λ g. rw g (by-test (onDay f t kind) (λ h. rw h) (λ h. rw h))) (λ g. rw g))) (λ d. rw d))) (λ b. rw b))) (λ a. rw a)
+
+pub difference-no-index : (t u : Time) → refusedValues (subtractedResult (differenceOf t u)) ≡ []
+unfolding differenceOf
+difference-no-index t u = by-test (inRange t && inRange u) (λ a. rw a) (λ a. rw a)
+
+pub classify-no-index : (T width period : ℕ) → refusedValues (classifiedResult (classifyOf T width period)) ≡ []
+unfolding classifyOf
+classify-no-index T width period = by-test (isInterval T) (λ a. rw a) (λ a. rw a)
+
+pub classify-list-no-index : (T : ℕ) (widths periods lent : List ℕ) → refusedValues (writtenResult (classifyListOf T widths periods lent)) ≡ []
+unfolding classifyListOf
+classify-list-no-index T widths periods lent = by-test (isInterval T) (λ a. rw a (by-test (eqb (length widths) (length lent) && eqb (length periods) (length lent)) (λ b. rw b) (λ b. rw b))) (λ a. rw a)
+
+found-no-index : (b : Bool) (r : Reading) (a : ℕ) (after : Scanned) → refusedValues (scannedResult after) ≡ [] → refusedValues (scannedResult (found b r a after)) ≡ []
+found-no-index true (Accepted t w) a after h = refl
+found-no-index true (Reading.Refused x) a after h = h
+found-no-index false (Accepted t w) a after h = h
+found-no-index false (Reading.Refused x) a after h = h
+
+lowest-no-index : (f : Format) (recording : List ℕ) (k a : ℕ) → refusedValues (scannedResult (lowestOf f recording k a)) ≡ []
+unfolding lowestOf
+lowest-no-index f recording zero a = refl
+lowest-no-index f recording (suc k) a = found-no-index (eqb (getD recording (a - 1) 0) 2) (readOf f (partAt f recording a)) a (lowestOf f recording k (suc a)) (lowest-no-index f recording k (suc a))
+
+pub scan-no-index : (f : Format) (recording : List ℕ) (start : ℕ) → refusedValues (scannedResult (scanOf f recording start)) ≡ []
+unfolding scanOf
+scan-no-index f recording start =
+    by-test (known f)
+    (λ a.
+    rw a
+    (by-test (leb start (length recording))
+    (λ b. rw b (lowest-no-index f recording (length recording + 1 - (firstPlace start + size f)) (firstPlace start)))
+    (λ b. rw b)))
+    (λ a. rw a)

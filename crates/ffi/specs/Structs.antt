@@ -1,0 +1,99 @@
+-- The struct of each answer: its number first, with Read's the index, then its values; a field for which the answer has no value is 0.
+use Prim.Native.Nat.{ℕ}
+use lib.IntN.{pos}
+use Rattle.timecode.specs.Answers.{refusalNumber}
+use Rattle.timecode.specs.declared.Answer.{Answer}
+use Rattle.timecode.specs.declared.Answer.the-variants.{Quiet, Report}
+use Rattle.timecode.specs.declared.Classified.{Classified}
+use Rattle.timecode.specs.declared.Classified.the-variants.{Symbol}
+use Rattle.timecode.specs.declared.Reading.{Reading}
+use Rattle.timecode.specs.declared.Reading.the-variants.{Accepted}
+use Rattle.timecode.specs.declared.Refusal.{Refusal}
+use Rattle.timecode.specs.declared.Refusal.the-variants.{
+  UnknownFormat,
+  InvalidTime,
+  WrongLength,
+  UnknownSymbol,
+  MisplacedMark,
+  InvalidElement,
+  InvalidDigit,
+  SecondsDiffer,
+  ControlTooLong,
+  InvalidInterval,
+  InvalidYearLength,
+  StartPastEnd,
+  InvalidReader,
+  SecondNotCarried,
+  InvalidKind,
+  InvalidSetting,
+}
+use Rattle.timecode.specs.declared.Scanned.{Scanned}
+use Rattle.timecode.specs.declared.Scanned.the-variants.{Found, None}
+use Rattle.timecode.specs.declared.Stepped.{Stepped}
+use Rattle.timecode.specs.declared.Stepped.the-variants.{To}
+use Rattle.timecode.specs.declared.Subtracted.{Subtracted}
+use Rattle.timecode.specs.declared.Subtracted.the-variants.{Hundredths}
+use Rattle.timecode.specs.declared.Time.{Time}
+use Rattle.timecode.specs.declared.Written.{Written}
+use Rattle.timecode.specs.declared.Written.the-variants.{Done}
+use Rattle.ffi.specs.declared.ClassifyResult.{ClassifyResult}
+use Rattle.ffi.specs.declared.DifferenceResult.{DifferenceResult}
+use Rattle.ffi.specs.declared.FeedResult.{FeedResult}
+use Rattle.ffi.specs.declared.ReadResult.{ReadResult}
+use Rattle.ffi.specs.declared.ScanResult.{ScanResult}
+use Rattle.ffi.specs.declared.StepResult.{StepResult}
+use Rattle.ffi.specs.declared.WriteResult.{WriteResult}
+
+abbrev pub zeroTime : Time
+zeroTime = record { day = 0; hundredths = 0 }
+
+-- the index that goes with 5 and 6; with every other number 0
+abbrev pub refusalIndex : Refusal → ℕ
+refusalIndex UnknownFormat = 0
+refusalIndex InvalidTime = 0
+refusalIndex WrongLength = 0
+refusalIndex UnknownSymbol = 0
+refusalIndex (MisplacedMark i) = i
+refusalIndex (InvalidElement i) = i
+refusalIndex InvalidDigit = 0
+refusalIndex SecondsDiffer = 0
+refusalIndex ControlTooLong = 0
+refusalIndex InvalidInterval = 0
+refusalIndex InvalidYearLength = 0
+refusalIndex StartPastEnd = 0
+refusalIndex InvalidReader = 0
+refusalIndex SecondNotCarried = 0
+refusalIndex InvalidKind = 0
+refusalIndex InvalidSetting = 0
+
+abbrev pub writeResultOf : Written → WriteResult
+writeResultOf Done = record { number = 0 }
+writeResultOf (Written.Refused x) = record { number = refusalNumber x }
+
+abbrev pub readResultOf : Reading → ReadResult
+readResultOf (Accepted t w) = record { number = 0; index = 0; time = t; control = w }
+readResultOf (Reading.Refused x) = record { number = refusalNumber x; index = refusalIndex x; time = zeroTime; control = 0 }
+
+abbrev pub stepResultOf : Stepped → StepResult
+stepResultOf (To t) = record { number = 0; time = t }
+stepResultOf (Stepped.Refused x) = record { number = refusalNumber x; time = zeroTime }
+
+abbrev pub differenceResultOf : Subtracted → DifferenceResult
+differenceResultOf (Hundredths d) = record { number = 0; hundredths = d }
+differenceResultOf (Subtracted.Refused x) = record { number = refusalNumber x; hundredths = pos 0 }
+
+abbrev pub classifyResultOf : Classified → ClassifyResult
+classifyResultOf (Symbol s) = record { number = 0; symbol = s }
+classifyResultOf (Classified.Refused x) = record { number = refusalNumber x; symbol = 0 }
+
+-- found: 1 with a frame, else 0
+abbrev pub scanResultOf : Scanned → ScanResult
+scanResultOf (Found a t w) = record { number = 0; found = 1; start = a; time = t; control = w }
+scanResultOf None = record { number = 0; found = 0; start = 0; time = zeroTime; control = 0 }
+scanResultOf (Scanned.Refused x) = record { number = refusalNumber x; found = 0; start = 0; time = zeroTime; control = 0 }
+
+-- reported: 1 with a report, else 0
+abbrev pub feedResultOf : Answer → FeedResult
+feedResultOf Quiet = record { number = 0; reported = 0; time = zeroTime; control = 0 }
+feedResultOf (Report t w) = record { number = 0; reported = 1; time = t; control = w }
+feedResultOf (Answer.Refused x) = record { number = refusalNumber x; reported = 0; time = zeroTime; control = 0 }

@@ -1,0 +1,18 @@
+-- `is_opening` meets its contract.
+use borrow.Author.Tests.{eq-eqb, ne-eqb}
+use Rattle.following.specs.Rows.{opensFrame}
+use Rattle.openings.proofs.is_opening.Statement.{statement}
+use Rattle.openings.proofs.is_opening.Tie as tie
+use Rattle.openings.proofs.is_opening.Reads as reads
+use Rattle.openings.proofs.is_opening.Lts as lts
+
+returns : tie.Need-returns
+unfolding opensFrame
+returns c = rw (eq-eqb _ _ (c .if1 .taken))
+
+returns-2 : tie.Need-returns-2
+unfolding opensFrame
+returns-2 c = rw (ne-eqb _ _ (c .if1 .left))
+
+pub is-opening-spec : {M : Type 1} → statement M
+is-opening-spec = tie.close (tie.spec returns returns-2)

@@ -1,0 +1,151 @@
+// Where frames may begin among the symbols of a block, and how many of its symbols stand before the first above 3.
+// It assumes nothing of the symbols.
+ghost use mathlib.Core.Path.{_≡_};
+ghost use mathlib.Core.Bool.{true, false};
+ghost use Prim.Native.Nat.{ℕ, _+_, _≤_, _<_};
+ghost use lib.ListN.{getD, length};
+ghost use Rattle.following.specs.Rows.{opensFrame};
+ghost use Rattle.openings.specs.Accepted.{acceptedIn};
+ghost use Rattle.openings.specs.Openings.{opensAt};
+use timecode::Format;
+use timecode::MARK;
+use timecode::SPOILED;
+
+fn smaller(first: u8, second: u8) -> u8
+    ensures { λ r. ⌜ (r ≤ first) × (r ≤ second) ⌝ }
+{
+    if first < second {
+        return first;
+    }
+    second
+}
+
+fn place_if(here: bool, place: u8) -> u8
+    ensures { λ r. ⌜ (here ≡ true → r ≡ place) ⌝ }
+{
+    if here {
+        return place;
+    }
+    255
+}
+
+// A mark directly after a mark begins a frame, in every format.
+fn is_opening(format: Format, last: u8, symbol: u8) -> bool
+    ensures { λ r. ⌜ r ≡ opensFrame format last symbol ⌝ }
+{
+    if symbol == MARK {
+        return last == MARK;
+    }
+    false
+}
+
+// The lowest of some places at which a frame may begin, or 255. It looks at all of them: a loop without an early return is compiled to look at many at a time.
+fn lowest_opening(format: Format, symbols: &[u8], from: usize, count: usize) -> u8
+    requires { ⌜ (1 ≤ from) × (from + count ≤ length (now symbols)) × (count ≤ 128) ⌝ }
+    ensures { λ r. ⌜ ((j : ℕ) → j < count → j < r → opensAt format (now (symbols .entry)) (from + j) ≡ false) ⌝ }
+{
+    let mut lowest = 255;
+    let mut i = 0;
+    while i < count {
+        let at = from + i;
+        let opens = is_opening(format, symbols[at - 1], symbols[at]);
+        lowest = smaller(place_if(opens, i as u8), lowest);
+        i += 1;
+    }
+    lowest
+}
+
+fn wide(x: u8) -> usize
+    ensures { λ r. ⌜ r ≡ x ⌝ }
+{
+    x as usize
+}
+
+// So many places are looked at together.
+fn places(from: usize, to: usize) -> usize
+    requires { ⌜ from < to ⌝ }
+    ensures { λ r. ⌜ (1 ≤ r) × (r ≤ 128) × (from + r ≤ to) ⌝ }
+{
+    if to - from < 128 {
+        return to - from;
+    }
+    128
+}
+
+// The next place from one index to another at which a frame may begin, or the other.
+pub fn next_opening(format: Format, symbols: &[u8], from: usize, to: usize) -> usize
+    requires { ⌜ (1 ≤ from) × (from ≤ to) × (to ≤ length (now symbols)) ⌝ }
+    ensures { λ r. ⌜ (from ≤ r) × (r ≤ to) × ((j : ℕ) → from ≤ j → j < r → opensAt format (now (symbols .entry)) j ≡ false) ⌝ }
+{
+    let mut at = from;
+    while at < to {
+        let count = places(at, to);
+        let lowest = wide(lowest_opening(format, symbols, at, count));
+        if lowest < count {
+            return at + lowest;
+        }
+        at += count;
+    }
+    to
+}
+
+// The first index from one to another at which no frame may begin, or the other.
+pub fn openings_end(format: Format, symbols: &[u8], from: usize, to: usize) -> usize
+    requires { ⌜ (1 ≤ from) × (from ≤ to) × (to ≤ length (now symbols)) ⌝ }
+    ensures { λ r. ⌜ (from ≤ r) × (r ≤ to) × ((j : ℕ) → from ≤ j → j < r → opensAt format (now (symbols .entry)) j ≡ true) ⌝ }
+{
+    let mut i = from;
+    while i < to {
+        if is_opening(format, symbols[i - 1], symbols[i]) {
+            i += 1;
+            continue;
+        }
+        return i;
+    }
+    to
+}
+
+fn larger(first: u8, second: u8) -> u8
+    ensures { λ r. ⌜ (first ≤ r) × (second ≤ r) ⌝ }
+{
+    if first < second {
+        return second;
+    }
+    first
+}
+
+// The greatest of the symbols, again without an early return.
+fn greatest(symbols: &[u8]) -> u8
+    ensures { λ r. ⌜ ((k : ℕ) → k < length (now (symbols .entry)) → getD (now (symbols .entry)) k 0 ≤ r) ⌝ }
+{
+    let mut most = 0;
+    let mut i = 0;
+    while i < symbols.len() {
+        most = larger(most, symbols[i]);
+        i += 1;
+    }
+    most
+}
+
+fn first_unknown(symbols: &[u8]) -> usize
+    ensures { λ r. ⌜ r ≡ acceptedIn (now (symbols .entry)) ⌝ }
+{
+    let mut i = 0;
+    while i < symbols.len() {
+        if SPOILED < symbols[i] {
+            return i;
+        }
+        i += 1;
+    }
+    i
+}
+
+// How many symbols stand before the first above 3: mostly all.
+pub fn accepted(symbols: &[u8]) -> usize
+    ensures { λ r. ⌜ r ≡ acceptedIn (now (symbols .entry)) ⌝ }
+{
+    if greatest(symbols) <= SPOILED {
+        return symbols.len();
+    }
+    first_unknown(symbols)
+}

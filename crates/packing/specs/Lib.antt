@@ -1,2 +1,0 @@
--- The bytes and symbols of a register's words.
-pub mod Packing

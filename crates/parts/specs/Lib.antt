@@ -1,2 +1,0 @@
--- The symbols of a part after the reader's own.
-pub mod Behind

@@ -1,0 +1,3 @@
+pub mod Words
+pub mod WordLaws
+pub mod WordFeeds

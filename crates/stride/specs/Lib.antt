@@ -1,0 +1,2 @@
+pub mod ReadyReaders
+pub mod Strides
