@@ -3,10 +3,15 @@
 ghost use mathlib.Core.Path.{_≡_};
 ghost use Rattle.timecode.specs.Calls.{differenceOf, classifyOf, classifyListOf, classifyListLeaves, scanOf};
 ghost use Rattle.timecode.specs.Frames.{readOf, writeOf, writeLeaves, stepOf, stepBackOf};
+ghost use Rattle.block.specs.Blocks.{lists, listsLeft, blockFor};
+ghost use Rattle.block_words.specs.BlockWords.{blockResultOf, feedBlockWords, blockWordsLeft};
 ghost use Rattle.ffi.specs.Structs.{writeResultOf, readResultOf, stepResultOf, differenceResultOf, classifyResultOf, scanResultOf, feedResultOf};
 ghost use Rattle.stream.specs.Feeding.{madeOf};
 ghost use Rattle.pulse_feed.specs.PulseFeeds.{feedPulseOf};
 ghost use Rattle.reader_words.specs.Words.{readerIn, freshResultOf, freshLeft, feedWords, wordsLeft};
+use block_feed::feed_block;
+use block_words::BlockResult;
+use block_words::put_block;
 use clock::difference;
 use clock::step;
 use clock::step_back;
@@ -129,6 +134,33 @@ pub extern "C" fn duskveyra_feed_pulse(
     let next = fed.reader;
     let answer = fed.answer;
     put_fed(next, answer, reader)
+}
+
+// A block of symbols, with its reports put into a list for each field: indexes, days, hundredths and control words.
+#[no_mangle]
+pub extern "C" fn duskveyra_feed_block(
+    reader: &mut [u64; 13],
+    symbols: &[u8],
+    indexes: &mut [usize],
+    days: &mut [u16],
+    hundredths: &mut [u32],
+    controls: &mut [u64],
+) -> BlockResult
+    ensures { λ r. ⌜ r ≡ blockResultOf (feedBlockWords (now (reader .entry)) (now (symbols .entry)) (lists (now (indexes .entry)) (now (days .entry)) (now (hundredths .entry)) (now (controls .entry))) .answer) ⌝ }
+    ensures { λ _. ⌜ now (reader .exit) ≡ blockWordsLeft (feedBlockWords (now (reader .entry)) (now (symbols .entry)) (lists (now (indexes .entry)) (now (days .entry)) (now (hundredths .entry)) (now (controls .entry)))) (now (reader .entry)) ⌝ }
+    ensures { λ _. ⌜ lists (now (indexes .exit)) (now (days .exit)) (now (hundredths .exit)) (now (controls .exit)) ≡ listsLeft (blockFor (readerIn (now (reader .entry))) (now (symbols .entry)) (lists (now (indexes .entry)) (now (days .entry)) (now (hundredths .entry)) (now (controls .entry)))) (lists (now (indexes .entry)) (now (days .entry)) (now (hundredths .entry)) (now (controls .entry))) ⌝ }
+{
+    let fed = feed_block(
+        reader_in(*reader),
+        symbols,
+        indexes,
+        days,
+        hundredths,
+        controls,
+    );
+    let next = fed.reader;
+    let answer = fed.answer;
+    put_block(next, answer, reader)
 }
 
 // The classifier: the symbol of one pulse.
