@@ -103,7 +103,7 @@ after-fits r (s ∷ ss) h = after-fits (nextOf r s) ss (next-fits r s h)
 -- ---- the words after a call are those of the reader that it gives back, refused or not
 
 -- of thirteen words the reader's own are left
-into-words : (r next : Reader) → wordsInto (wordsFor r) next ≡ wordsFor next
+pub into-words : (r next : Reader) → wordsInto (wordsFor r) next ≡ wordsFor next
 unfolding wordsInto wordsFor
 into-words r next = refl
 
