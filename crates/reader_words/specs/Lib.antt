@@ -1,3 +1,3 @@
+-- Words is what the contracts say; WordLaws its laws.
 pub mod Words
 pub mod WordLaws
-pub mod WordFeeds

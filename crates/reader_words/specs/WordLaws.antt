@@ -21,7 +21,6 @@ use Rattle.timecode.specs.declared.Answer.the-variants.{Quiet, Report}
 use Rattle.timecode.specs.declared.Format.{Format}
 use Rattle.timecode.specs.declared.Refusal.{Refusal}
 use Rattle.register.specs.Receiving.{receiveOf, frameOf}
-use Rattle.stream.specs.FeedLists.{refused-feed-same-reader}
 use Rattle.stream.specs.Feeding.{freshReader, madeOf, madeResult, isValid, withRegister, readerWithReading, whenWhole, withSymbolOf, nextOf, answerAfter, answerOf, feedOf}
 use Rattle.stream.specs.Refinement.{readerAfter}
 use Rattle.stream.specs.declared.Made.{Made}
@@ -111,9 +110,6 @@ pub left-fed : (r next : Reader) (a : Answer) → ((x : Refusal) → a ≡ Answe
 left-fed r next Quiet h = into-words r next
 left-fed r next (Report t w) h = into-words r next
 left-fed r next (Answer.Refused x) h = rw (refusal-numbered x) (ap wordsFor (sym (h x refl)))
-
-pub left-words : (r : Reader) (s : ℕ) → Fits r → wordsLeft (feedWords (wordsFor r) s) (wordsFor r) ≡ wordsFor (feedOf r s .reader)
-left-words r s h = rw (words-back r h) (left-fed r (feedOf r s .reader) (feedOf r s .answer) (refused-feed-same-reader r s))
 
 -- ---- words that no call made: a letter or an expression that is no byte, and a setting that is none
 

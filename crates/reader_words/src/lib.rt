@@ -1,5 +1,5 @@
 // The reader as thirteen words in the caller's memory: unpacked, packed, and what a Feed brought put back there.
-// Any words are allowed. The definitions, and demand 3 of the words, stand in specs/.
+// Any words are allowed. The definitions, and that a reader comes back from its words, stand in specs/.
 ghost use mathlib.Core.Path.{_≡_};
 ghost use Prim.Native.Nat.{_%_};
 ghost use Rattle.ffi.specs.Structs.{feedResultOf};

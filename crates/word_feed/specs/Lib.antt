@@ -1,1 +1,2 @@
+-- One Feed by cases: laws that the proof uses.
 pub mod InPlace
