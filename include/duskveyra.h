@@ -77,6 +77,13 @@ enum duskveyra_kind {
     DUSKVEYRA_SECOND_TAKEN = 2  /* 86,399: the next day follows 23:59:58 */
 };
 
+/* Why duskveyra_feed_block stopped. */
+enum duskveyra_stop {
+    DUSKVEYRA_ALL_TAKEN = 0,             /* no symbol is left */
+    DUSKVEYRA_BEFORE_UNKNOWN_SYMBOL = 1, /* the next symbol is above 3 */
+    DUSKVEYRA_BEFORE_REPORT = 2          /* the next symbol brings a report, and there is no room left for it */
+};
+
 /* The longest frame, in bytes. */
 #define DUSKVEYRA_LONGEST_FRAME 100
 
@@ -92,8 +99,8 @@ typedef struct duskveyra_time {
 
 /* A stream reader: the letter, the expression, the setting and the place; the count of the frame under way, the newest
  * symbols, three words of the frame's symbols and the row; the day, the hundredths and the control word of the row's last
- * frame. It is made by duskveyra_fresh, changed by duskveyra_feed and duskveyra_feed_pulse, and may be copied as any
- * struct. */
+ * frame. It is made by duskveyra_fresh, changed by duskveyra_feed, duskveyra_feed_block and duskveyra_feed_pulse, and may
+ * be copied as any struct. */
 #define DUSKVEYRA_READER_WORDS 13
 
 typedef struct duskveyra_reader {
@@ -142,6 +149,13 @@ typedef struct duskveyra_feed_result {
     uint64_t control;
 } duskveyra_feed_result;
 
+typedef struct duskveyra_block_result {
+    uint8_t number;
+    uint8_t stop;   /* of enum duskveyra_stop */
+    size_t taken;   /* the number of symbols taken */
+    size_t reports; /* the number of reports put in */
+} duskveyra_block_result;
+
 /* Writes a time and a control word as the symbols of one frame; every byte of the frame is set.
  * Refuses with 1; 2; 14; 9; 3 where frame_length is not the format's number of elements; in this order. */
 duskveyra_write_result duskveyra_write(duskveyra_format format, duskveyra_time time, uint64_t control, uint8_t *frame,
@@ -179,6 +193,19 @@ duskveyra_write_result duskveyra_fresh(duskveyra_format format, uint8_t setting,
  * Refuses with 13; 26; 4; in this order, and then feeds nothing. A reader made by duskveyra_fresh and changed by feeding
  * alone never meets 13 or 26. Of a reader with other words that passes them, what is reported is not promised. */
 duskveyra_feed_result duskveyra_feed(duskveyra_reader *reader, uint8_t symbol);
+
+/* Feeds a block of symbols as duskveyra_feed does one after the other, and puts their reports, in their order, into a
+ * list of records, which is four lists of one length: report k, counted from 0, is indexes[k], days[k], hundredths[k]
+ * and controls[k]. indexes[k] is the index in this block, counted from 0, of the symbol that brought it: the last of
+ * the frame with this time. Entries past the last report stay as they were. The lists may not overlap each other, the
+ * symbols or *reader. It stops only before the first symbol above 3, or before the first whose report finds no room left;
+ * *reader is then as before that symbol. Where the last symbol's report just fills the list, all were taken.
+ * Refuses with 13; 26; 3 where the lengths of indexes, days, hundredths and controls are not one; in this order, and
+ * then feeds nothing and leaves the lists too. A symbol above 3 stops it and is no refusal. */
+duskveyra_block_result duskveyra_feed_block(duskveyra_reader *reader, const uint8_t *symbols, size_t symbols_length,
+                                            size_t *indexes, size_t indexes_length, uint16_t *days,
+                                            size_t days_length, uint32_t *hundredths, size_t hundredths_length,
+                                            uint64_t *controls, size_t controls_length);
 
 /* Classifies one pulse and feeds its symbol, as duskveyra_feed does.
  * Refuses with 10; 13; 26; in this order, and then feeds nothing. */

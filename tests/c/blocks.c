@@ -8,8 +8,8 @@
 #include <string.h>
 
 #define FRAMES 10
-#define REPORTS (FRAMES - 1)
-#define ROOM (REPORTS + 2)
+#define MOST (FRAMES - 1)
+#define ROOM (MOST + 2)
 #define LONGEST (2 + DUSKVEYRA_LONGEST_FRAME * FRAMES)
 
 static const struct format {
@@ -18,23 +18,26 @@ static const struct format {
     size_t n;
     uint32_t interval;
     uint64_t control;
+    uint8_t setting;
 } formats[] = {
-    {'B', 0, 100, 100, UINT64_C(0x7ffffff)},
-    {'E', 1, 100, 1000, UINT64_C(0x1fffffffffff)},
-    {'H', 1, 60, 6000, UINT64_C(0x1ff)},
+    {'B', 0, 100, 100, UINT64_C(0x7ffffff), 2},
+    {'E', 1, 100, 1000, UINT64_C(0x1fffffffffff), 3},
+    {'D', 1, 60, 360000, UINT64_C(0x1ff), 4},
+    {'H', 1, 60, 6000, UINT64_C(0x1ff), 5},
 };
 
-/* The format under test; its recording, the last two symbols of a frame and then frames in succession; and what single
- * feeds make of the recording: the reader after each number of symbols, and the reports in their order, each with the
- * index of the symbol that brings it. */
+/* The format and the setting under test; the recording, the last two symbols of a frame and then frames in succession;
+ * and what single feeds make of the recording: the reader after each number of symbols, and the reports in their order,
+ * each with the index of the symbol that brings it. */
 static struct format format;
 static uint8_t recording[LONGEST];
 static size_t length;
 static duskveyra_reader after[LONGEST + 1];
-static size_t indexes[REPORTS];
-static uint16_t days[REPORTS];
-static uint32_t hundredths[REPORTS];
-static uint64_t controls[REPORTS];
+static size_t all_reports;
+static size_t indexes[MOST];
+static uint16_t days[MOST];
+static uint32_t hundredths[MOST];
+static uint64_t controls[MOST];
 
 /* Memory of an exact length on the heap, so that valgrind sees an access past either end. */
 static void *memory(size_t bytes)
@@ -46,26 +49,17 @@ static void *memory(size_t bytes)
     return lent;
 }
 
-/* The out-parameters with guards around each, and no bytes between the members. */
-struct outs {
-    uint64_t guard0;
-    size_t taken;
-    uint64_t guard1;
-    size_t reports;
-    uint64_t guard2;
-    uint8_t stop;
-    uint8_t guard3[15];
-};
-
-/* One block: its reader, its lent list of records as four lists, and its out-parameters. */
+/* One block: its reader with guard words around it, its lent list of records as four lists, and its result. */
 struct block {
+    uint64_t guard0;
     duskveyra_reader reader;
+    uint64_t guard1;
     size_t room;
     size_t *indexes;
     uint16_t *days;
     uint32_t *hundredths;
     uint64_t *controls;
-    struct outs outs;
+    duskveyra_block_result result;
 };
 
 static struct block make(const duskveyra_reader *reader, size_t room)
@@ -89,19 +83,25 @@ static void release(struct block *block)
     free(block->controls);
 }
 
-/* Feeds the symbols, from memory of exactly their length, into the lists from an index on. */
-static uint8_t feed(struct block *block, const uint8_t *symbols, size_t count, size_t from)
+/* Feeds the symbols, from memory of exactly their length, into lists of these lengths from an index on. */
+static void feed_lists(struct block *block, const uint8_t *symbols, size_t count, size_t from, const size_t *lengths)
 {
     uint8_t *lent = (uint8_t *)memory(count);
-    size_t left = block->room - from;
-    uint8_t number;
     memcpy(lent, symbols, count);
-    number = duskveyra_feed_block(&block->reader, lent, count, block->indexes + from, left, block->days + from, left,
-                                  block->hundredths + from, left, block->controls + from, left, &block->outs.taken,
-                                  &block->outs.reports, &block->outs.stop);
+    block->result = duskveyra_feed_block(&block->reader, lent, count, block->indexes + from, lengths[0],
+                                         block->days + from, lengths[1], block->hundredths + from, lengths[2],
+                                         block->controls + from, lengths[3]);
     CHECK(memcmp(lent, symbols, count) == 0);
+    CHECK(block->guard0 == UINT64_C(0xa5a5a5a5a5a5a5a5) && block->guard1 == UINT64_C(0xa5a5a5a5a5a5a5a5));
     free(lent);
-    return number;
+}
+
+static void feed(struct block *block, const uint8_t *symbols, size_t count, size_t from)
+{
+    size_t left = block->room - from;
+    size_t lengths[4];
+    lengths[0] = lengths[1] = lengths[2] = lengths[3] = left;
+    feed_lists(block, symbols, count, from, lengths);
 }
 
 static int same_reader(const duskveyra_reader *first, const duskveyra_reader *second)
@@ -114,7 +114,7 @@ static int same_reader(const duskveyra_reader *first, const duskveyra_reader *se
 static int holds(const struct block *block, size_t reports, size_t later, size_t start)
 {
     size_t index;
-    if (reports > block->room || reports > REPORTS)
+    if (reports > block->room || reports > all_reports)
         return 0;
     for (index = 0; index < reports; index++)
         if (block->indexes[index] != indexes[index] - (index < later ? 0 : start) ||
@@ -129,27 +129,32 @@ static int holds(const struct block *block, size_t reports, size_t later, size_t
     return 1;
 }
 
-/* Whether the out-parameters hold these, and nothing around them changed. */
+/* Whether the block was taken with this result. */
 static int says(const struct block *block, size_t taken, size_t reports, uint8_t stop)
 {
-    struct outs want;
-    memset(&want, FILL, sizeof want);
-    want.taken = taken;
-    want.reports = reports;
-    want.stop = stop;
-    return memcmp(&block->outs, &want, sizeof want) == 0;
+    return block->result.number == DUSKVEYRA_OK && block->result.taken == taken && block->result.reports == reports &&
+           block->result.stop == stop;
 }
 
-/* The reports of the recording's first symbols: the first comes with the mark and two frames. */
+/* The reports of the recording's first symbols: the first comes with the mark and as many frames as the setting
+ * says. */
 static size_t reports_in(size_t symbols)
 {
-    return symbols < 2 + 2 * format.n ? 0 : (symbols - 2) / format.n - 1;
+    return symbols < 2 + format.setting * format.n ? 0 : (symbols - 2) / format.n - (format.setting - 1);
 }
 
 /* The index of the symbol that brings the report of this index. */
 static size_t report_at(size_t report)
 {
-    return 1 + format.n * (report + 2);
+    return 1 + format.n * (report + format.setting);
+}
+
+static duskveyra_format under_test(void)
+{
+    duskveyra_format made;
+    made.letter = format.letter;
+    made.expression = format.expression;
+    return made;
 }
 
 /* A recording, and what single feeds make of it. */
@@ -157,33 +162,40 @@ static void record(void)
 {
     size_t frame, index, reports = 0;
     duskveyra_reader reader;
+    duskveyra_time time;
     length = 2 + format.n * FRAMES;
+    all_reports = FRAMES - format.setting + 1;
     recording[0] = 0;
     recording[1] = 2;
-    for (frame = 0; frame < FRAMES; frame++)
-        CHECK(duskveyra_write(format.letter, format.expression, 200, (uint32_t)frame * format.interval,
-                              format.control - frame, recording + 2 + format.n * frame, format.n) == DUSKVEYRA_OK);
-    CHECK(duskveyra_fresh(format.letter, format.expression, &reader) == DUSKVEYRA_OK);
+    /* The bytes between the members hold something: the library compares them along where they cannot count, and
+     * valgrind would complain of what nothing was stored to. */
+    memset(&time, FILL, sizeof time);
+    time.day = 200;
+    for (frame = 0; frame < FRAMES; frame++) {
+        time.hundredths = (uint32_t)frame * format.interval;
+        CHECK(duskveyra_write(under_test(), time, format.control - frame, recording + 2 + format.n * frame, format.n)
+                  .number == DUSKVEYRA_OK);
+    }
+    CHECK(duskveyra_fresh(under_test(), format.setting, &reader).number == DUSKVEYRA_OK);
     after[0] = reader;
     for (index = 0; index < length; index++) {
-        uint8_t reported = 0;
-        uint16_t day = 0;
-        uint32_t hundredth = 0;
-        uint64_t control = 0;
-        CHECK(duskveyra_feed(&reader, recording[index], &reported, &day, &hundredth, &control) == DUSKVEYRA_OK);
+        duskveyra_feed_result fed = duskveyra_feed(&reader, recording[index]);
+        CHECK(fed.number == DUSKVEYRA_OK);
         after[index + 1] = reader;
-        if (reported && reports < REPORTS) {
+        if (fed.reported && reports < all_reports) {
             CHECK(index == report_at(reports));
             indexes[reports] = index;
-            days[reports] = day;
-            hundredths[reports] = hundredth;
-            controls[reports] = control;
+            days[reports] = fed.time.day;
+            hundredths[reports] = fed.time.hundredths;
+            controls[reports] = fed.control;
+            frame = reports + format.setting - 1;
+            CHECK(fed.time.day == 200 && fed.time.hundredths == frame * format.interval &&
+                  fed.control == format.control - frame);
             reports++;
-            CHECK(day == 200 && hundredth == reports * format.interval && control == format.control - reports);
         }
         CHECK(reports == reports_in(index + 1));
     }
-    CHECK(reports == REPORTS);
+    CHECK(reports == all_reports);
 }
 
 /* The recording as two blocks, cut at every symbol, into one list: the second block's indexes are less by the first's
@@ -194,14 +206,14 @@ static void splits(void)
     for (split = 0; split <= length; split++) {
         struct block block = make(&after[0], ROOM);
         size_t first = reports_in(split);
-        CHECK(feed(&block, recording, split, 0) == DUSKVEYRA_OK);
+        feed(&block, recording, split, 0);
         CHECK(says(&block, split, first, DUSKVEYRA_ALL_TAKEN));
         CHECK(same_reader(&block.reader, &after[split]));
         CHECK(holds(&block, first, first, 0));
-        CHECK(feed(&block, recording + split, length - split, first) == DUSKVEYRA_OK);
-        CHECK(says(&block, length - split, REPORTS - first, DUSKVEYRA_ALL_TAKEN));
+        feed(&block, recording + split, length - split, first);
+        CHECK(says(&block, length - split, all_reports - first, DUSKVEYRA_ALL_TAKEN));
         CHECK(same_reader(&block.reader, &after[length]));
-        CHECK(holds(&block, REPORTS, first, split));
+        CHECK(holds(&block, all_reports, first, split));
         release(&block);
     }
 }
@@ -210,7 +222,7 @@ static void splits(void)
 static void one(const uint8_t *symbols, size_t count, size_t room, size_t taken, uint8_t stop)
 {
     struct block block = make(&after[0], room);
-    CHECK(feed(&block, symbols, count, 0) == DUSKVEYRA_OK);
+    feed(&block, symbols, count, 0);
     CHECK(says(&block, taken, reports_in(taken), stop));
     CHECK(same_reader(&block.reader, &after[taken]));
     CHECK(holds(&block, reports_in(taken), 0, 0));
@@ -221,11 +233,11 @@ static void one(const uint8_t *symbols, size_t count, size_t room, size_t taken,
 static void rooms(void)
 {
     size_t room, report, count;
-    for (room = 0; room <= REPORTS + 1; room++) {
+    for (room = 0; room <= all_reports + 1; room++) {
         one(recording, 0, room, 0, DUSKVEYRA_ALL_TAKEN);
-        one(recording, length, room, room < REPORTS ? report_at(room) : length,
-            room < REPORTS ? DUSKVEYRA_BEFORE_REPORT : DUSKVEYRA_ALL_TAKEN);
-        for (report = 0; report < REPORTS; report++) {
+        one(recording, length, room, room < all_reports ? report_at(room) : length,
+            room < all_reports ? DUSKVEYRA_BEFORE_REPORT : DUSKVEYRA_ALL_TAKEN);
+        for (report = 0; report < all_reports; report++) {
             for (count = report_at(report); count <= report_at(report) + 2 && count <= length; count++) {
                 int full = room < reports_in(count);
                 one(recording, count, room, full ? report_at(room) : count,
@@ -257,33 +269,58 @@ static void unknown_symbols(void)
 static void goes_on(void)
 {
     struct block block = make(&after[0], 0), next;
-    CHECK(feed(&block, recording, length, 0) == DUSKVEYRA_OK);
+    feed(&block, recording, length, 0);
     CHECK(says(&block, report_at(0), 0, DUSKVEYRA_BEFORE_REPORT));
-    CHECK(feed(&block, recording + report_at(0), length - report_at(0), 0) == DUSKVEYRA_OK);
+    feed(&block, recording + report_at(0), length - report_at(0), 0);
     CHECK(says(&block, 0, 0, DUSKVEYRA_BEFORE_REPORT));
-    next = make(&block.reader, REPORTS);
-    CHECK(feed(&next, recording + report_at(0), length - report_at(0), 0) == DUSKVEYRA_OK);
-    CHECK(says(&next, length - report_at(0), REPORTS, DUSKVEYRA_ALL_TAKEN));
+    next = make(&block.reader, all_reports);
+    feed(&next, recording + report_at(0), length - report_at(0), 0);
+    CHECK(says(&next, length - report_at(0), all_reports, DUSKVEYRA_ALL_TAKEN));
     CHECK(same_reader(&next.reader, &after[length]));
-    CHECK(holds(&next, REPORTS, 0, report_at(0)));
+    CHECK(holds(&next, all_reports, 0, report_at(0)));
     release(&block);
     release(&next);
 }
 
-/* A refused block changes nothing, whether it has symbols or none. */
+/* A refused block changes nothing, whether it has symbols or none, and gives its number alone. */
 static void refused(const duskveyra_reader *reader, const size_t *lengths, uint8_t number)
 {
     size_t count;
     for (count = 0; count <= length; count += length) {
-        struct block block = make(reader, ROOM), before = block;
-        CHECK(duskveyra_feed_block(&block.reader, recording, count, block.indexes, lengths[0], block.days, lengths[1],
-                                   block.hundredths, lengths[2], block.controls, lengths[3], &block.outs.taken,
-                                   &block.outs.reports, &block.outs.stop) == number);
+        struct block block = make(reader, ROOM);
+        feed_lists(&block, recording, count, 0, lengths);
+        CHECK(block.result.number == number && block.result.stop == 0 && block.result.taken == 0 &&
+              block.result.reports == 0);
         CHECK(same_reader(&block.reader, reader));
-        CHECK(memcmp(&block.outs, &before.outs, sizeof block.outs) == 0);
         CHECK(holds(&block, 0, 0, 0));
         release(&block);
     }
+}
+
+/* One list shorter or longer than the others, by one or by all; two of one length and two of another; four. */
+static const size_t unequal[][4] = {
+    {ROOM - 1, ROOM, ROOM, ROOM},         {ROOM, ROOM - 1, ROOM, ROOM},
+    {ROOM, ROOM, ROOM - 1, ROOM},         {ROOM, ROOM, ROOM, ROOM - 1},
+    {ROOM, ROOM - 1, ROOM - 1, ROOM - 1}, {ROOM - 1, ROOM, ROOM - 1, ROOM - 1},
+    {ROOM - 1, ROOM - 1, ROOM, ROOM - 1}, {ROOM - 1, ROOM - 1, ROOM - 1, ROOM},
+    {0, ROOM, ROOM, ROOM},                {ROOM, 0, ROOM, ROOM},
+    {ROOM, ROOM, 0, ROOM},                {ROOM, ROOM, ROOM, 0},
+    {ROOM, 0, 0, 0},                      {0, ROOM, 0, 0},
+    {0, 0, ROOM, 0},                      {0, 0, 0, ROOM},
+    {ROOM, ROOM, 0, 0},                   {ROOM, 0, ROOM, 0},
+    {ROOM, 0, 0, ROOM},                   {0, ROOM, ROOM, 0},
+    {0, ROOM, 0, ROOM},                   {0, 0, ROOM, ROOM},
+    {ROOM - 3, ROOM - 2, ROOM - 1, ROOM}, {ROOM, ROOM - 1, ROOM - 2, ROOM - 3}};
+
+/* The reader is refused with this number, whatever the lists. */
+static void refused_first(const duskveyra_reader *reader, uint8_t number)
+{
+    static const size_t equal[] = {ROOM, ROOM, ROOM, ROOM}, none[] = {0, 0, 0, 0};
+    size_t lists;
+    refused(reader, equal, number);
+    refused(reader, none, number);
+    for (lists = 0; lists < sizeof unequal / sizeof unequal[0]; lists++)
+        refused(reader, unequal[lists], number);
 }
 
 static void refusals(void)
@@ -291,31 +328,97 @@ static void refusals(void)
     /* What makes a reader invalid: a letter or an expression that is none or no byte, or a place past a frame. */
     const uint64_t wrong[][2] = {{0, 'C'},      {0, 256 + (uint64_t)format.letter},
                                  {1, 4},        {1, 256 + (uint64_t)format.expression},
-                                 {2, format.n}, {2, UINT64_MAX}};
-    static const size_t equal[] = {ROOM, ROOM, ROOM, ROOM};
-    /* One list shorter or longer than the others, by one or by all; two of one length and two of another; four. */
-    static const size_t unequal[][4] = {
-        {ROOM - 1, ROOM, ROOM, ROOM},         {ROOM, ROOM - 1, ROOM, ROOM},
-        {ROOM, ROOM, ROOM - 1, ROOM},         {ROOM, ROOM, ROOM, ROOM - 1},
-        {ROOM, ROOM - 1, ROOM - 1, ROOM - 1}, {ROOM - 1, ROOM, ROOM - 1, ROOM - 1},
-        {ROOM - 1, ROOM - 1, ROOM, ROOM - 1}, {ROOM - 1, ROOM - 1, ROOM - 1, ROOM},
-        {0, ROOM, ROOM, ROOM},                {ROOM, 0, ROOM, ROOM},
-        {ROOM, ROOM, 0, ROOM},                {ROOM, ROOM, ROOM, 0},
-        {ROOM, 0, 0, 0},                      {0, ROOM, 0, 0},
-        {0, 0, ROOM, 0},                      {0, 0, 0, ROOM},
-        {ROOM, ROOM, 0, 0},                   {ROOM, 0, ROOM, 0},
-        {ROOM, 0, 0, ROOM},                   {0, ROOM, ROOM, 0},
-        {0, ROOM, 0, ROOM},                   {0, 0, ROOM, ROOM},
-        {ROOM - 3, ROOM - 2, ROOM - 1, ROOM}, {ROOM, ROOM - 1, ROOM - 2, ROOM - 3}};
-    size_t which, lists;
+                                 {3, format.n}, {3, UINT64_MAX}};
+    /* Settings that are none, or no byte. */
+    static const uint64_t settings[] = {0, 1, 6, 255, 256 + 2, UINT64_MAX};
+    size_t which, setting, lists;
     for (lists = 0; lists < sizeof unequal / sizeof unequal[0]; lists++)
         refused(&after[0], unequal[lists], DUSKVEYRA_WRONG_LENGTH);
+    for (setting = 0; setting < sizeof settings / sizeof settings[0]; setting++) {
+        duskveyra_reader unset = after[length];
+        unset.words[2] = settings[setting];
+        refused_first(&unset, DUSKVEYRA_INVALID_SETTING);
+    }
     for (which = 0; which < sizeof wrong / sizeof wrong[0]; which++) {
         duskveyra_reader invalid = after[length];
         invalid.words[wrong[which][0]] = wrong[which][1];
-        refused(&invalid, equal, DUSKVEYRA_INVALID_READER);
-        for (lists = 0; lists < sizeof unequal / sizeof unequal[0]; lists++)
-            refused(&invalid, unequal[lists], DUSKVEYRA_INVALID_READER);
+        refused_first(&invalid, DUSKVEYRA_INVALID_READER);
+        invalid.words[2] = settings[which];
+        refused_first(&invalid, DUSKVEYRA_INVALID_READER);
+    }
+}
+
+static uint64_t random_state = UINT64_C(0x9e3779b97f4a7c15);
+
+static uint64_t below(uint64_t limit)
+{
+    random_state ^= random_state << 13;
+    random_state ^= random_state >> 7;
+    random_state ^= random_state << 17;
+    return (random_state * UINT64_C(0x2545f4914f6cdd1d) >> 11) % limit;
+}
+
+/* Feeds the symbols singly, up to where a block stops, and puts their reports into the block's lists. Gives how many
+ * are taken. */
+static size_t fed_singly(struct block *block, const uint8_t *symbols, size_t count, size_t *reports, uint8_t *stop)
+{
+    size_t index;
+    *reports = 0;
+    *stop = DUSKVEYRA_ALL_TAKEN;
+    for (index = 0; index < count; index++) {
+        duskveyra_reader before = block->reader;
+        duskveyra_feed_result fed = duskveyra_feed(&block->reader, symbols[index]);
+        if (fed.number == DUSKVEYRA_OK && !(fed.reported && *reports == block->room)) {
+            if (fed.reported) {
+                block->indexes[*reports] = index;
+                block->days[*reports] = fed.time.day;
+                block->hundredths[*reports] = fed.time.hundredths;
+                block->controls[*reports] = fed.control;
+                ++*reports;
+            }
+            continue;
+        }
+        CHECK(fed.number == DUSKVEYRA_OK || fed.number == DUSKVEYRA_UNKNOWN_SYMBOL);
+        *stop = fed.number == DUSKVEYRA_OK ? DUSKVEYRA_BEFORE_REPORT : DUSKVEYRA_BEFORE_UNKNOWN_SYMBOL;
+        block->reader = before;
+        return index;
+    }
+    return count;
+}
+
+/* Readers of any words that pass 13 and 26, and blocks of any symbols: as fed singly. */
+static void any_reader(void)
+{
+    /* The words from the frame's count on are below these: counts and rows that occur and some more, and the widths of
+     * the day and the hundredths. */
+    static const uint64_t limits[] = {102,        UINT64_MAX,        UINT64_MAX, UINT64_MAX, UINT64_MAX, 8, 65536,
+                                      4294967296, UINT64_MAX};
+    uint8_t symbols[LONGEST];
+    int turn;
+    for (turn = 0; turn < 1000; turn++) {
+        size_t from = below(length), count = below(length - from + 1), place = below(length + 1);
+        size_t word, taken, reports;
+        duskveyra_reader reader = after[turn % 2 ? from : place];
+        struct block block, single;
+        uint8_t stop;
+        for (word = 4; turn % 5 == 0 && word < DUSKVEYRA_READER_WORDS; word++)
+            reader.words[word] = below(limits[word - 4]);
+        reader.words[2] = turn % 3 ? format.setting : 2 + below(4);
+        memcpy(symbols, recording + from, count);
+        for (word = below(4); count > 0 && word > 0; word--)
+            symbols[below(count)] = (uint8_t)below(turn % 4 ? 4 : 256);
+        block = make(&reader, below(4));
+        single = make(&reader, block.room);
+        taken = fed_singly(&single, symbols, count, &reports, &stop);
+        feed(&block, symbols, count, 0);
+        CHECK(says(&block, taken, reports, stop));
+        CHECK(same_reader(&block.reader, &single.reader));
+        CHECK(memcmp(block.indexes, single.indexes, block.room * sizeof *block.indexes) == 0);
+        CHECK(memcmp(block.days, single.days, block.room * sizeof *block.days) == 0);
+        CHECK(memcmp(block.hundredths, single.hundredths, block.room * sizeof *block.hundredths) == 0);
+        CHECK(memcmp(block.controls, single.controls, block.room * sizeof *block.controls) == 0);
+        release(&block);
+        release(&single);
     }
 }
 
@@ -330,6 +433,7 @@ int main(void)
         unknown_symbols();
         goes_on();
         refusals();
+        any_reader();
     }
     printf("%lu checks, %lu failed\n", checks, failed);
     return failed != 0;

@@ -1,6 +1,6 @@
-/* Every function of duskveyra.h: its result, each refusal it can give,
- * their order, and the memory it must leave. What is expected stands in documents 01 and 02: the examples, the table of
- * places, the rules. Also compiles as C++. */
+/* Every function of duskveyra.h but duskveyra_feed_block (blocks.c): its result, each refusal it can give, their order,
+ * and the memory it must leave. What is expected stands in documents 01 and 02: the examples, the table of places, the
+ * rules. Also compiles as C++. */
 #include "check.h"
 #include "duskveyra.h"
 
@@ -603,15 +603,17 @@ static void orders(void)
         free(periods);
         free(symbols);
     }
-    for (bad = 0; bad < 4; bad++) {
+    for (bad = 0; bad < 8; bad++) {
         duskveyra_reader reader;
-        uint8_t number = bad & 1 ? 13 : bad & 2 ? 4 : 0;
+        uint8_t number = bad & 1 ? 13 : bad & 4 ? 26 : bad & 2 ? 4 : 0;
         CHECK(call_fresh('H', 1, 2, &reader) == 0);
         if (bad & 1)
             reader.words[3] = 60;
+        if (bad & 4)
+            reader.words[2] = 6;
         CHECK(call_feed(&reader, bad & 2 ? 4 : 2) == number);
         CHECK(number == 0 || same());
-        number = bad & 2 ? 10 : bad & 1 ? 13 : 0;
+        number = bad & 2 ? 10 : bad & 1 ? 13 : bad & 4 ? 26 : 0;
         CHECK(call_feed_pulse(&reader, bad & 2 ? 10000001 : 1000, 800, 1000) == number);
         CHECK(number == 0 || same());
     }
@@ -1233,7 +1235,8 @@ static int is_set(const duskveyra_reader *reader)
     return 2 <= reader->words[2] && reader->words[2] <= 5;
 }
 
-/* Feeds a reader that no feeding made: 13, else 26 for a setting that is none, else 4 for a symbol above 3, else Quiet or Report, and nothing else touched. */
+/* Feeds a reader that no feeding made: 13, else 26 for a setting that is none, else 4 for a symbol above 3, else Quiet or
+ * Report, and nothing else touched. */
 static void feed_any(const duskveyra_reader *reader)
 {
     static const uint8_t symbols[] = {0, 1, 2, 3, 4, 255};
@@ -1259,6 +1262,7 @@ static void feed_any(const duskveyra_reader *reader)
 
 static void any_reader(void)
 {
+    static const uint64_t settings[] = {0, 1, 2, 5, 6, 255, 256 + 2, UINT64_MAX};
     duskveyra_reader reader;
     int turn, f;
     size_t i;
@@ -1278,6 +1282,11 @@ static void any_reader(void)
         feed_any(&reader);
         reader.words[3] = n - 1;
         feed_any(&reader);
+        for (i = 0; i < sizeof settings / sizeof settings[0]; i++) {
+            reader.words[2] = settings[i];
+            feed_any(&reader);
+        }
+        reader.words[2] = 2;
         /* The low byte is a letter, the word is none. */
         reader.words[0] += 256;
         feed_any(&reader);

@@ -31,7 +31,7 @@ impl Reader {
     /// past the last report stay as they were. It stops only before the first symbol above 3, or before the first whose
     /// report would not fit; the reader is then as before that symbol.
     ///
-    /// Refuses with 13; 3 where the four lengths are not one; in this order, and then feeds nothing and leaves all.
+    /// Refuses with 13; 26; 3 where the four lengths are not one; in this order, and then feeds nothing and leaves all.
     ///
     /// ```
     /// use duskveyra::{write, Block, Format, Reader, Stop, Time, MARK};

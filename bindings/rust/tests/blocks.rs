@@ -1,7 +1,7 @@
 //! Blocks through the safe types: the same as single Feeds at every split of a recording, with any room; what stops them,
 //! what refuses them, and what they leave.
 
-use duskveyra::{write, Block, Format, Reader, Refusal, Report, Stop, Time};
+use duskveyra::{write, Block, Format, Reader, Refusal, Report, Stop, Time, READER_WORDS};
 use std::ops::Range;
 
 /// An entry that no report makes.
@@ -75,8 +75,8 @@ struct Recording {
 }
 
 impl Recording {
-    /// A frame's last two symbols, then frames in succession.
-    fn new(letter: u8, expression: u8, frames: u32) -> Recording {
+    /// A frame's last two symbols, then frames in succession, to a reader with this setting.
+    fn new(letter: u8, expression: u8, setting: u8, frames: u32) -> Recording {
         let format = Format { letter, expression };
         let (n, interval, control) = match letter {
             b'B' => (100, 100, 0x7ff_ffff),
@@ -94,7 +94,7 @@ impl Recording {
             write(format, time, control - u64::from(index), &mut frame).expect("a time and a word");
             symbols.extend_from_slice(&frame);
         }
-        let mut after = vec![Reader::fresh(format, 2).expect("a format")];
+        let mut after = vec![Reader::fresh(format, setting).expect("a format")];
         let mut reports = Vec::new();
         for (index, &symbol) in symbols.iter().enumerate() {
             let mut reader = after[index].clone();
@@ -102,7 +102,7 @@ impl Recording {
             reports.extend(report.map(|report| (index, report)));
             after.push(reader);
         }
-        assert_eq!(reports.len() as u32, frames - 1);
+        assert_eq!(reports.len() as u32, frames + 1 - u32::from(setting));
         Recording {
             symbols,
             after,
@@ -134,9 +134,9 @@ impl Recording {
     }
 }
 
-fn recordings(frames: u32) -> [Recording; 3] {
-    [(b'B', 0), (b'E', 1), (b'H', 1)]
-        .map(|(letter, expression)| Recording::new(letter, expression, frames))
+fn recordings(frames: u32) -> [Recording; 4] {
+    [(b'B', 0, 2), (b'E', 1, 3), (b'H', 1, 4), (b'H', 1, 5)]
+        .map(|(letter, expression, setting)| Recording::new(letter, expression, setting, frames))
 }
 
 /// The second block's indexes are less by the first's length.
@@ -166,7 +166,7 @@ fn every_split_gives_what_single_feeds_give() {
 
 #[test]
 fn blocks_of_any_size_give_what_single_feeds_give() {
-    let recording = Recording::new(b'B', 0, 40);
+    let recording = Recording::new(b'B', 0, 2, 40);
     let symbols = &recording.symbols;
     let sizes = (1..=20).chain([100, 101, 223, 224, 225, 511, 512, 513, 1024, 4001, 4002]);
     for size in sizes {
@@ -189,7 +189,7 @@ fn blocks_of_any_size_give_what_single_feeds_give() {
 /// Indexes above 65,535.
 #[test]
 fn a_long_block_gives_what_single_feeds_give() {
-    let recording = Recording::new(b'B', 0, 700);
+    let recording = Recording::new(b'B', 0, 2, 700);
     let symbols = &recording.symbols;
     recording.check(symbols, 699, symbols.len(), Stop::AllTaken);
 }
@@ -213,7 +213,7 @@ fn without_room_it_stops_before_the_report() {
 
 #[test]
 fn it_goes_on_after_it_stopped() {
-    let recording = Recording::new(b'B', 0, 7);
+    let recording = Recording::new(b'B', 0, 2, 7);
     let whole = recording.symbols.len();
     let mut reader = recording.after[0].clone();
     let mut taken = 0;
@@ -256,7 +256,7 @@ fn it_stops_before_a_symbol_above_3() {
 
 #[test]
 fn no_symbols_change_nothing() {
-    let recording = Recording::new(b'H', 1, 4);
+    let recording = Recording::new(b'H', 1, 2, 4);
     let nothing = Block {
         taken: 0,
         reports: 0,
@@ -291,9 +291,24 @@ fn refused(recording: &Recording, reader: &Reader, lengths: [usize; 4], refusal:
     }
 }
 
+/// The reader with these words is refused so, whatever the lengths.
+fn refused_first(recording: &Recording, words: [u64; READER_WORDS], refusal: Refusal) {
+    let reader = Reader::from_words(words);
+    refused(recording, &reader, [8; 4], refusal);
+    refused(recording, &reader, [0; 4], refusal);
+    refused(recording, &reader, [0, 1, 2, 3], refusal);
+    for list in 0..4 {
+        for (common, odd) in [(8, 7), (7, 8)] {
+            let mut lengths = [common; 4];
+            lengths[list] = odd;
+            refused(recording, &reader, lengths, refusal);
+        }
+    }
+}
+
 #[test]
 fn refusals_change_nothing() {
-    let recording = Recording::new(b'H', 1, 6);
+    let recording = Recording::new(b'H', 1, 2, 6);
     let fresh = &recording.after[0];
     // Each of the four lengths from 0 to 8.
     for number in 0..9_usize.pow(4) {
@@ -302,28 +317,28 @@ fn refusals_change_nothing() {
             refused(&recording, fresh, lengths, Refusal::WrongLength);
         }
     }
-    // A letter or an expression that is none, or no byte, or a place past a frame's end; with wrong lengths too.
+    // A letter or an expression that is none, or no byte, or a place past a frame's end; with any setting, and with wrong
+    // lengths too. Then a setting that is none, or no byte.
     let wrong = [
         (0, u64::from(b'C')),
         (0, 256 + u64::from(b'H')),
         (1, 0),
         (1, 257),
-        (2, 60),
-        (2, u64::MAX),
+        (3, 60),
+        (3, u64::MAX),
     ];
+    let settings = [0, 1, 6, 255, 256 + 2, u64::MAX];
     for (word, value) in wrong {
         let mut words = recording.after[100].words();
         words[word] = value;
-        let invalid = Reader::from_words(words);
-        refused(&recording, &invalid, [8; 4], Refusal::InvalidReader);
-        refused(&recording, &invalid, [0; 4], Refusal::InvalidReader);
-        refused(&recording, &invalid, [0, 1, 2, 3], Refusal::InvalidReader);
-        for list in 0..4 {
-            for (common, odd) in [(8, 7), (7, 8)] {
-                let mut lengths = [common; 4];
-                lengths[list] = odd;
-                refused(&recording, &invalid, lengths, Refusal::InvalidReader);
-            }
+        for setting in settings.into_iter().chain(2..=5) {
+            words[2] = setting;
+            refused_first(&recording, words, Refusal::InvalidReader);
         }
+    }
+    for setting in settings {
+        let mut words = recording.after[100].words();
+        words[2] = setting;
+        refused_first(&recording, words, Refusal::InvalidSetting);
     }
 }

@@ -519,7 +519,14 @@ fn readers_of_any_words() {
         for symbol in [0, 2, 4, 255] {
             assert_eq!(reader.feed(symbol), Err(Refusal::InvalidSetting));
         }
+        let pulse = reader.feed_pulse(1_000, 800, 1_000);
+        assert_eq!(pulse, Err(Refusal::InvalidSetting));
+        let pulse = reader.feed_pulse(99, 800, 1_000);
+        assert_eq!(pulse, Err(Refusal::InvalidInterval));
         assert_eq!(reader.words(), words);
+        words[3] = 60;
+        let mut reader = Reader::from_words(words);
+        assert_eq!(reader.feed(4), Err(Refusal::InvalidReader));
     }
     for setting in 0..=255 {
         let made = Reader::fresh(format("H1"), setting);
