@@ -118,7 +118,7 @@ pub fn place_after(place: usize, n: usize) -> usize
 }
 
 // One accepted frame more in the row; it begins anew where the time is not next after the last one's.
-pub fn row_after(format: Format, row: usize, before: Time, time: Time) -> usize
+fn row_after(format: Format, row: usize, before: Time, time: Time) -> usize
     ensures { λ r. ⌜ r ≡ rowAfter format row before time ⌝ }
 {
     if row == 0 {
@@ -161,7 +161,7 @@ fn register_with_row(register: Register, row: usize) -> Register
     }
 }
 
-pub fn with_row(reader: Reader, row: usize, time: Time, control: u64) -> Reader
+fn with_row(reader: Reader, row: usize, time: Time, control: u64) -> Reader
     ensures { λ r. ⌜ r ≡ record { format = reader .format; setting = reader .setting; place = reader .place; received = withRow (reader .received) row; time = time; control = control } ⌝ }
 {
     let format = reader.format;
@@ -176,15 +176,13 @@ pub fn with_row(reader: Reader, row: usize, time: Time, control: u64) -> Reader
     }
 }
 
-// A whole frame is read, once: accepted, it joins the row; refused, it ends it.
-fn with_reading(reader: Reader, n: usize) -> Reader
-    requires { ⌜ n ≤ 100 ⌝ }
-    ensures { λ r. ⌜ r ≡ readerWithReading reader (readOf (reader .format) (frameOf (reader .received) n)) ⌝ }
+// A whole frame's reading: accepted, it joins the row; refused, it ends it.
+pub fn reader_with_reading(reader: Reader, reading: Reading) -> Reader
+    ensures { λ r. ⌜ r ≡ readerWithReading reader reading ⌝ }
 {
     let format = reader.format;
     let received = reader.received;
     let before = reader.time;
-    let reading = read_received(format, received, n);
     match reading {
         Reading::Accepted { time, control } => {
             let row = row_after(format, received.row, before, time);
@@ -192,6 +190,16 @@ fn with_reading(reader: Reader, n: usize) -> Reader
         }
         Reading::Refused(_) => with_row(reader, 0, before, reader.control),
     }
+}
+
+// A whole frame is read, once.
+fn with_reading(reader: Reader, n: usize) -> Reader
+    requires { ⌜ n ≤ 100 ⌝ }
+    ensures { λ r. ⌜ r ≡ readerWithReading reader (readOf (reader .format) (frameOf (reader .received) n)) ⌝ }
+{
+    let received = reader.received;
+    let reading = read_received(reader.format, received, n);
+    reader_with_reading(reader, reading)
 }
 
 pub fn with_register(reader: Reader, place: usize, received: Register) -> Reader

@@ -8,7 +8,7 @@ ghost use Rattle.timecode.specs.Formats.{size};
 ghost use Rattle.timecode.specs.Stream.{isSetting};
 ghost use Rattle.register.specs.Receiving.{begunOf, frameOf};
 ghost use Rattle.receive_many.specs.ManySymbols.{slice, pushAll, SymbolsBelow};
-ghost use Rattle.stream.specs.Feeding.{isValid, withRegister, readerWithReading, whenWhole};
+ghost use Rattle.stream.specs.Feeding.{isValid, withRegister, whenWhole};
 ghost use Rattle.stride.specs.Strides.{runOf, Strides};
 use frame::read;
 use layout::frame_size;
@@ -21,11 +21,9 @@ use register::Register;
 use register::begun;
 use register::receive;
 use stream::Reader;
-use stream::row_after;
+use stream::reader_with_reading;
 use stream::when_whole;
 use stream::with_register;
-use stream::with_row;
-use timecode::Reading;
 
 // The reader after a stride, and how many symbols it took.
 pub struct Stride {
@@ -60,22 +58,6 @@ fn receive_run(received: Register, symbols: &[u8], from: usize, to: usize) -> Re
         return receive_outside(received, symbols, from, to);
     }
     receive_inside(received, symbols, from, to)
-}
-
-// A whole frame's reading: accepted, it joins the row; refused, it ends it.
-fn reader_with_reading(reader: Reader, reading: Reading) -> Reader
-    ensures { λ r. ⌜ r ≡ readerWithReading reader reading ⌝ }
-{
-    let format = reader.format;
-    let received = reader.received;
-    let before = reader.time;
-    match reading {
-        Reading::Accepted { time, control } => {
-            let row = row_after(format, received.row, before, time);
-            with_row(reader, row, time, control)
-        }
-        Reading::Refused(_) => with_row(reader, 0, before, reader.control),
-    }
 }
 
 // A whole frame is read: in the block itself, if it began with the stride.

@@ -7,7 +7,7 @@ use Rattle.stride.proofs.when_whole_here.Reads as reads
 use Rattle.stride.proofs.when_whole_here.Lts as lts
 use Rattle.frame.proofs.read.Reads as read-reads
 use Rattle.stream.proofs.when_whole.Reads as when-whole-reads
-use Rattle.stride.proofs.reader_with_reading.Reads as reader-with-reading-reads
+use Rattle.stream.proofs.reader_with_reading.Reads as reader-with-reading-reads
 
 sub-if2 : tie.Need-sub-if2
 sub-if2 c = search needs

@@ -1,12 +1,12 @@
 -- `reader_with_reading` meets its contract.
 use Rattle.stream.specs.Feeding.{readerWithReading}
 use borrow.Author.Needs.{needs}
-use Rattle.stride.proofs.reader_with_reading.Statement.{statement}
-use Rattle.stride.proofs.reader_with_reading.Tie as tie
-use Rattle.stride.proofs.reader_with_reading.Reads as reads
-use Rattle.stride.proofs.reader_with_reading.Lts as lts
+use Rattle.stream.proofs.reader_with_reading.Statement.{statement}
+use Rattle.stream.proofs.reader_with_reading.Tie as tie
+use Rattle.stream.proofs.reader_with_reading.Reads as reads
+use Rattle.stream.proofs.reader_with_reading.Lts as lts
 use Rattle.stream.proofs.row_after.Reads as row-after-reads
 use Rattle.stream.proofs.with_row.Reads as with-row-reads
 
 enum-known-reading : tie.Need-enum-known-reading
 enum-known-reading c = search needs
