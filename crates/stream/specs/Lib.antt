@@ -1,4 +1,4 @@
--- Feeding is what the contracts say; Marked its laws; Refinement demand 3 of the program's reader; FeedLists laws of lists of Feeds; ReaderRows worked rows.
+-- Feeding is what the contracts say; Refinement demand 3 of the program's reader; FeedLists laws of lists of Feeds; ReaderRows worked rows.
 pub mod Feeding
 pub mod Refinement
 pub mod FeedLists

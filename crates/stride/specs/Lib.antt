@@ -1,2 +1,3 @@
+-- ReadyReaders is the readers that pass 13 and 26; Strides what the contracts say, and its laws.
 pub mod ReadyReaders
 pub mod Strides
