@@ -18,7 +18,3 @@ symbolOfByte b = cond (eqb b 48) 0 (cond (eqb b 49) 1 (cond (eqb b 80) 2 (cond (
 unfoldable pub feedsOf : List ℕ → List ℕ
 feedsOf [] = []
 feedsOf (b ∷ bs) = cond (isSkipped b) (feedsOf bs) (symbolOfByte b ∷ feedsOf bs)
-
--- how many symbols a byte is
-abbrev pub symbolsIn : ℕ → ℕ
-symbolsIn b = cond (isSkipped b) 0 1
