@@ -35,48 +35,55 @@ impl Count {
     }
 }
 
-/// The window by definition: the last 2n + 1 symbols are a mark and two frames that Read takes, the second next after
-/// the first.
-fn plain(format: Format, n: usize, history: &mut Vec<u8>, symbol: u8) -> Answer {
+/// The window by definition: with the setting k the last kn + 1 symbols are a mark and k frames that Read takes, each
+/// next after the one before.
+fn plain(format: Format, setting: u8, history: &mut Vec<u8>, symbol: u8) -> Answer {
     if symbol > 3 {
         return Answer::Refused(reference::Refusal::Symbol);
     }
     history.push(symbol);
-    let len = history.len();
-    if len < 2 * n + 1 {
+    let n = size(format);
+    let Some(start) = history.len().checked_sub(usize::from(setting) * n + 1) else {
         return Answer::Quiet;
-    }
-    let w = &history[len - 2 * n - 1..];
+    };
+    let w = &history[start..];
     if w[0] != 2 {
         return Answer::Quiet;
     }
-    let (Ok((t, _)), Ok((u, c))) = (read(format, &w[1..=n]), read(format, &w[n + 1..])) else {
-        return Answer::Quiet;
-    };
-    if next_after(format, t, u) {
-        Answer::Report(u, c)
-    } else {
-        Answer::Quiet
+    let mut last = None;
+    for frame in w[1..].chunks(n) {
+        let Ok((u, c)) = read(format, frame) else {
+            return Answer::Quiet;
+        };
+        if last.is_some_and(|(t, _)| !next_after(format, t, u)) {
+            return Answer::Quiet;
+        }
+        last = Some((u, c));
     }
+    last.map_or(Answer::Quiet, |(u, c)| Answer::Report(u, c))
 }
 
-fn line(name: &str, format: Format, symbols: &[u8]) {
-    let n = size(format);
-    let mut reader = Reader::fresh(format).unwrap();
+fn line(name: &str, format: Format, setting: u8, symbols: &[u8]) {
+    let mut reader = Reader::fresh(format, setting).unwrap();
     let mut count = Count::new();
     let mut history = Vec::new();
     for &x in symbols {
         let a = reader.feed(x);
-        assert_eq!(a, plain(format, n, &mut history, x), "{name}");
+        assert_eq!(a, plain(format, setting, &mut history, x), "{name}");
         count.take(a);
     }
-    show(name, format, &count);
+    show(name, format, setting, &count);
 }
 
-fn show(name: &str, format: Format, c: &Count) {
+/// Setting 2 is not named.
+fn show(name: &str, format: Format, setting: u8, c: &Count) {
+    print!("{name} {} {}", format.letter as char, format.expression);
+    if setting != 2 {
+        print!(" setting {setting}");
+    }
     println!(
-        "{name} {} {} elements {} reports {} refused {} sum {}",
-        format.letter as char, format.expression, c.e, c.r, c.f, c.s
+        " elements {} reports {} refused {} sum {}",
+        c.e, c.r, c.f, c.s
     );
 }
 
@@ -131,8 +138,8 @@ fn frames(f: Format, year: impl Fn(u64) -> u16) -> Vec<u8> {
     out
 }
 
-fn main() {
-    let formats: Vec<Format> = [
+fn formats() -> Vec<Format> {
+    [
         ("A", 0..4u8),
         ("B", 0..4),
         ("D", 1..3),
@@ -147,117 +154,124 @@ fn main() {
             expression: e,
         })
     })
-    .collect();
-    let each = |name: &str, make: &dyn Fn(Format) -> Vec<u8>| {
-        for &f in &formats {
-            line(name, f, &make(f));
-        }
-    };
-    let m = 200_000usize;
-    each("marks", &|_| vec![2; m]);
-    each("spoiled", &|_| vec![3; m]);
-    each("alternating", &|_| {
-        [2, 0].into_iter().cycle().take(m).collect()
-    });
-    each("pairs", &|_| {
-        [2, 2, 0].into_iter().cycle().take(m).collect()
-    });
-    each("fours", &|_| {
-        [2, 2, 0, 0].into_iter().cycle().take(m).collect()
-    });
-    each("refused", &|_| (4..=255u8).cycle().take(m).collect());
-    each("shaped", &|f| {
-        let n = size(f);
-        (0..m)
-            .map(|i| if i % n == 0 || i % n % 10 == 9 { 2 } else { 1 })
-            .collect()
-    });
-    each("random", &|_| {
+    .collect()
+}
+
+fn each(name: &str, setting: u8, make: &dyn Fn(Format) -> Vec<u8>) {
+    for f in formats() {
+        line(name, f, setting, &make(f));
+    }
+}
+
+const M: usize = 200_000;
+
+fn random_symbols(setting: u8) {
+    each("random", setting, &|_| {
         let mut x = 1u64;
-        (0..m)
+        (0..M)
             .map(|_| {
                 x = (x * 1103515245 + 12345) % 2147483648;
                 (x / 65536 % 6) as u8
             })
             .collect()
     });
-    let valid = |f: Format| frames(f, |_| 366);
-    each("valid", &valid);
-    each("damaged", &|f| {
-        let mut v = valid(f);
-        for k in (996..v.len()).step_by(997) {
-            v[k] = 3;
-        }
-        v
+}
+
+fn made_up(setting: u8) {
+    let cycle = |name, part: &'static [u8]| {
+        each(name, setting, &|_| {
+            part.iter().copied().cycle().take(M).collect()
+        })
+    };
+    cycle("marks", &[2]);
+    cycle("spoiled", &[3]);
+    cycle("alternating", &[2, 0]);
+    cycle("pairs", &[2, 2, 0]);
+    cycle("fours", &[2, 2, 0, 0]);
+    each("refused", setting, &|_| {
+        (4..=255u8).cycle().take(M).collect()
     });
-    each("lost", &|f| {
-        let v = valid(f);
-        v.iter()
-            .enumerate()
-            .filter(|(k, _)| (k + 1) % 997 != 0)
-            .map(|(_, &x)| x)
+    each("shaped", setting, &|f| {
+        let n = size(f);
+        (0..M)
+            .map(|i| if i % n == 0 || i % n % 10 == 9 { 2 } else { 1 })
             .collect()
     });
-    each("added", &|f| {
-        let mut out = Vec::new();
-        for (k, x) in valid(f).into_iter().enumerate() {
-            if (k + 1) % 997 == 0 {
-                out.push(1);
-            }
+    random_symbols(setting);
+}
+
+fn valid(f: Format) -> Vec<u8> {
+    frames(f, |_| 366)
+}
+
+/// The valid frames with each element that has a number divisible by `step`, counted from 1, made something else.
+fn changed(f: Format, step: usize, change: impl Fn(u8) -> Vec<u8>) -> Vec<u8> {
+    let mut out = Vec::new();
+    for (number, x) in (1..).zip(valid(f)) {
+        if number % step == 0 {
+            out.extend(change(x));
+        } else {
             out.push(x);
         }
-        out
-    });
-    each("interrupted", &|f| {
-        let mut out = Vec::new();
-        for (k, x) in valid(f).into_iter().enumerate() {
-            if (k + 1) % 50 == 0 {
-                out.push(9);
-            }
-            out.push(x);
-        }
-        out
-    });
-    each("leap", &|f| {
+    }
+    out
+}
+
+fn generated(setting: u8) {
+    each("valid", setting, &valid);
+    each("damaged", setting, &|f| changed(f, 997, |_| vec![3]));
+    each("lost", setting, &|f| changed(f, 997, |_| vec![]));
+    each("added", setting, &|f| changed(f, 997, |x| vec![1, x]));
+    each("interrupted", setting, &|f| changed(f, 50, |x| vec![9, x]));
+    each("leap", setting, &|f| {
         frames(f, |j| if j % 2 == 1 { 365 } else { 366 })
     });
-    each("common", &|f| {
+    each("common", setting, &|f| {
         frames(f, |j| if j % 2 == 0 { 365 } else { 366 })
     });
+}
+
+fn rows(setting: u8) {
+    each("replaced", setting, &|f| {
+        changed(f, 331, |x| vec![(x + 1) % 4])
+    });
+    each("repeated", setting, &|f| {
+        frames(f, |j| if j % 5 == 4 { 365 } else { 366 })
+    });
+}
+
+fn counted(e: u64, f: u64) -> Count {
+    Count { e, r: 0, f, s: 0 }
+}
+
+fn main() {
+    made_up(2);
+    generated(2);
     // Number 13: a Reader that is not valid refuses every Feed. The reference has none such, so the count is the rule's.
-    for &f in &formats {
-        show(
-            "place",
-            f,
-            &Count {
-                e: 0,
-                r: 0,
-                f: 256,
-                s: 0,
-            },
-        );
+    for f in formats() {
+        show("place", f, 2, &counted(0, 256));
     }
-    line(
-        "million",
-        Format {
-            letter: b'B',
-            expression: 0,
-        },
-        &vec![2; 1_000_000],
-    );
+    let b0 = Format {
+        letter: b'B',
+        expression: 0,
+    };
+    line("million", b0, 2, &vec![2; 1_000_000]);
     let c0 = Format {
         letter: b'C',
         expression: 0,
     };
-    assert!(Reader::fresh(c0).is_err());
-    show(
-        "unknown",
-        c0,
-        &Count {
-            e: 0,
-            r: 0,
-            f: 256,
-            s: 0,
-        },
-    );
+    assert!(Reader::fresh(c0, 2).is_err());
+    show("unknown", c0, 2, &counted(0, 256));
+    rows(2);
+    for setting in 3..=5 {
+        random_symbols(setting);
+        generated(setting);
+        rows(setting);
+    }
+    // Number 26: the reference has no reader of another setting, so the count of its refused Feeds is the rule's.
+    for f in formats() {
+        let made = (0..=255).filter(|&setting| Reader::fresh(f, setting).is_ok());
+        let fed = made.count() as u64;
+        show("settings", f, 2, &counted(fed, 256 - fed));
+    }
 }

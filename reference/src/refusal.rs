@@ -34,6 +34,8 @@ pub enum Refusal {
     AddedSecond,
     /// 15: kind of day above 2, or a time past the end of a day of that kind.
     DayKind,
+    /// 26: a reader's setting not 2 to 5.
+    Setting,
 }
 
 impl Refusal {
@@ -54,6 +56,7 @@ impl Refusal {
             Refusal::Reader => 13,
             Refusal::AddedSecond => 14,
             Refusal::DayKind => 15,
+            Refusal::Setting => 26,
         }
     }
 

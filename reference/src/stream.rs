@@ -1,5 +1,5 @@
-//! The stream reader: reports a time with the element that ends the second of
-//! two good frames in succession.
+//! The stream reader: reports a time with the element that ends the last of as
+//! many good frames in succession as its setting says.
 
 use crate::clock::follows;
 use crate::formats::{Format, Time, MARK, SPOILED};
@@ -7,8 +7,11 @@ use crate::frame::decode;
 use crate::layout::{Layout, MAX_ELEMENTS};
 use crate::refusal::Refusal;
 
-/// A mark and two of the longest frames.
-const MAX_WINDOW: usize = 2 * MAX_ELEMENTS + 1;
+const MIN_SETTING: u8 = 2;
+const MAX_SETTING: u8 = 5;
+
+/// A mark and as many of the longest frames as a setting asks for at most.
+const MAX_WINDOW: usize = MAX_SETTING as usize * MAX_ELEMENTS + 1;
 
 /// What feeding one symbol gives.
 #[derive(Clone, Copy, Debug, PartialEq, Eq)]
@@ -18,27 +21,33 @@ pub enum Answer {
     Refused(Refusal),
 }
 
-/// Hears one symbol at a time and keeps the last 2n + 1 of them.
+/// Hears one symbol at a time and, with the setting k, keeps the last kn + 1 of
+/// them.
 #[derive(Clone, Debug, PartialEq, Eq)]
 pub struct Reader {
     format: Format,
     layout: &'static Layout,
-    /// Ring of the last 2n + 1 symbols, held twice in a row so that they can
+    setting: u8,
+    /// Ring of the last kn + 1 symbols, held twice in a row so that they can
     /// be seen in one piece. What has not been heard yet is spoiled.
     ring: [u8; 2 * MAX_WINDOW],
-    /// Where the next symbol goes, below 2n + 1.
+    /// Where the next symbol goes, below kn + 1.
     head: usize,
     /// Symbols accepted so far, modulo n.
     place: usize,
 }
 
 impl Reader {
-    /// A reader that has heard nothing.
-    pub fn fresh(format: Format) -> Result<Reader, Refusal> {
+    /// A reader with a setting of 2 to 5 that has heard nothing.
+    pub fn fresh(format: Format, setting: u8) -> Result<Reader, Refusal> {
         let layout = Layout::of(format)?;
+        if !(MIN_SETTING..=MAX_SETTING).contains(&setting) {
+            return Err(Refusal::Setting);
+        }
         Ok(Reader {
             format,
             layout,
+            setting,
             ring: [SPOILED; 2 * MAX_WINDOW],
             head: 0,
             place: 0,
@@ -85,21 +94,25 @@ impl Reader {
         };
     }
 
-    /// The second frame's reading, if the last 2n + 1 symbols are a mark and
-    /// two good frames, the second next after the first.
+    /// The last frame's reading, if the last kn + 1 symbols are a mark and k
+    /// good frames, each next after the one before.
     fn newest_frame(&self) -> Option<(Time, u64)> {
         let window = &self.ring[self.head..][..self.window_length()];
         let (&oldest, frames) = window.split_first()?;
         if oldest != MARK {
             return None;
         }
-        let (first, second) = frames.split_at(self.layout.elements);
-        let (first_time, _) = decode(self.layout, first).ok()?;
-        let (second_time, control) = decode(self.layout, second).ok()?;
-        follows(self.layout, first_time, second_time).then_some((second_time, control))
+        let mut readings = frames
+            .chunks_exact(self.layout.elements)
+            .map(|frame| decode(self.layout, frame).ok());
+        let first = readings.next()??;
+        readings.try_fold(first, |(before, _), reading| {
+            let (time, control) = reading?;
+            follows(self.layout, before, time).then_some((time, control))
+        })
     }
 
     fn window_length(&self) -> usize {
-        2 * self.layout.elements + 1
+        usize::from(self.setting) * self.layout.elements + 1
     }
 }

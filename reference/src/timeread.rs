@@ -7,6 +7,9 @@ use crate::formats::{Format, Time, MARK, ONE, SPOILED, ZERO};
 use crate::refusal::Refusal;
 use crate::stream::{Answer, Reader};
 
+/// The reader's setting: two frames before a report.
+const SETTING: u8 = 2;
+
 /// Appends to `out` what `timeread` prints for `input`.
 pub fn timeread(input: &[u8], out: &mut Vec<u8>) {
     let last_line = match listen(input, out) {
@@ -21,10 +24,11 @@ fn listen(input: &[u8], out: &mut Vec<u8>) -> Result<(u64, u64), Refusal> {
     let [letter, digit @ b'0'..=b'9', b'\n', stream @ ..] = input else {
         return Err(Refusal::Format);
     };
-    let mut reader = Reader::fresh(Format {
+    let format = Format {
         letter: *letter,
         expression: digit - b'0',
-    })?;
+    };
+    let mut reader = Reader::fresh(format, SETTING)?;
     let mut elements = 0;
     let mut reports = 0;
     for &character in stream {

@@ -1,6 +1,6 @@
 //! What documents 01 and 02 themselves give: the examples, the order of the
-//! refusals, the step back, the leap second, and the stream reader, fed singly
-//! and in blocks, held against the plain machine.
+//! refusals, the step back, the leap second, and the stream reader with each of
+//! its settings, fed singly and in blocks, held against the plain machine.
 
 use reference::{
     classify, classify_and_feed, classify_list, difference, next_after, read, scan, step,
@@ -11,6 +11,8 @@ use reference::{
 const FORMATS: [&str; 16] = [
     "A0", "A1", "A2", "A3", "B0", "B1", "B2", "B3", "D1", "D2", "E1", "E2", "G1", "G2", "H1", "H2",
 ];
+
+const SETTINGS: [u8; 4] = [2, 3, 4, 5];
 
 const LISTING: &str = "H1\n\
     P P00000000P 000100000P 001001000P 100001001P 100000000P 000000000P \
@@ -104,6 +106,10 @@ impl Random {
         self.below(1 << table(format).2)
     }
 
+    fn setting(&mut self) -> u8 {
+        SETTINGS[self.below(4) as usize]
+    }
+
     /// Frames of a generator one after another, each with its time.
     fn generator(&mut self, format: Format, count: usize) -> (Vec<u8>, Vec<Time>) {
         let mut elements = Vec::new();
@@ -127,32 +133,47 @@ impl Random {
     }
 }
 
-/// The plain machine: holds every accepted symbol and looks at the last 2n + 1.
+/// The plain machine with the setting k: holds every accepted symbol and looks
+/// at the last kn + 1.
 struct PlainMachine {
     format: Format,
+    setting: usize,
     list: Vec<u8>,
 }
 
 impl PlainMachine {
+    fn new(format: Format, setting: u8) -> PlainMachine {
+        PlainMachine {
+            format,
+            setting: setting.into(),
+            list: Vec::new(),
+        }
+    }
+
     fn feed(&mut self, symbol: u8) -> Answer {
         if symbol > 3 {
             return Answer::Refused(Refusal::Symbol);
         }
         self.list.push(symbol);
         let n = table(self.format).0;
-        let Some(begin) = self.list.len().checked_sub(2 * n + 1) else {
+        let Some(begin) = self.list.len().checked_sub(self.setting * n + 1) else {
             return Answer::Quiet;
         };
-        let window = &self.list[begin..];
-        let first = read(self.format, &window[1..n + 1]);
-        let second = read(self.format, &window[n + 1..]);
-        match (window[0], first, second) {
-            (2, Ok((first, _)), Ok((second, control)))
-                if next_after(self.format, first, second) =>
-            {
-                Answer::Report(second, control)
-            }
-            _ => Answer::Quiet,
+        let frames = self.list[begin + 1..].chunks(n);
+        let accepted: Vec<(Time, u64)> = frames
+            .filter_map(|frame| read(self.format, frame).ok())
+            .collect();
+        let (time, control) = match accepted.last() {
+            Some(&last) if accepted.len() == self.setting => last,
+            _ => return Answer::Quiet,
+        };
+        let in_a_row = accepted
+            .windows(2)
+            .all(|pair| next_after(self.format, pair[0].0, pair[1].0));
+        if self.list[begin] == MARK && in_a_row {
+            Answer::Report(time, control)
+        } else {
+            Answer::Quiet
         }
     }
 }
@@ -264,7 +285,12 @@ fn order_of_refusals() {
     assert_eq!(scan(d0, &[2; 4], 5), Err(Refusal::Format));
     assert_eq!(scan(b0, &[2; 4], 5), Err(Refusal::Start));
     assert_eq!(scan(b0, &[2; 4], 4), Ok(None));
-    assert_eq!(Reader::fresh(d0), Err(Refusal::Format));
+    for setting in 0..=255 {
+        assert_eq!(Reader::fresh(d0, setting), Err(Refusal::Format));
+        let expected = (!SETTINGS.contains(&setting)).then_some(Refusal::Setting);
+        assert_eq!(Reader::fresh(b0, setting).err(), expected);
+    }
+    assert_eq!(Refusal::Setting.number(), 26);
 
     assert_eq!(read(d0, &[7; 99]), Err(Refusal::Format));
     assert_eq!(read(b0, &[7; 99]), Err(Refusal::Length));
@@ -606,7 +632,7 @@ fn pulses() {
     assert_eq!(lent, [0, 1, 2]);
     assert_eq!(classify_list(100, &[], &[], &mut []), Ok(()));
 
-    let mut reader = Reader::fresh(format("H1")).unwrap();
+    let mut reader = Reader::fresh(format("H1"), 2).unwrap();
     let before = reader.clone();
     let refused = classify_and_feed(&mut reader, 99, 80, 100);
     assert_eq!(refused, Answer::Refused(Refusal::Interval));
@@ -637,16 +663,16 @@ fn written_and_read() {
     }
 }
 
-/// A reader joining at any element first reports 3n - j elements later.
+/// A reader joining at any element first reports (k + 1)n - j elements later.
 #[test]
 fn first_report() {
     let mut random = Random(2);
-    for name in FORMATS {
+    for (name, setting) in formats_and_settings() {
         let format = format(name);
-        let n = table(format).0;
-        let (elements, times) = random.generator(format, 4);
+        let (n, frames) = (table(format).0, usize::from(setting) + 1);
+        let (elements, times) = random.generator(format, frames + 1);
         for join in 0..n {
-            let mut reader = Reader::fresh(format).unwrap();
+            let mut reader = Reader::fresh(format, setting).unwrap();
             let first =
                 elements[join..]
                     .iter()
@@ -658,31 +684,101 @@ fn first_report() {
             // Joined at the reference bit itself, the mark before is missing.
             assert_eq!(
                 first,
-                Some((3 * n - join, times[2])),
-                "{name} joined at {join}"
+                Some((frames * n - join, times[frames - 1])),
+                "{name}, setting {setting}, joined at {join}"
             );
         }
     }
+}
+
+fn formats_and_settings() -> impl Iterator<Item = (&'static str, u8)> {
+    FORMATS
+        .into_iter()
+        .flat_map(|name| SETTINGS.map(|setting| (name, setting)))
+}
+
+/// Every report of the elements, by its last element counted from 1.
+fn reports(format: Format, setting: u8, elements: &[u8]) -> Vec<(usize, Time, u64)> {
+    let mut reader = Reader::fresh(format, setting).unwrap();
+    let numbered = (1..).zip(elements);
+    numbered
+        .filter_map(|(number, &symbol)| match reader.feed(symbol) {
+            Answer::Report(time, control) => Some((number, time, control)),
+            _ => None,
+        })
+        .collect()
+}
+
+/// How many reports, each with the time of the frame that ends there.
+fn right_reports(format: Format, setting: u8, elements: &[u8], times: &[Time]) -> usize {
+    let n = table(format).0;
+    let reports = reports(format, setting, elements);
+    for &(number, time, _) in &reports {
+        assert_eq!(number % n, 0);
+        assert_eq!(time, times[number / n - 1]);
+    }
+    reports.len()
 }
 
 /// One replaced symbol never makes a wrong time.
 #[test]
 fn one_replaced() {
     let mut random = Random(3);
-    for name in FORMATS {
+    for (name, setting) in formats_and_settings() {
         let format = format(name);
-        let n = table(format).0;
-        let (elements, times) = random.generator(format, 4);
+        let (elements, times) = random.generator(format, usize::from(setting) + 2);
         for index in 0..elements.len() {
             let mut spoiled = elements.clone();
             spoiled[index] = (spoiled[index] + 1 + random.below(3) as u8) % 4;
-            let mut reader = Reader::fresh(format).unwrap();
-            for (count, &symbol) in spoiled.iter().enumerate() {
-                if let Answer::Report(time, _) = reader.feed(symbol) {
-                    assert_eq!((count + 1) % n, 0);
-                    assert_eq!(time, times[count / n]);
+            right_reports(format, setting, &spoiled, &times);
+        }
+    }
+}
+
+/// Nor do k - 1 of them with the setting k; and a higher setting reports a part
+/// of what a lower one does, whatever is replaced.
+#[test]
+fn several_replaced() {
+    let mut random = Random(7);
+    for (name, setting) in formats_and_settings() {
+        let format = format(name);
+        for _ in 0..500 {
+            let (mut elements, times) = random.generator(format, 12);
+            for _ in 1..setting {
+                let index = random.below(elements.len() as u64) as usize;
+                // The bits of the day and the time alone, for half of them.
+                let top = 2 + 2 * random.below(2);
+                if top == 4 || elements[index] != MARK {
+                    elements[index] = random.below(top) as u8;
                 }
             }
+            right_reports(format, setting, &elements, &times);
+            let mut before = reports(format, 2, &elements);
+            for higher in [3, 4, 5] {
+                let part = reports(format, higher, &elements);
+                assert!(part.iter().all(|report| before.contains(report)));
+                before = part;
+            }
+        }
+    }
+}
+
+/// k of them may: day 1 made day 3 by one bit in each of k frames.
+#[test]
+fn as_many_replaced_as_the_setting() {
+    for setting in SETTINGS {
+        let (b1, n) = (format("B1"), 100);
+        let mut elements = vec![MARK];
+        for second in 0..5 {
+            elements.extend(frame(b1, time(1, 100 * second), 0));
+        }
+        let last = usize::from(setting) - 1;
+        for damaged in 0..=last {
+            // The day's units begin at 30, the lowest weight first.
+            elements[1 + n * damaged + 31] = 1;
+            let after = reports(b1, setting, &elements[..=n * setting as usize]);
+            let expected = (damaged == last).then_some(time(3, 100 * last as u32));
+            assert_eq!(after.first().map(|report| report.1), expected);
         }
     }
 }
@@ -692,7 +788,7 @@ fn one_replaced() {
 fn one_replaced_in_a_leap_second() {
     for name in FORMATS.into_iter().filter(|name| leaps(format(name))) {
         let format = format(name);
-        let (n, s, _) = table(format);
+        let s = table(format).1;
         for (kind, end) in [(SECOND_ADDED, 8_640_100), (SECOND_TAKEN, 8_639_900)] {
             for (day, length) in [(181, 365), (365, 365), (365, 366), (366, 366)] {
                 let mut now = time(day, end - 2 * s);
@@ -707,15 +803,7 @@ fn one_replaced_in_a_leap_second() {
                     for symbol in 0..4 {
                         let mut spoiled = elements.clone();
                         spoiled[index] = symbol;
-                        let mut reader = Reader::fresh(format).unwrap();
-                        let mut reports = 0;
-                        for (count, &symbol) in spoiled.iter().enumerate() {
-                            if let Answer::Report(time, _) = reader.feed(symbol) {
-                                assert_eq!((count + 1) % n, 0);
-                                assert_eq!(time, times[count / n]);
-                                reports += 1;
-                            }
-                        }
+                        let reports = right_reports(format, 2, &spoiled, &times);
                         let whole = symbol == elements[index];
                         assert!(!whole || reports == 2, "{name} {kind} {day}");
                     }
@@ -736,7 +824,7 @@ fn plain_machine() {
         for _ in 0..40 {
             let mut elements = Vec::new();
             for _ in 0..3 {
-                let frames = 3 + random.below(4) as usize;
+                let frames = 3 + random.below(8) as usize;
                 let (mut part, _) = random.generator(format, frames);
                 for _ in 0..random.below(4) {
                     let index = random.below(part.len() as u64) as usize;
@@ -749,11 +837,9 @@ fn plain_machine() {
                 }
                 elements.extend(part);
             }
-            let mut reader = Reader::fresh(format).unwrap();
-            let mut plain = PlainMachine {
-                format,
-                list: Vec::new(),
-            };
+            let setting = random.setting();
+            let mut reader = Reader::fresh(format, setting).unwrap();
+            let mut plain = PlainMachine::new(format, setting);
             for symbol in elements {
                 let before = reader.clone();
                 let answer = reader.feed(symbol);
@@ -787,10 +873,8 @@ fn blocks() {
                 elements[index] = 4 + random.below(252) as u8;
             }
             let room = random.below(10) as usize;
-            let mut plain = PlainMachine {
-                format,
-                list: Vec::new(),
-            };
+            let setting = random.setting();
+            let mut plain = PlainMachine::new(format, setting);
             let mut expected = vec![empty; room];
             let mut block = Block {
                 taken: elements.len(),
@@ -812,11 +896,11 @@ fn blocks() {
                 block.stop = stop;
                 break;
             }
-            let mut reader = Reader::fresh(format).unwrap();
+            let mut reader = Reader::fresh(format, setting).unwrap();
             let mut records = vec![empty; room];
             assert_eq!(reader.feed_block(&elements, &mut records), Ok(block));
             assert_eq!(records, expected);
-            let mut singly = Reader::fresh(format).unwrap();
+            let mut singly = Reader::fresh(format, setting).unwrap();
             for &symbol in &elements[..block.taken] {
                 singly.feed(symbol);
             }
