@@ -1,5 +1,5 @@
-// Long streams, most of them damaged: for each case and format how many symbols a reader accepts, reports and refuses, and a checksum
-// over its reports. The expected lines are from an independent plain version of the rules in another language.
+// Long streams, most of them damaged: for each case, format and setting how many symbols a reader accepts, reports and refuses, and a
+// checksum over its reports. The expected lines are from an independent plain version of the rules in another language.
 ghost use Prim.Native.Nat.{_≤_};
 use clock::step;
 use frame::write;
@@ -45,12 +45,15 @@ enum Case {
     Random,
     Valid,
     Damaged,
+    Replaced,
     Lost,
     Added,
     Interrupted,
     Leap,
     Common,
+    Repeated,
     Place,
+    Settings,
 }
 
 // The reader, and what it has answered so far.
@@ -81,8 +84,8 @@ fn with_report(sum: u64, elements: u64, time: Time, control: u64) -> u64 {
 // One Feed.
 fn receive(tally: Tally, symbol: u8) -> Tally {
     let before = tally.reader;
-    let answer = answer_to(before, symbol);
     let reader = next_reader(before, symbol);
+    let answer = answer_to(before, symbol, reader);
     let elements = one_more(tally.elements);
     match answer {
         Answer::Quiet => Tally {
@@ -119,30 +122,36 @@ fn tally_from(reader: Reader) -> Tally {
     }
 }
 
-// A reader that no call made: of any format, at any place.
-fn reader_at(format: Format, place: usize) -> Reader {
+// A reader that no call made: of any format and setting, at any place.
+fn reader_at(format: Format, setting: u8, place: usize) -> Reader {
     let received = Register {
+        count: 0,
+        newest: 0,
         word0: 0,
         word1: 0,
         word2: 0,
-        word3: 0,
-        word4: 0,
-        word5: 0,
-        word6: 0,
+        row: 0,
+    };
+    let time = Time {
+        day: 0,
+        hundredths: 0,
     };
     Reader {
         format: format,
+        setting: setting,
         place: place,
         received: received,
+        time: time,
+        control: 0,
     }
 }
 
-// An unknown format has no fresh reader: its tally is of one that no call made.
-fn fresh(format: Format) -> Tally {
-    let made = Reader::fresh(format);
+// Where there is no fresh reader, the tally is of one that no call made.
+fn fresh(format: Format, setting: u8) -> Tally {
+    let made = Reader::fresh(format, setting);
     match made {
         Made::Fresh(reader) => tally_from(reader),
-        Made::Refused(_) => tally_from(reader_at(format, 0)),
+        Made::Refused(_) => tally_from(reader_at(format, setting, 0)),
     }
 }
 
@@ -191,9 +200,9 @@ fn symbol_of(case: Case, i: u64, n: u64) -> u8
     }
 }
 
-fn receive_symbols(case: Case, format: Format, count: u64) -> Tally {
+fn receive_symbols(case: Case, format: Format, setting: u8, count: u64) -> Tally {
     let n = frame_size(format) as u64;
-    let mut tally = fresh(format);
+    let mut tally = fresh(format, setting);
     let mut i = 0;
     while i < count {
         tally = receive(tally, symbol_of(case, i, n));
@@ -207,8 +216,8 @@ fn next_random(x: u64) -> u64 {
 }
 
 // Two of six bytes are no symbols.
-fn receive_random(format: Format) -> Tally {
-    let mut tally = fresh(format);
+fn receive_random(format: Format, setting: u8) -> Tally {
+    let mut tally = fresh(format, setting);
     let mut x = 1;
     let mut i = 0;
     while i < SYMBOLS {
@@ -230,12 +239,45 @@ fn receive_bytes(tally: Tally) -> Tally {
     tally
 }
 
+// The reader changed for another, with the counts kept.
+fn with_reader(tally: Tally, reader: Reader) -> Tally {
+    Tally {
+        reader: reader,
+        elements: tally.elements,
+        reports: tally.reports,
+        refused: tally.refused,
+        sum: tally.sum,
+    }
+}
+
+// A mark for a reader of every setting that a byte can be.
+fn receive_settings(format: Format) -> Tally {
+    let mut tally = fresh(format, 0);
+    let mut i = 0u64;
+    while i < 256 {
+        tally = receive(with_reader(tally, reader_at(format, i as u8, 0)), MARK);
+        i += 1;
+    }
+    tally
+}
+
+// Another symbol than the element.
+fn replaced(element: u8) -> u8 {
+    (element % 4 + 1) % 4
+}
+
 // Element k of a generator's stream, as the case has it arrive.
 fn arrive(case: Case, tally: Tally, k: u64, element: u8) -> Tally {
     match case {
         Case::Damaged => {
             if k % 997 == 996 {
                 return receive(tally, SPOILED);
+            }
+            receive(tally, element)
+        }
+        Case::Replaced => {
+            if k % 331 == 330 {
+                return receive(tally, replaced(element));
             }
             receive(tally, element)
         }
@@ -315,7 +357,8 @@ fn first_time(format: Format) -> Time {
     }
 }
 
-// The year's length of step j: day 365 ends with step 10, so Leap goes on to day 366 and Common to day 1.
+// The year's length of step j: day 365 ends with step 10, so Leap and Repeated go on to day 366 and Common to day 1. On day 366 a
+// year of 365 is refused: Leap sends every second frame again, and Repeated every fifth.
 fn year_of(case: Case, j: u64) -> u16 {
     match case {
         Case::Leap => {
@@ -326,6 +369,12 @@ fn year_of(case: Case, j: u64) -> u16 {
         }
         Case::Common => {
             if j % 2 == 0 {
+                return 365;
+            }
+            366
+        }
+        Case::Repeated => {
+            if j % 5 == 4 {
                 return 365;
             }
             366
@@ -343,9 +392,9 @@ fn time_after(format: Format, time: Time, year: u16) -> Time {
     }
 }
 
-fn receive_frames(case: Case, format: Format) -> Tally {
+fn receive_frames(case: Case, format: Format, setting: u8) -> Tally {
     let n = frame_size(format);
-    let mut tally = fresh(format);
+    let mut tally = fresh(format, setting);
     let mut time = first_time(format);
     let mut k = 0;
     let mut j = 0;
@@ -360,7 +409,7 @@ fn receive_frames(case: Case, format: Format) -> Tally {
     tally
 }
 
-fn received_in(case: Case, format: Format) -> Tally {
+fn received_in(case: Case, format: Format, setting: u8) -> Tally {
     match case {
         Case::Marks
         | Case::Spoiled
@@ -368,10 +417,14 @@ fn received_in(case: Case, format: Format) -> Tally {
         | Case::Pairs
         | Case::Fours
         | Case::Refused
-        | Case::Shaped => receive_symbols(case, format, SYMBOLS),
-        Case::Random => receive_random(format),
-        Case::Place => receive_bytes(tally_from(reader_at(format, frame_size(format)))),
-        _ => receive_frames(case, format),
+        | Case::Shaped => receive_symbols(case, format, setting, SYMBOLS),
+        Case::Random => receive_random(format, setting),
+        Case::Place => {
+            let past = frame_size(format);
+            receive_bytes(tally_from(reader_at(format, setting, past)))
+        }
+        Case::Settings => receive_settings(format),
+        _ => receive_frames(case, format, setting),
     }
 }
 
@@ -380,11 +433,19 @@ fn print_count(name: &[u8], count: u64) {
     io::print_decimal(libc::STDOUT_FILENO, count);
 }
 
-fn print_line(name: &[u8], format: Format, tally: Tally) {
+// Setting 2, timeread's own, is not named.
+fn print_setting(setting: u8) {
+    if setting != 2 {
+        print_count(b" setting ", setting as u64);
+    }
+}
+
+fn print_line(name: &[u8], format: Format, setting: u8, tally: Tally) {
     let letter = [b' ', format.letter];
     io::write_all(libc::STDOUT_FILENO, name);
     io::write_all(libc::STDOUT_FILENO, &letter);
     print_count(b" ", format.expression as u64);
+    print_setting(setting);
     print_count(b" elements ", tally.elements);
     print_count(b" reports ", tally.reports);
     print_count(b" refused ", tally.refused);
@@ -401,11 +462,11 @@ fn format_at(i: usize) -> Format {
     }
 }
 
-fn print_lines(name: &[u8], case: Case) {
+fn print_lines(name: &[u8], case: Case, setting: u8) {
     let mut i = 0;
     while i < FORMATS {
         let format = format_at(i);
-        print_line(name, format, received_in(case, format));
+        print_line(name, format, setting, received_in(case, format, setting));
         i += 1;
     }
 }
@@ -415,30 +476,60 @@ fn print_more() {
         letter: b'B',
         expression: 0,
     };
-    print_line(b"million", b0, receive_symbols(Case::Marks, b0, 1_000_000));
+    print_line(
+        b"million",
+        b0,
+        2,
+        receive_symbols(Case::Marks, b0, 2, 1_000_000),
+    );
     let c0 = Format {
         letter: b'C',
         expression: 0,
     };
-    print_line(b"unknown", c0, receive_bytes(fresh(c0)));
+    print_line(b"unknown", c0, 2, receive_bytes(fresh(c0, 2)));
+}
+
+fn print_made_up(setting: u8) {
+    print_lines(b"marks", Case::Marks, setting);
+    print_lines(b"spoiled", Case::Spoiled, setting);
+    print_lines(b"alternating", Case::Alternating, setting);
+    print_lines(b"pairs", Case::Pairs, setting);
+    print_lines(b"fours", Case::Fours, setting);
+    print_lines(b"refused", Case::Refused, setting);
+    print_lines(b"shaped", Case::Shaped, setting);
+    print_lines(b"random", Case::Random, setting);
+}
+
+fn print_generated(setting: u8) {
+    print_lines(b"valid", Case::Valid, setting);
+    print_lines(b"damaged", Case::Damaged, setting);
+    print_lines(b"lost", Case::Lost, setting);
+    print_lines(b"added", Case::Added, setting);
+    print_lines(b"interrupted", Case::Interrupted, setting);
+    print_lines(b"leap", Case::Leap, setting);
+    print_lines(b"common", Case::Common, setting);
+}
+
+fn print_rows(setting: u8) {
+    print_lines(b"replaced", Case::Replaced, setting);
+    print_lines(b"repeated", Case::Repeated, setting);
+}
+
+// With a setting above 2 the streams that no generator made bring no reports either: the random ones stand for them.
+fn print_higher(setting: u8) {
+    print_lines(b"random", Case::Random, setting);
+    print_generated(setting);
+    print_rows(setting);
 }
 
 fn main() {
-    print_lines(b"marks", Case::Marks);
-    print_lines(b"spoiled", Case::Spoiled);
-    print_lines(b"alternating", Case::Alternating);
-    print_lines(b"pairs", Case::Pairs);
-    print_lines(b"fours", Case::Fours);
-    print_lines(b"refused", Case::Refused);
-    print_lines(b"shaped", Case::Shaped);
-    print_lines(b"random", Case::Random);
-    print_lines(b"valid", Case::Valid);
-    print_lines(b"damaged", Case::Damaged);
-    print_lines(b"lost", Case::Lost);
-    print_lines(b"added", Case::Added);
-    print_lines(b"interrupted", Case::Interrupted);
-    print_lines(b"leap", Case::Leap);
-    print_lines(b"common", Case::Common);
-    print_lines(b"place", Case::Place);
+    print_made_up(2);
+    print_generated(2);
+    print_lines(b"place", Case::Place, 2);
     print_more();
+    print_rows(2);
+    print_higher(3);
+    print_higher(4);
+    print_higher(5);
+    print_lines(b"settings", Case::Settings, 2);
 }

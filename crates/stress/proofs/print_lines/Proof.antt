@@ -5,10 +5,10 @@ use Rattle.stress.proofs.print_lines.Statement.{statement}
 use Rattle.stress.proofs.print_lines.Tie as tie
 
 abbrev Inv-loop : tie.InvT-loop
-Inv-loop name case i₀ i = Unit {0}
+Inv-loop name case setting i₀ i = Unit {0}
 
 abbrev μ-loop : tie.MeasureT-loop
-μ-loop name case i₀ i = 16 - i
+μ-loop name case setting i₀ i = 16 - i
 
 loop-holds : tie.Need-loop-holds Inv-loop μ-loop
 loop-holds c = search needs

@@ -5,10 +5,10 @@ use Rattle.stress.proofs.receive_frames.Statement.{statement}
 use Rattle.stress.proofs.receive_frames.Tie as tie
 
 abbrev Inv-loop : tie.InvT-loop
-Inv-loop case format n tally₀ time₀ k₀ j₀ tally time k j = Unit {0}
+Inv-loop case format setting n tally₀ time₀ k₀ j₀ tally time k j = Unit {0}
 
 abbrev μ-loop : tie.MeasureT-loop
-μ-loop case format n tally₀ time₀ k₀ j₀ tally time k j = 300 - j
+μ-loop case format setting n tally₀ time₀ k₀ j₀ tally time k j = 300 - j
 
 frame-size-requires : tie.Need-frame-size-requires Inv-loop μ-loop
 frame-size-requires c κs = search needs

@@ -5,10 +5,10 @@ use Rattle.stress.proofs.receive_random.Statement.{statement}
 use Rattle.stress.proofs.receive_random.Tie as tie
 
 abbrev Inv-loop : tie.InvT-loop
-Inv-loop tally₀ x₀ i₀ tally x i = Unit {0}
+Inv-loop setting tally₀ x₀ i₀ tally x i = Unit {0}
 
 abbrev μ-loop : tie.MeasureT-loop
-μ-loop tally₀ x₀ i₀ tally x i = 200000 - i
+μ-loop setting tally₀ x₀ i₀ tally x i = 200000 - i
 
 fresh-requires : tie.Need-fresh-requires Inv-loop μ-loop
 fresh-requires c κs = search needs
