@@ -47,6 +47,45 @@ fn refused(refusal: Refusal) -> String {
     }
 }
 
+/// The reports of a fresh reader that is fed these symbols, each by the number of its last element. No format carries a
+/// year: it is 0.
+fn reports(mut reader: Reader, symbols: &[u8]) -> String {
+    let accepted = symbols
+        .iter()
+        .map(|&symbol| reader.feed(symbol))
+        .filter(|answer| !matches!(answer, Answer::Refused(_)));
+    let reports: Vec<String> = (1..)
+        .zip(accepted)
+        .filter_map(|(element, answer)| match answer {
+            Answer::Report(t, control) => Some(format!(
+                "{element} 0 {} {} {control:x}",
+                t.day, t.hundredths
+            )),
+            _ => None,
+        })
+        .collect();
+    if reports.is_empty() {
+        return "none".into();
+    }
+    reports.join("; ")
+}
+
+/// One Feed of a reader that no call made. This crate has none such, so 13 is told here by the rule.
+fn fed(format: Format, setting: u8, place: u64, symbol: u8) -> Result<String, Refusal> {
+    let n = if b"DH".contains(&format.letter) {
+        60
+    } else {
+        100
+    };
+    if read(format, &[]) == Err(Refusal::Format) || place >= n {
+        return Err(Refusal::Reader);
+    }
+    match Reader::fresh(format, setting)?.feed(symbol) {
+        Answer::Refused(refusal) => Err(refusal),
+        _ => Ok("quiet".into()),
+    }
+}
+
 fn answer(line: &str) -> String {
     let words: Vec<&str> = line.split(' ').collect();
     let format = || Format {
@@ -77,6 +116,14 @@ fn answer(line: &str) -> String {
                 format!("{place} {} {} {control:x}", t.day, t.hundredths)
             })
         }),
+        "feeds" => Reader::fresh(format(), words[3].parse().unwrap())
+            .map(|reader| reports(reader, &elements(words[4]))),
+        "feed" => fed(
+            format(),
+            words[3].parse().unwrap(),
+            words[4].parse().unwrap(),
+            words[5].parse().unwrap(),
+        ),
         "difference" => difference(time(1), time(3)).map(|d| d.to_string()),
         _ => Ok("unknown call".into()),
     };

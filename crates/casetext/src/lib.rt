@@ -1,4 +1,5 @@
 // A call of the engine as a line of text, `step B 0 365 8639900 365 0`, and its answer as text, `1 0`.
+// A line `feeds` is a whole stream: format, setting and symbols, and its answer is every report.
 // A refusal is R and its number, with 5 and 6 also @ and the index of the element.
 ghost use Prim.Native.Nat.{_≤_};
 use arguments::Number;
@@ -12,8 +13,14 @@ use frame::write;
 use frametext::character_of;
 use pulse::classify;
 use refusals::number_of;
+use register::Register;
 use scan::scan;
 use std::num::wrapping_add_u64;
+use stream::Made;
+use stream::Reader;
+use stream::answer_to;
+use stream::next_reader;
+use timecode::Answer;
 use timecode::Classified;
 use timecode::Format;
 use timecode::Reading;
@@ -83,10 +90,10 @@ fn put_symbol(text: &mut [u8; 4096], at: usize, symbol: u8) -> usize {
     put_hexadecimal(text, at, symbol as u64, 2)
 }
 
-fn put_frame(text: &mut [u8; 4096], frame: &[u8; 512], size: usize) -> usize {
+fn put_frame(text: &mut [u8; 4096], frame: &[u8; 1024], size: usize) -> usize {
     let mut at = 0;
     let mut i = 0;
-    while i < 512 {
+    while i < 1024 {
         if i < size {
             at = put_symbol(text, at, frame[i]);
         }
@@ -99,6 +106,12 @@ fn put_time(text: &mut [u8; 4096], at: usize, time: Time) -> usize {
     let at = put_decimal(text, at, time.day as u64);
     let at = put(text, at, b' ');
     put_decimal(text, at, time.hundredths as u64)
+}
+
+fn put_reading(text: &mut [u8; 4096], at: usize, time: Time, control: u64) -> usize {
+    let at = put_time(text, at, time);
+    let at = put(text, at, b' ');
+    put_hexadecimal(text, at, control, 1)
 }
 
 fn put_index(text: &mut [u8; 4096], at: usize, index: usize) -> usize {
@@ -223,8 +236,8 @@ fn symbol(character: u8) -> u8 {
     }
 }
 
-fn put_element(frame: &mut [u8; 512], at: usize, element: u8) -> usize {
-    if at < 512 {
+fn put_element(frame: &mut [u8; 1024], at: usize, element: u8) -> usize {
+    if at < 1024 {
         frame[at] = element;
         return at + 1;
     }
@@ -232,7 +245,7 @@ fn put_element(frame: &mut [u8; 512], at: usize, element: u8) -> usize {
 }
 
 // A word's elements, as many as there is room for; the answer is their number.
-fn elements_in(line: &[u8], word: usize, frame: &mut [u8; 512]) -> usize {
+fn elements_in(line: &[u8], word: usize, frame: &mut [u8; 1024]) -> usize {
     let mut n = 0;
     let mut i = start_of(line, word);
     while i < line.len() {
@@ -305,16 +318,16 @@ fn write_first(
     format: Format,
     time: Time,
     control: u64,
-    lent: &mut [u8; 512],
+    lent: &mut [u8; 1024],
     size: usize,
 ) -> Written {
     write_part(format, time, control, lent, size)
 }
 
 // A byte of the lent memory is not what it was.
-fn is_changed(lent: &[u8; 512]) -> bool {
+fn is_changed(lent: &[u8; 1024]) -> bool {
     let mut i = 0;
-    while i < 512 {
+    while i < 1024 {
         if lent[i] != LENT {
             return true;
         }
@@ -326,7 +339,7 @@ fn is_changed(lent: &[u8; 512]) -> bool {
 fn put_write(line: &[u8], text: &mut [u8; 4096]) -> usize {
     let control = number(line, 5, 16);
     let size = decimal(line, 6) as usize;
-    let mut lent = [LENT; 512];
+    let mut lent = [LENT; 1024];
     let written = write_first(format_in(line), time_in(line, 3), control, &mut lent, size);
     match written {
         Written::Done => put_frame(text, &lent, size),
@@ -347,20 +360,16 @@ fn read_part(format: Format, frame: &[u8], size: usize) -> Reading {
     read(format, frame)
 }
 
-fn read_first(format: Format, frame: &[u8; 512], size: usize) -> Reading {
+fn read_first(format: Format, frame: &[u8; 1024], size: usize) -> Reading {
     read_part(format, frame, size)
 }
 
 fn put_read(line: &[u8], text: &mut [u8; 4096]) -> usize {
-    let mut frame = [0u8; 512];
+    let mut frame = [0u8; 1024];
     let size = elements_in(line, 3, &mut frame);
     let reading = read_first(format_in(line), &frame, size);
     match reading {
-        Reading::Accepted { time, control } => {
-            let at = put_time(text, 0, time);
-            let at = put(text, at, b' ');
-            put_hexadecimal(text, at, control, 1)
-        }
+        Reading::Accepted { time, control } => put_reading(text, 0, time, control),
         Reading::Refused(refusal) => put_refusal(text, 0, refusal),
     }
 }
@@ -391,12 +400,12 @@ fn scan_part(format: Format, recording: &[u8], size: usize, start: usize) -> Sca
     scan(format, recording, start)
 }
 
-fn scan_first(format: Format, recording: &[u8; 512], size: usize, start: usize) -> Scanned {
+fn scan_first(format: Format, recording: &[u8; 1024], size: usize, start: usize) -> Scanned {
     scan_part(format, recording, size, start)
 }
 
 fn put_scan(line: &[u8], text: &mut [u8; 4096]) -> usize {
-    let mut recording = [0u8; 512];
+    let mut recording = [0u8; 1024];
     let size = elements_in(line, 3, &mut recording);
     let start = decimal(line, 4) as usize;
     let scanned = scan_first(format_in(line), &recording, size, start);
@@ -408,12 +417,127 @@ fn put_scan(line: &[u8], text: &mut [u8; 4096]) -> usize {
         } => {
             let at = put_decimal(text, 0, place as u64);
             let at = put(text, at, b' ');
-            let at = put_time(text, at, time);
-            let at = put(text, at, b' ');
-            put_hexadecimal(text, at, control, 1)
+            put_reading(text, at, time, control)
         }
         Scanned::None => put_bytes(text, 0, b"none"),
         Scanned::Refused(refusal) => put_refusal(text, 0, refusal),
+    }
+}
+
+// Word 3 of a line with a reader: its setting.
+fn setting_in(line: &[u8]) -> u8 {
+    (decimal(line, 3) % 256) as u8
+}
+
+// A reader, how many symbols it has accepted, and where the text of its reports ends.
+struct Progress {
+    reader: Reader,
+    elements: u64,
+    at: usize,
+}
+
+// The number of the report's last element, the year, the time and the control word; reports stand apart by `;`. No format here
+// carries a year: it is 0.
+fn put_report(text: &mut [u8; 4096], at: usize, element: u64, time: Time, control: u64) -> usize {
+    let mut at = at;
+    if 0 < at {
+        at = put_bytes(text, at, b"; ");
+    }
+    let at = put_decimal(text, at, element);
+    let at = put_bytes(text, at, b" 0 ");
+    put_reading(text, at, time, control)
+}
+
+// One Feed. A refused symbol is not counted.
+fn feed_symbol(text: &mut [u8; 4096], before: Progress, symbol: u8) -> Progress {
+    let reader = next_reader(before.reader, symbol);
+    let answer = answer_to(before.reader, symbol, reader);
+    let element = wrapping_add_u64(before.elements, 1);
+    match answer {
+        Answer::Quiet => Progress {
+            reader: reader,
+            elements: element,
+            at: before.at,
+        },
+        Answer::Report { time, control } => {
+            let at = put_report(text, before.at, element, time, control);
+            Progress {
+                reader: reader,
+                elements: element,
+                at: at,
+            }
+        }
+        Answer::Refused(_) => before,
+    }
+}
+
+fn put_reports(text: &mut [u8; 4096], reader: Reader, symbols: &[u8; 1024], size: usize) -> usize {
+    let mut progress = Progress {
+        reader: reader,
+        elements: 0,
+        at: 0,
+    };
+    let mut i = 0;
+    while i < 1024 {
+        if i < size {
+            progress = feed_symbol(text, progress, symbols[i]);
+        }
+        i += 1;
+    }
+    progress.at
+}
+
+// Words 3 and 4 behind the format: the setting of a fresh reader, and the symbols that it is fed one after the other.
+fn put_feeds(line: &[u8], text: &mut [u8; 4096]) -> usize {
+    let mut symbols = [0u8; 1024];
+    let size = elements_in(line, 4, &mut symbols);
+    let made = Reader::fresh(format_in(line), setting_in(line));
+    match made {
+        Made::Fresh(reader) => {
+            let at = put_reports(text, reader, &symbols, size);
+            if at == 0 {
+                return put_bytes(text, 0, b"none");
+            }
+            at
+        }
+        Made::Refused(refusal) => put_refusal(text, 0, refusal),
+    }
+}
+
+// A reader that no call made: words 1 to 4 are its format, setting and place.
+fn reader_in(line: &[u8]) -> Reader {
+    let received = Register {
+        count: 0,
+        newest: 0,
+        word0: 0,
+        word1: 0,
+        word2: 0,
+        row: 0,
+    };
+    let time = Time {
+        day: 0,
+        hundredths: 0,
+    };
+    Reader {
+        format: format_in(line),
+        setting: setting_in(line),
+        place: decimal(line, 4) as usize,
+        received: received,
+        time: time,
+        control: 0,
+    }
+}
+
+// Word 5: the symbol that this reader is fed.
+fn put_feed(line: &[u8], text: &mut [u8; 4096]) -> usize {
+    let reader = reader_in(line);
+    let symbol = (decimal(line, 5) % 256) as u8;
+    let next = next_reader(reader, symbol);
+    let answer = answer_to(reader, symbol, next);
+    match answer {
+        Answer::Quiet => put_bytes(text, 0, b"quiet"),
+        Answer::Report { time, control } => put_reading(text, 0, time, control),
+        Answer::Refused(refusal) => put_refusal(text, 0, refusal),
     }
 }
 
@@ -439,6 +563,12 @@ pub fn put_answer(line: &[u8], text: &mut [u8; 4096]) -> usize {
     }
     if is_named(line, b"scan") {
         return put_scan(line, text);
+    }
+    if is_named(line, b"feeds") {
+        return put_feeds(line, text);
+    }
+    if is_named(line, b"feed") {
+        return put_feed(line, text);
     }
     put_bytes(text, 0, b"unknown call")
 }

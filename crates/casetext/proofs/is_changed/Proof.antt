@@ -5,10 +5,10 @@ use Rattle.casetext.proofs.is_changed.Statement.{statement}
 use Rattle.casetext.proofs.is_changed.Tie as tie
 
 abbrev Inv-loop : tie.InvT-loop
-Inv-loop lent i₀ i = (i ≤ 512)
+Inv-loop lent i₀ i = (i ≤ 1024)
 
 abbrev μ-loop : tie.MeasureT-loop
-μ-loop lent i₀ i = 512 - i
+μ-loop lent i₀ i = 1024 - i
 
 loop-holds : tie.Need-loop-holds Inv-loop μ-loop
 loop-holds c = search needs

@@ -5,10 +5,10 @@ use Rattle.casetext.proofs.put_frame.Statement.{statement}
 use Rattle.casetext.proofs.put_frame.Tie as tie
 
 abbrev Inv-loop : tie.InvT-loop
-Inv-loop text₀ frame size at₀ i₀ text at i = (i ≤ 512)
+Inv-loop text₀ frame size at₀ i₀ text at i = (i ≤ 1024)
 
 abbrev μ-loop : tie.MeasureT-loop
-μ-loop text₀ frame size at₀ i₀ text at i = 512 - i
+μ-loop text₀ frame size at₀ i₀ text at i = 1024 - i
 
 loop-holds : tie.Need-loop-holds Inv-loop μ-loop
 loop-holds c = search needs
