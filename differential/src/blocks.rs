@@ -1,10 +1,10 @@
 //! Streams in blocks of random sizes with random room: the library's block against its own single Feeds and against
 //! `reference`; and blocks of any reader into lists of any lengths.
 
-use crate::calls::{any_words, is_valid};
+use crate::calls::{any_words, refused_reader};
 use crate::random::Random;
-use crate::streams::{format_of, stream, table, FORMATS};
-use crate::{agree, fed, plain_fed, Counts};
+use crate::streams::{format_of, setting, stream, table, FORMATS};
+use crate::{agree, fed, plain_fed, Counts, DAY, HUNDREDTHS, PLACE};
 use reference::{Format, Stop, Time};
 
 /// How many blocks of any reader go with a stream.
@@ -110,7 +110,7 @@ fn by_reference(reader: &mut reference::Reader, symbols: &[u8], room: usize) -> 
     )
 }
 
-/// Blocks of a few symbols, of about a reader's 224, of about the 512 that the library takes together, and longer ones.
+/// Blocks of a few symbols, of about two frames, of about the 512 that the library takes together, and longer ones.
 fn size(random: &mut Random) -> usize {
     match random.below(5) {
         0 => random.index(20),
@@ -129,17 +129,17 @@ struct Readers {
 }
 
 impl Readers {
-    fn fresh(format: Format) -> Result<Readers, String> {
+    fn fresh(format: Format, setting: u8) -> Result<Readers, String> {
         let library_format = duskveyra::Format {
             letter: format.letter,
             expression: format.expression,
         };
-        let block = duskveyra::Reader::fresh(library_format)
+        let block = duskveyra::Reader::fresh(library_format, setting)
             .map_err(|refusal| format!("{format:?}: {refusal}"))?;
         Ok(Readers {
             single: block.clone(),
             block,
-            plain: reference::Reader::fresh(format).expect("a format"),
+            plain: reference::Reader::fresh(format, setting).expect("a format and a setting"),
         })
     }
 
@@ -167,15 +167,20 @@ impl Readers {
     fn agree(&self) -> Result<(), String> {
         let words = self.block.words();
         agree(|| "reader".to_string(), words, self.single.words())?;
-        agree(|| "place".to_string(), words[2], self.plain.place() as u64)
+        agree(
+            || "place".to_string(),
+            words[PLACE],
+            self.plain.place() as u64,
+        )
     }
 }
 
 /// A stream in blocks, then parts of it to readers of any words.
 pub fn run_blocks(random: &mut Random, counts: &mut Counts) -> Result<(), String> {
     let format = format_of(random.pick(&FORMATS));
+    let setting = setting(random);
     let symbols = stream(random, format);
-    let mut readers = Readers::fresh(format)?;
+    let mut readers = Readers::fresh(format, setting)?;
     let mut at = 0;
     while at < symbols.len() {
         let end = (at + size(random)).min(symbols.len());
@@ -185,7 +190,7 @@ pub fn run_blocks(random: &mut Random, counts: &mut Counts) -> Result<(), String
         };
         let part = &symbols[at..end];
         let context = |difference| {
-            format!("{format:?}, block from {at} to {end}, room {room}: {difference}\n  symbols {part:?}")
+            format!("{format:?}, setting {setting}, block from {at} to {end}, room {room}: {difference}\n  symbols {part:?}")
         };
         let (taken, reports, stop) = readers.feed_block(part, room).map_err(context)?;
         counts.calls += 1;
@@ -207,8 +212,8 @@ pub fn run_blocks(random: &mut Random, counts: &mut Counts) -> Result<(), String
     Ok(())
 }
 
-/// A part of the stream to a reader of any words, into lists of any lengths: 13, then 3 where the lengths differ, and
-/// nothing changed; else what single Feeds of that reader give.
+/// A part of the stream to a reader of any words, into lists of any lengths: 13, 26, then 3 where the lengths differ,
+/// and nothing changed; else what single Feeds of that reader give.
 fn any_block(
     random: &mut Random,
     counts: &mut Counts,
@@ -228,8 +233,8 @@ fn any_block(
     let mut reader = duskveyra::Reader::from_words(words);
     let block = by_block(&mut reader, part, lengths);
     let mut expected_reader = duskveyra::Reader::from_words(words);
-    let expected = if !is_valid(&words) {
-        (Err(13), Lists::new(lengths))
+    let expected = if let Some(number) = refused_reader(&words) {
+        (Err(number), Lists::new(lengths))
     } else if lengths != [lengths[0]; 4] {
         (Err(3), Lists::new(lengths))
     } else {
@@ -237,9 +242,15 @@ fn any_block(
     };
     counts.calls += 1;
     counts.refused_blocks += u64::from(expected.0.is_err());
+    let mut expected_words = expected_reader.words();
+    if expected.0.is_ok() {
+        // Also a block that takes nothing puts the day and the hundredths back within their types.
+        expected_words[DAY] %= 1 << 16;
+        expected_words[HUNDREDTHS] %= 1 << 32;
+    }
     agree(
         || format!("block of a reader of any words {words:x?}, lengths {lengths:?}: {part:?}"),
         (block, reader.words()),
-        (expected, expected_reader.words()),
+        (expected, expected_words),
     )
 }

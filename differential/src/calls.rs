@@ -1,8 +1,8 @@
 //! Random single calls with good and bad input; lent memory is compared too, refused or not.
 
 use crate::random::Random;
-use crate::streams::{control, format_of, frame, random_bits, table, time, FORMATS};
-use crate::{agree, plain_refused, refused, Counts};
+use crate::streams::{control, format_of, frame, random_bits, setting, table, time, FORMATS};
+use crate::{agree, plain_refused, refused, Counts, COUNT, DAY, HUNDREDTHS, PLACE, ROW, SETTING};
 use reference::{Format, Time};
 
 /// How many of each call go with a stream.
@@ -22,9 +22,10 @@ pub fn run_calls(random: &mut Random, counts: &mut Counts) -> Result<(), String>
     for _ in 0..TURNS / 6 {
         classify_list(random)?;
         scan(random)?;
+        fresh(random)?;
         any_reader(random)?;
         refused_pulse(random)?;
-        counts.calls += 4;
+        counts.calls += 6;
     }
     Ok(())
 }
@@ -142,7 +143,7 @@ fn write(random: &mut Random) -> Result<(), String> {
 
 /// A frame to read: right, damaged, with random bits or with random symbols.
 fn any_frame(random: &mut Random, format: Format) -> Vec<u8> {
-    let known = reference::Reader::fresh(format).is_ok();
+    let known = reference::Reader::fresh(format, 2).is_ok();
     let mut symbols = match random.below(8) {
         0 | 1 => random_bits(random, format),
         2 => {
@@ -376,7 +377,7 @@ fn scan(random: &mut Random) -> Result<(), String> {
     agree(
         || format!("scan {format:?} start {start} {recording:?}"),
         answer
-            .map(|found| found.map(|found| (found.at, values(found.report))))
+            .map(|found| found.map(|found| (found.start, values(found.report))))
             .map_err(refused),
         expected
             .map(|found| found.map(|(at, when, word)| (at, (when.day, when.hundredths, word))))
@@ -384,62 +385,127 @@ fn scan(random: &mut Random) -> Result<(), String> {
     )
 }
 
-/// Words of a reader: mostly of this format, at any place and with any symbols heard, else near that or any words.
-pub fn any_words(random: &mut Random, (letter, expression): (u8, u8)) -> [u64; 10] {
-    let mut words: [u64; 10] = std::array::from_fn(|_| random.next());
+/// Mostly a setting of 2 to 5, else one near them or any.
+fn any_setting(random: &mut Random) -> u8 {
+    match random.below(6) {
+        0 => random.pick(&[0, 1, 6, 7, 255]),
+        1 => random.next() as u8,
+        _ => setting(random),
+    }
+}
+
+/// A fresh reader of any format and setting: 1, 26, or a reader at place 0.
+fn fresh(random: &mut Random) -> Result<(), String> {
+    let format = any_format(random);
+    let setting = any_setting(random);
+    let library = duskveyra::Reader::fresh(library_format(format), setting);
+    let plain = reference::Reader::fresh(format, setting);
+    agree(
+        || format!("fresh {format:?} setting {setting}"),
+        library
+            .map(|reader| (reader.words()[SETTING], reader.words()[PLACE]))
+            .map_err(refused),
+        plain
+            .map(|reader| (u64::from(setting), reader.place() as u64))
+            .map_err(plain_refused),
+    )
+}
+
+/// A reader's words.
+type Words = [u64; duskveyra::READER_WORDS];
+
+/// Words of a reader: mostly of this format, with any setting, at any place and with anything received, else near that or
+/// any words.
+pub fn any_words(random: &mut Random, (letter, expression): (u8, u8)) -> Words {
+    let mut words: Words = std::array::from_fn(|_| random.next());
     if !random.once_in(8) {
         words[0] = u64::from(letter);
         words[1] = u64::from(expression);
-        words[2] = random.below(110);
+        words[SETTING] = u64::from(any_setting(random));
+        words[PLACE] = random.below(110);
+    }
+    // A frame under way of about the format's length, behind a row of frames.
+    if random.once_in(2) {
+        words[COUNT] = random.below(110);
+        words[ROW] = random.below(8);
+        words[DAY] = random.below(400);
+        words[HUNDREDTHS] = random.below(9_000_000);
     }
     if random.once_in(8) {
-        words[random.index(2)] += 256;
+        words[random.index(4)] += 256;
     }
     words
 }
 
-/// Whether these words pass number 13: the letter, the expression and the place are in range.
-pub fn is_valid(words: &[u64; 10]) -> bool {
+/// The number with which a reader of these words is refused: 13 where the letter, the expression or the place is out of
+/// range, then 26 where the setting is.
+pub fn refused_reader(words: &Words) -> Option<u8> {
     let known = FORMATS.iter().find(|&&(letter, expression)| {
         words[0] == u64::from(letter) && words[1] == u64::from(expression)
     });
-    known.is_some_and(|&known| words[2] < table(format_of(known)).0 as u64)
+    if !known.is_some_and(|&known| words[PLACE] < table(format_of(known)).0 as u64) {
+        return Some(13);
+    }
+    (!(2..=5).contains(&words[SETTING])).then_some(26)
 }
 
-/// A reader of any words: 13 exactly where its letter, expression or place is out of range, then 4 for a symbol above 3,
-/// and after a refusal the same words. `reference` cannot make such a reader; the rule is document 01's.
+/// A reader of any words, fed a symbol and a pulse: 13, 26, then 4 for a symbol above 3, the pulse's 10 before them, and
+/// after a refusal the same words. `reference` cannot make such a reader; the rule is that of documents 01 and 02.
 fn any_reader(random: &mut Random) -> Result<(), String> {
     let format = random.pick(&FORMATS);
     let words = any_words(random, format);
     let top = random.pick(&[4, 256]);
     let symbol = random.below(top) as u8;
-    let expected = match (is_valid(&words), symbol) {
-        (false, _) => Some((13, None)),
-        (true, 4..) => Some((4, None)),
-        _ => None,
-    };
+    let expected = refused_reader(&words).or((symbol > 3).then_some(4));
     let mut reader = duskveyra::Reader::from_words(words);
-    let answer = reader.feed(symbol).err().map(refused);
-    agree(
-        || format!("feed of a reader of any words {words:x?} symbol {symbol}"),
-        answer,
-        expected,
-    )?;
-    let left = expected.is_none() || reader.words() == words;
-    agree(
-        || format!("words left by a refused feed of {words:x?} symbol {symbol}"),
-        left,
-        true,
-    )
+    let answer = reader.feed(symbol).err().map(|refusal| refusal.number());
+    let what = || format!("feed of a reader of any words {words:x?} symbol {symbol}");
+    agree(what, answer, expected)?;
+    left_alone(what, expected, &reader, &words)?;
+
+    let interval = any_interval(random);
+    let (width, period) = any_pulse(random, interval);
+    let classified = reference::classify(interval, width, period);
+    let expected = match classified {
+        Ok(_) => refused_reader(&words),
+        Err(refusal) => Some(refusal.number()),
+    };
+    let mut by_pulse = duskveyra::Reader::from_words(words);
+    let answer = by_pulse.feed_pulse(interval, width, period);
+    let what = || format!("pulse T {interval} width {width} period {period} to {words:x?}");
+    agree(what, answer.err().map(|refusal| refusal.number()), expected)?;
+    left_alone(what, expected, &by_pulse, &words)?;
+    let mut by_symbol = duskveyra::Reader::from_words(words);
+    match classified {
+        Ok(symbol) => agree(
+            what,
+            (answer, by_pulse),
+            (by_symbol.feed(symbol), by_symbol),
+        ),
+        Err(_) => Ok(()),
+    }
+}
+
+/// A refused Feed leaves the reader's words.
+fn left_alone(
+    what: impl Fn() -> String,
+    refused: Option<u8>,
+    reader: &duskveyra::Reader,
+    words: &Words,
+) -> Result<(), String> {
+    let left = refused.is_none() || reader.words() == *words;
+    agree(|| format!("words left: {}", what()), left, true)
 }
 
 /// A pulse with any interval to a fresh reader: refused as the classifier refuses it, and the reader left as it was.
 fn refused_pulse(random: &mut Random) -> Result<(), String> {
     let format = format_of(random.pick(&FORMATS));
+    let setting = setting(random);
     let interval = any_interval(random);
     let (width, period) = any_pulse(random, interval);
-    let mut plain = reference::Reader::fresh(format).map_err(|_| "no fresh reader".to_string())?;
-    let mut library = duskveyra::Reader::fresh(library_format(format))
+    let mut plain =
+        reference::Reader::fresh(format, setting).map_err(|_| "no fresh reader".to_string())?;
+    let mut library = duskveyra::Reader::fresh(library_format(format), setting)
         .map_err(|refusal| format!("{format:?}: {refusal}"))?;
     let mut fed = library.clone();
     let expected = crate::plain_fed(reference::classify_and_feed(

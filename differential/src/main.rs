@@ -1,4 +1,4 @@
-//! Runs the library against the plain version in `reference`: random streams in all 16 formats, symbol by symbol and in
+//! Runs the library against the plain version in `reference`: random streams in all 16 formats with every setting, symbol by symbol and in
 //! blocks, and random calls with good and bad input. The first difference is printed in full and ends the run.
 
 mod blocks;
@@ -12,11 +12,20 @@ use std::fmt::Debug;
 use std::panic::{catch_unwind, AssertUnwindSafe};
 use std::process::ExitCode;
 use std::time::{Duration, Instant, SystemTime, UNIX_EPOCH};
-use streams::{format_of, stream, table, FORMATS};
+use streams::{format_of, setting, stream, table, FORMATS};
 
 const SHORT: u64 = 10_000_000;
 const LONG: u64 = 10 * SHORT;
 const USAGE: &str = "usage: run [short | long | SECONDS] [--seed SEED] [--stream NUMBER]";
+
+/// The words of a reader that hold its setting, its place, how many symbols the frame under way has, how many frames are
+/// in a row, and the last one's time.
+const SETTING: usize = 2;
+const PLACE: usize = 3;
+const COUNT: usize = 4;
+const ROW: usize = 9;
+const DAY: usize = 10;
+const HUNDREDTHS: usize = 11;
 
 /// A refusal as both sides have it: the number, and the index with 5 and 6.
 type Refused = (u8, Option<usize>);
@@ -29,7 +38,8 @@ type Fed = Result<Option<(u16, u32, u64)>, Refused>;
 struct Counts {
     symbols: u64,
     calls: u64,
-    reports: u64,
+    /// Reports with the settings 2 to 5.
+    reports: [u64; 4],
     /// Reports of 23:59:60.
     added: u64,
     refused: u64,
@@ -81,28 +91,35 @@ fn agree<T: PartialEq + Debug>(
     ))
 }
 
-/// Document 01's plain machine: it holds the whole list and looks at its last 2n + 1 symbols.
-fn by_definition(format: reference::Format, list: &mut Vec<u8>, symbol: u8) -> Fed {
+/// The plain machine of document 01, with document 02's setting k: it holds the whole list and looks at its last kn + 1
+/// symbols.
+fn by_definition(format: reference::Format, setting: u8, list: &mut Vec<u8>, symbol: u8) -> Fed {
     if symbol > 3 {
         return Err((4, None));
     }
     list.push(symbol);
-    let n = table(format).0;
-    let Some(start) = list.len().checked_sub(2 * n + 1) else {
+    let Some(start) = list.len().checked_sub(window(format, setting)) else {
         return Ok(None);
     };
-    let window = &list[start..];
-    if window[0] != 2 {
+    if list[start] != 2 {
         return Ok(None);
     }
-    let first = reference::read(format, &window[1..=n]);
-    let second = reference::read(format, &window[n + 1..]);
-    match (first, second) {
-        (Ok((before, _)), Ok((after, control))) if reference::next_after(format, before, after) => {
-            Ok(Some((after.day, after.hundredths, control)))
+    let mut last: Option<(reference::Time, u64)> = None;
+    for frame in list[start + 1..].chunks(table(format).0) {
+        let Ok((time, control)) = reference::read(format, frame) else {
+            return Ok(None);
+        };
+        if last.is_some_and(|(before, _)| !reference::next_after(format, before, time)) {
+            return Ok(None);
         }
-        _ => Ok(None),
+        last = Some((time, control));
     }
+    Ok(last.map(|(time, control)| (time.day, time.hundredths, control)))
+}
+
+/// kn + 1.
+fn window(format: reference::Format, setting: u8) -> usize {
+    usize::from(setting) * table(format).0 + 1
 }
 
 /// A pulse that the classifier takes for the symbol.
@@ -123,29 +140,33 @@ fn pulse_for(random: &mut Random, symbol: u8) -> (u32, u32, u32) {
 /// One stream through the library's reader, by symbols and by pulses, and through the plain ones.
 fn run_stream(random: &mut Random, counts: &mut Counts) -> Result<(), String> {
     let format = format_of(random.pick(&FORMATS));
+    let setting = setting(random);
     let symbols = stream(random, format);
-    let name = format!("{}{}", format.letter as char, format.expression);
+    let name = format!(
+        "{}{}, setting {setting}",
+        format.letter as char, format.expression
+    );
     let library_format = duskveyra::Format {
         letter: format.letter,
         expression: format.expression,
     };
-    let Ok(mut library) = duskveyra::Reader::fresh(library_format) else {
+    let Ok(mut library) = duskveyra::Reader::fresh(library_format, setting) else {
         return Err(format!("format {name}: no fresh reader"));
     };
     let mut by_pulse = library.clone();
-    let mut plain = reference::Reader::fresh(format).expect("a format");
+    let mut plain = reference::Reader::fresh(format, setting).expect("a format and a setting");
     let mut list = Vec::new();
     let pulses = random.once_in(4);
     for (position, &symbol) in symbols.iter().enumerate() {
         let context = |list: &[u8]| {
-            let last = &list[list.len().saturating_sub(2 * table(format).0 + 1)..];
+            let last = &list[list.len().saturating_sub(window(format, setting))..];
             format!(
-                "format {name}, position {position}, symbol {symbol}, the last 2n + 1 before it and itself:\n  {last:?}"
+                "format {name}, position {position}, symbol {symbol}, the last kn + 1 with it:\n  {last:?}"
             )
         };
         let before = library.words();
         let answer = fed(library.feed(symbol));
-        let expected = by_definition(format, &mut list, symbol);
+        let expected = by_definition(format, setting, &mut list, symbol);
         let beside = plain_fed(plain.feed(symbol));
         if expected != beside {
             return Err(format!(
@@ -154,7 +175,7 @@ fn run_stream(random: &mut Random, counts: &mut Counts) -> Result<(), String> {
             ));
         }
         agree(|| context(&list), answer, expected)?;
-        let place = library.words()[2];
+        let place = library.words()[PLACE];
         agree(
             || format!("place: {}", context(&list)),
             place,
@@ -162,7 +183,7 @@ fn run_stream(random: &mut Random, counts: &mut Counts) -> Result<(), String> {
         )?;
         match expected {
             Ok(Some((_, hundredths, _))) => {
-                counts.reports += 1;
+                counts.reports[usize::from(setting) - 2] += 1;
                 counts.added += u64::from(hundredths >= 8_640_000);
             }
             Ok(None) => {}
@@ -268,7 +289,7 @@ fn main() -> ExitCode {
         }
     }
     println!(
-        "{number} streams, {} reports, {} of them in an added second, {} symbols above 3",
+        "{number} streams, {:?} reports with the settings 2 to 5, {} of them in an added second, {} symbols above 3",
         counts.reports, counts.added, counts.refused
     );
     println!(

@@ -40,6 +40,10 @@ pub fn format_of((letter, expression): (u8, u8)) -> Format {
     Format { letter, expression }
 }
 
+pub fn setting(random: &mut Random) -> u8 {
+    2 + random.below(4) as u8
+}
+
 /// Where a day of that kind ends; only A, B and G carry a second that is added or taken.
 fn day_end(format: Format, kind: u8) -> u32 {
     match (format.letter, kind) {
