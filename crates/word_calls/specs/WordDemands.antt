@@ -3,11 +3,13 @@ use mathlib.Core.Path.{_≡_, refl, sym, ap, ap₂, subst, _∙_}
 use mathlib.Core.Bool.{true, false}
 use mathlib.Core.List.{List, [], _∷_, _++_, map}
 use Prim.Native.Nat.{ℕ}
+use native.Mathlib.Omega.{arith}
 use borrow.Author.Tests.{ne-eqb}
 use lib.Dec.{eqb}
 use Rattle.timecode.specs.Answers.{answerResult}
 use Rattle.timecode.specs.Demand3.{Demand3, SameAnswers, demand-3, two-readers}
 use Rattle.timecode.specs.Formats.{known}
+use Rattle.timecode.specs.Laws.Tests.{by-test}
 use Rattle.timecode.specs.Stream.{isSetting, plainAnswers, elementsOf, SameWindow}
 use Rattle.timecode.specs.declared.Answer.{Answer}
 use Rattle.timecode.specs.declared.Format.{Format}
@@ -24,7 +26,7 @@ use Rattle.reader_calls.specs.ReaderCalls.{ReaderCall, symbol, symbolInPlace, p
 use Rattle.ffi.specs.Fields.{refusal-numbered, feed-number}
 use Rattle.ffi.specs.Structs.{feedResultOf}
 use Rattle.reader_words.specs.WordLaws.{Fits, words-back, fresh-fits, after-fits, into-words, left-fed}
-use Rattle.reader_words.specs.Words.{wordsFor, readerIn, freshLeft, feedWords}
+use Rattle.reader_words.specs.Words.{wordsFor, readerIn, freshResultOf, freshLeft, feedWords}
 use Rattle.block_words.specs.BlockFields.{block-number}
 use Rattle.block_words.specs.BlockWords.{fedBlockWith, feedBlockWords, blockWordsLeft}
 use Rattle.word_calls.specs.WordCalls.{wordsResult, wordsAfter, wordsResults, wordsAfterCalls, givenOf, numberGiven}
@@ -83,6 +85,21 @@ words-of-reader r h [] = refl
 words-of-reader r h (c ∷ cs) = ap (λ (words : List ℕ). wordsAfterCalls words cs) (left-words r c h) ∙ words-of-reader (readerOf r c) (fits-kept r c h) cs
 
 -- ---- demand 3, of the words in a C program's memory
+
+-- Where duskveyra_fresh gives 0, the format is one and the setting too.
+pub made-of-format : (f : Format) (k : ℕ) → freshResultOf (madeOf f k) .number ≡ 0 → (known f ≡ true) × (isSetting k ≡ true)
+unfolding madeOf
+made-of-format f k h =
+    by-test (known f)
+    (λ y.
+    by-test (isSetting k)
+    (λ z. (y, z))
+    (λ n.
+    let refused : _≡_ {A = ℕ} 26 0 = rw (y, n) at h in
+    absurd (let no : ⊥ = omega arith in no)))
+    (λ n.
+    let refused : _≡_ {A = ℕ} 1 0 = rw n at h in
+    absurd (let no : ⊥ = omega arith in no))
 
 module _ (f : Format) (k : ℕ) (old : List ℕ) (is-known : known f ≡ true) (set : isSetting k ≡ true) where
   -- the words after duskveyra_fresh, whatever they were before
