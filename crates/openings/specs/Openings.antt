@@ -1,6 +1,6 @@
 -- Where frames may begin in a list of symbols, by index.
 use mathlib.Core.Path.{_≡_, sym, ap, _∙_}
-use mathlib.Core.Bool.{Bool, true, false}
+use mathlib.Core.Bool.{Bool, true, false, cond}
 use mathlib.Core.List.{List}
 use Prim.Native.Nat.{ℕ, _+_, _-_, _<_, _≤_}
 use native.Mathlib.Omega.{arith}
@@ -33,10 +33,19 @@ none-open-joined p from at more before here j a b =
     (λ y. let l = leb-true at j y in let there : at + (j - at) ≡ j = omega arith in rw there at (here (j - at) (omega arith)))
     (λ n. before j a (leb-false at j n))
 
--- one place more in a row of openings
-pub all-open-turn : (f : Format) (ss : List ℕ) (from i : ℕ) → ((j : ℕ) → from ≤ j → j < i → opensAt f ss j ≡ true) → opensAt f ss i ≡ true → (j : ℕ) → from ≤ j → j < i + 1 → opensAt f ss j ≡ true
-all-open-turn f ss from i before here j a b = go (decLt j i)
-  where
-    go : Dec (j < i) → opensAt f ss j ≡ true
-    go (yes y) = before j a y
-    go (no m) = let same : j ≡ i = omega arith in rw same here
+-- Openings after index `from`, each fewer than n symbols after the one before, up to `last`: the frame that one of them begins is not whole before the next.
+pub data CloseOpenings (f : Format) (n : ℕ) (ss : List ℕ) (from : ℕ) : ℕ → Type 0 where
+  start : CloseOpenings f n ss from from
+  later : (before last : ℕ) → CloseOpenings f n ss from before → before < last → last < before + n → opensAt f ss last ≡ true → CloseOpenings f n ss from last
+
+-- one place more
+pub close-turn : (f : Format) (n : ℕ) (ss : List ℕ) (from last i r : ℕ) (opens : Bool) → CloseOpenings f n ss from last → last < i → i - last < n → opens ≡ opensAt f ss i → r ≡ cond opens i last → CloseOpenings f n ss from r
+close-turn f n ss from last i r opens c a b o e =
+    by-test (opensAt f ss i)
+    (λ y. let is : r ≡ i = e ∙ rw (o, y) in rw is (later last i c a (omega arith) y))
+    (λ m. let is : r ≡ last = e ∙ rw (o, m) in rw is c)
+
+-- the last is at the place or before it
+pub latest-within : (opens : Bool) (from last i r : ℕ) → from ≤ last → last < i → r ≡ cond opens i last → (from ≤ r) × (r ≤ i)
+latest-within true from last i r a b e = (omega (arith, e), omega (arith, e))
+latest-within false from last i r a b e = (omega (arith, e), omega (arith, e))

@@ -1,12 +1,12 @@
 // Where frames may begin among the symbols of a block, and how many of its symbols stand before the first above 3.
 // It assumes nothing of the symbols.
 ghost use mathlib.Core.Path.{_≡_};
-ghost use mathlib.Core.Bool.{true, false};
+ghost use mathlib.Core.Bool.{true, false, cond};
 ghost use Prim.Native.Nat.{ℕ, _+_, _≤_, _<_};
 ghost use lib.ListN.{getD, length};
 ghost use Rattle.following.specs.Rows.{opensFrame};
 ghost use Rattle.openings.specs.Accepted.{acceptedIn};
-ghost use Rattle.openings.specs.Openings.{opensAt};
+ghost use Rattle.openings.specs.Openings.{opensAt, CloseOpenings};
 use timecode::Format;
 use timecode::MARK;
 use timecode::SPOILED;
@@ -89,20 +89,29 @@ pub fn next_opening(format: Format, symbols: &[u8], from: usize, to: usize) -> u
     to
 }
 
-// The first index from one to another at which no frame may begin, or the other.
-pub fn openings_end(format: Format, symbols: &[u8], from: usize, to: usize) -> usize
-    requires { ⌜ (1 ≤ from) × (from ≤ to) × (to ≤ length (now symbols)) ⌝ }
-    ensures { λ r. ⌜ (from ≤ r) × (r ≤ to) × ((j : ℕ) → from ≤ j → j < r → opensAt format (now (symbols .entry)) j ≡ true) ⌝ }
+fn latest(opens: bool, here: usize, last: usize) -> usize
+    ensures { λ r. ⌜ r ≡ cond opens here last ⌝ }
 {
-    let mut i = from;
-    while i < to {
-        if is_opening(format, symbols[i - 1], symbols[i]) {
-            i += 1;
-            continue;
-        }
-        return i;
+    if opens {
+        return here;
     }
-    to
+    last
+}
+
+// The last of the openings after an index of which each comes fewer than n symbols after the one before, or the index: where a frame begins
+// at the index, none is whole before that last opening.
+pub fn last_opening(format: Format, symbols: &[u8], n: usize, from: usize, to: usize) -> usize
+    requires { ⌜ (from < to) × (to ≤ length (now symbols)) ⌝ }
+    ensures { λ r. ⌜ (from ≤ r) × (r < to) × CloseOpenings format n (now (symbols .entry)) from r ⌝ }
+{
+    let mut last = from;
+    let mut i = from + 1;
+    while i < to && i - last < n {
+        let opens = is_opening(format, symbols[i - 1], symbols[i]);
+        last = latest(opens, i, last);
+        i += 1;
+    }
+    last
 }
 
 fn larger(first: u8, second: u8) -> u8

@@ -1,4 +1,4 @@
--- Several symbols into the register: those of a frame under way, those outside a frame, and openings in a row.
+-- Several symbols into the register: those of a frame under way, those outside a frame, and openings before a frame is whole.
 use mathlib.Core.Path.{_≡_, refl, sym, ap, ap₂, _∙_}
 use mathlib.Core.Bool.{true, false, cond}
 use mathlib.Core.List.{List, [], _∷_, _++_}
@@ -288,33 +288,73 @@ join-step h ss i more to newest a b c room e =
     let one : i + more - i ≡ more = omega arith in
     rw one at (join-turn h ss i (i + more) to newest (omega arith) b c (omega arith) e)
 
--- ---- openings in a row: a frame begins with the last of them
+-- ---- openings: a frame begins with the last of them
 
-abbrev pub AllOpen : Format → ℕ → List ℕ → Type 0
-AllOpen f last xs = (j : ℕ) → j < length xs → opensFrame f (getD (last ∷ xs) j 0) (getD xs j 0) ≡ true
+pub receive-append : (f : Format) (n : ℕ) (h : Register) (xs ys : List ℕ) → receiveAll f n h (xs ++ ys) ≡ receiveAll f n (receiveAll f n h xs) ys
+unfolding receiveAll
+receive-append f n h [] ys = refl
+receive-append f n h (x ∷ xs) ys = receive-append f n (receiveOf f n h x) xs ys
 
-receive-opens : (f : Format) (n : ℕ) (h : Register) (s : ℕ) → opensFrame f (h .newest % 4) s ≡ true → (h .count ≡ n → ⊥) → receiveOf f n h s ≡ begunOf (pushOf (h .newest) s) 1 0
+pub received-newest : (f : Format) (n : ℕ) (h : Register) (xs : List ℕ) → receiveAll f n h xs .newest ≡ pushAll (h .newest) xs
+unfolding receiveAll pushAll
+received-newest f n h [] = refl
+received-newest f n h (x ∷ xs) = received-newest f n (receiveOf f n h x) xs ∙ ap (λ (w : ℕ). pushAll w xs) (receive-newest f n h x)
+
+pub receive-opens : (f : Format) (n : ℕ) (h : Register) (s : ℕ) → opensFrame f (h .newest % 4) s ≡ true → (h .count ≡ n → ⊥) → receiveOf f n h s ≡ begunOf (pushOf (h .newest) s) 1 0
 unfolding receiveOf
 receive-opens f n h s y other = rw (y, ne-eqb (h .count) n other)
 
-opened-count : (f : Format) (n : ℕ) (h : Register) (s : ℕ) → opensFrame f (h .newest % 4) s ≡ true → receiveOf f n h s .count ≡ 1
+-- a frame has one symbol more at most
+receive-count : (f : Format) (n : ℕ) (h : Register) (s : ℕ) → receiveOf f n h s .count ≤ h .count + 1
 unfolding receiveOf
-opened-count f n h s y = rw y
+receive-count f n h s =
+    by-test (opensFrame f (h .newest % 4) s)
+    (λ y. rw y (omega arith))
+    (λ y.
+    by-test (eqb (h .count) 0)
+    (λ e. rw (y, e) (omega arith))
+    (λ e.
+    by-test (leb n (h .count))
+    (λ l. rw (y, e, l) (omega arith))
+    (λ l. by-test (eqb ((h .count + 1) % 32) 0) (λ z. rw (y, e, l, z) (omega arith)) (λ z. rw (y, e, l, z) (omega arith)))))
 
-pub openings-are : (f : Format) (n : ℕ) (h : Register) (x : ℕ) (xs : List ℕ) → 2 ≤ n → AllSymbols (x ∷ xs) → AllOpen f (h .newest % 4) (x ∷ xs) → (h .count ≡ n → ⊥) → receiveAll f n h (x ∷ xs) ≡ begunOf (pushAll (h .newest) (x ∷ xs)) 1 0
-unfolding receiveAll pushAll
-openings-are f n h x [] m s o other = receive-opens f n h x (o 0 (omega arith)) other
-openings-are f n h x (y ∷ ys) m s o other =
-    let next = begunOf (pushOf (h .newest) x) 1 0 in
-    let low : next .newest % 4 ≡ x = pushed-low (h .newest) x (s 0 (omega arith)) in
-    ap (λ (k : Register). receiveAll f n k (y ∷ ys)) (receive-opens f n h x (o 0 (omega arith)) other)
-    ∙ openings-are f n next y ys m (symbols-tail x (y ∷ ys) s) (rw low (λ j b. o (suc j) (omega arith))) (λ e. omega arith)
+-- no frame is whole after any of the symbols
+abbrev pub NeverWhole : Format → ℕ → Register → List ℕ → Type 0
+NeverWhole f n h [] = Unit {0}
+NeverWhole f n h (x ∷ xs) = (receiveOf f n h x .count ≡ n → ⊥) × NeverWhole f n (receiveOf f n h x) xs
 
-pub openings-not-whole : (f : Format) (n : ℕ) (h : Register) (xs : List ℕ) → 2 ≤ n → AllSymbols xs → AllOpen f (h .newest % 4) xs → NotWholeBefore f n h xs
-openings-not-whole f n h [] m s o = tt
-openings-not-whole f n h (x ∷ []) m s o = tt
-openings-not-whole f n h (x ∷ (y ∷ ys)) m s o =
-    let next = receiveOf f n h x in
-    let count : next .count ≡ 1 = opened-count f n h x (o 0 (omega arith)) in
-    let low : next .newest % 4 ≡ x = ap (λ (w : ℕ). w % 4) (receive-newest f n h x) ∙ pushed-low (h .newest) x (s 0 (omega arith)) in
-    ((λ e. omega arith), openings-not-whole f n next (y ∷ ys) m (symbols-tail x (y ∷ ys) s) (rw low (λ j b. o (suc j) (omega arith))))
+pub never-before : (f : Format) (n : ℕ) (h : Register) (xs : List ℕ) → NeverWhole f n h xs → NotWholeBefore f n h xs
+never-before f n h [] a = tt
+never-before f n h (x ∷ []) a = tt
+never-before f n h (x ∷ (y ∷ ys)) a = (a .0, never-before f n (receiveOf f n h x) (y ∷ ys) (a .1))
+
+pub never-append : (f : Format) (n : ℕ) (h : Register) (xs ys : List ℕ) → NeverWhole f n h xs → NeverWhole f n (receiveAll f n h xs) ys → NeverWhole f n h (xs ++ ys)
+unfolding receiveAll
+never-append f n h [] ys a b = b
+never-append f n h (x ∷ xs) ys a b = (a .0, never-append f n (receiveOf f n h x) xs ys (a .1) b)
+
+-- fewer symbols than the frame has left
+pub short-never : (f : Format) (n : ℕ) (h : Register) (xs : List ℕ) → h .count + length xs < n → NeverWhole f n h xs
+short-never f n h [] b = tt
+short-never f n h (x ∷ xs) b = let one = receive-count f n h x in ((λ e. omega (arith, one)), short-never f n (receiveOf f n h x) xs (omega (arith, one)))
+
+pub short-count : (f : Format) (n : ℕ) (h : Register) (xs : List ℕ) → h .count + length xs < n → receiveAll f n h xs .count < n
+unfolding receiveAll
+short-count f n h [] b = omega arith
+short-count f n h (x ∷ xs) b = let one = receive-count f n h x in short-count f n (receiveOf f n h x) xs (omega (arith, one))
+
+pub slice-last : (ss : List ℕ) (i k : ℕ) → i ≤ k → k < length ss → slice ss i (k + 1) ≡ slice ss i k ++ (getD ss k 0 ∷ [])
+slice-last ss i k a b =
+    let one : slice ss k (k + 1) ≡ getD ss k 0 ∷ [] = slice-cons ss k (k + 1) (omega arith) (omega arith) ∙ ap (λ (xs : List ℕ). getD ss k 0 ∷ xs) (slice-none ss (k + 1)) in
+    slice-join ss i k (k + 1) a (omega arith) ∙ ap (λ (xs : List ℕ). slice ss i k ++ xs) one
+
+pub push-all-last : (w : ℕ) (ss : List ℕ) (i k : ℕ) → i ≤ k → k < length ss → pushAll w (slice ss i (k + 1)) ≡ pushOf (pushAll w (slice ss i k)) (getD ss k 0)
+unfolding pushAll
+push-all-last w ss i k a b = ap (pushAll w) (slice-last ss i k a b) ∙ push-all-append w (slice ss i k) (getD ss k 0 ∷ [])
+
+-- the symbol pushed last is the lowest of the word
+pub push-all-low : (w : ℕ) (ss : List ℕ) (i k : ℕ) → i < k → k ≤ length ss → getD ss (k - 1) 0 ≤ 3 → pushAll w (slice ss i k) % 4 ≡ getD ss (k - 1) 0
+push-all-low w ss i k a b s =
+    let there : k - 1 + 1 ≡ k = omega arith in
+    let last : pushAll w (slice ss i k) ≡ pushOf (pushAll w (slice ss i (k - 1))) (getD ss (k - 1) 0) = ap (λ (m : ℕ). pushAll w (slice ss i m)) (sym there) ∙ push-all-last w ss i (k - 1) (omega arith) (omega arith) in
+    ap (λ (v : ℕ). v % 4) last ∙ pushed-low (pushAll w (slice ss i (k - 1))) (getD ss (k - 1) 0) s

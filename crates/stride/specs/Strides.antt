@@ -18,11 +18,11 @@ use Rattle.timecode.specs.declared.Answer.the-variants.{Quiet}
 use Rattle.timecode.specs.declared.Format.{Format}
 use Rattle.timecode.specs.declared.Reading.{Reading}
 use Rattle.following.specs.Rows.{opensFrame}
-use Rattle.register.specs.Receiving.{continuedOf, begunOf, receiveOf, frameOf}
+use Rattle.register.specs.Receiving.{pushOf, continuedOf, begunOf, receiveOf, frameOf}
 use Rattle.register.specs.Contents.{Shows, pushed-low, whole-frame, shows-opened, shows-grown, receive-newest}
 use Rattle.register.specs.declared.Register.{Register}
-use Rattle.openings.specs.Openings.{opensAt}
-use Rattle.receive_many.specs.ManySymbols.{slice, pushAll, receiveAll, joinAll, AllSymbols, NoneOpens, NotWholeBefore, SymbolsBelow, length-slice, slice-at, slice-cons, inside-is, outside-is, inside-not-whole, outside-not-whole, AllOpen, openings-are, openings-not-whole}
+use Rattle.openings.specs.Openings.{opensAt, CloseOpenings, start, later}
+use Rattle.receive_many.specs.ManySymbols.{slice, pushAll, receiveAll, joinAll, AllSymbols, NoneOpens, NotWholeBefore, SymbolsBelow, length-slice, slice-at, slice-cons, inside-is, outside-is, inside-not-whole, outside-not-whole, NeverWhole, never-before, never-append, short-never, short-count, receive-append, received-newest, receive-opens, slice-join, slice-last, slice-none, push-all-none, push-all-last, push-all-low}
 use Rattle.stream.specs.Feeding.{withRegister, readerWithReading, whenWhole, withSymbolOf, nextOf, answerAfter, feedOf}
 use Rattle.stream.specs.Refinement.{answers, readerAfter}
 use Rattle.stream.specs.declared.Reader.{Reader}
@@ -145,6 +145,60 @@ run-shows f n h frame (x ∷ xs) s c some b sh =
     let count : next .count ≡ h .count + 1 = one .count-is ∙ length-append frame (x ∷ []) ∙ ap (λ (k : ℕ). k + 1) (sym (sh .count-is)) in
     rw (append-assoc frame (x ∷ []) xs) at (run-shows f n next (frame ++ (x ∷ [])) xs (λ j b. s (suc j) (omega arith)) (rw low (λ j b. c (suc j) (omega arith))) (omega arith) (omega arith) one)
 
+-- ---- openings, each before the frame of the one before is whole
+
+module _ (f : Format) (n : ℕ) (ss : List ℕ) (h : Register) (from to : ℕ) (two : 2 ≤ n) (l : to ≤ length ss) (below : SymbolsBelow ss to) (low : h .newest % 4 ≡ getD ss from 0) (one : h .count ≡ 1) where
+  -- the register after the symbols before an index
+  abbrev after : ℕ → Register
+  after k = receiveAll f n h (slice ss (from + 1) k)
+
+  after-low : (k : ℕ) → from < k → k ≤ to → after k .newest % 4 ≡ getD ss (k - 1) 0
+  after-low k a b =
+      let newest : after k .newest % 4 ≡ pushAll (h .newest) (slice ss (from + 1) k) % 4 = ap (λ (w : ℕ). w % 4) (received-newest f n h (slice ss (from + 1) k)) in
+      by-test (eqb k (from + 1))
+      (λ y.
+      let is : k ≡ from + 1 = eqb-true k (from + 1) y in
+      let there : from + 1 - 1 ≡ from = omega arith in
+      newest ∙ rw is (rw there (ap (λ (w : ℕ). w % 4) (push-all-none (h .newest) ss (from + 1)) ∙ low)))
+      (λ m. let other = eqb-false k (from + 1) m in newest ∙ push-all-low (h .newest) ss (from + 1) k (omega (arith, other)) (omega arith) (below (k - 1) (omega arith)))
+
+  -- from one opening to the next
+  next-opened : (m r : ℕ) → from ≤ m → m < r → r < to → r < m + n → opensAt f ss r ≡ true → after (m + 1) .count ≡ 1 → NeverWhole f n h (slice ss (from + 1) (m + 1))
+      → (after (r + 1) ≡ begunOf (pushAll (h .newest) (slice ss (from + 1) (r + 1))) 1 0) × NeverWhole f n h (slice ss (from + 1) (r + 1))
+  unfolding receiveAll
+  next-opened m r a b c d o e never =
+      let middle = slice ss (m + 1) r in
+      let x = getD ss r 0 in
+      let long : length middle ≡ r - (m + 1) = length-slice ss (m + 1) r (omega arith) (omega arith) in
+      let cut : slice ss (from + 1) r ≡ slice ss (from + 1) (m + 1) ++ middle = slice-join ss (from + 1) (m + 1) r (omega arith) (omega arith) in
+      let short : after (m + 1) .count + length middle < n = omega (arith, e, long) in
+      let before : after r ≡ receiveAll f n (after (m + 1)) middle = ap (receiveAll f n h) cut ∙ receive-append f n h (slice ss (from + 1) (m + 1)) middle in
+      let fewer : after r .count < n = rw before (short-count f n (after (m + 1)) middle short) in
+      let other : after r .count ≡ n → ⊥ = λ z. omega arith in
+      let opens : opensFrame f (after r .newest % 4) x ≡ true = rw (after-low r (omega arith) (omega arith)) o in
+      let begun : receiveOf f n (after r) x ≡ begunOf (pushOf (after r .newest) x) 1 0 = receive-opens f n (after r) x opens other in
+      let cut-last : slice ss (from + 1) (r + 1) ≡ slice ss (from + 1) r ++ (x ∷ []) = slice-last ss (from + 1) r (omega arith) (omega arith) in
+      let is : after (r + 1) ≡ receiveOf f n (after r) x = ap (receiveAll f n h) cut-last ∙ receive-append f n h (slice ss (from + 1) r) (x ∷ []) in
+      let word : pushOf (after r .newest) x ≡ pushAll (h .newest) (slice ss (from + 1) (r + 1)) = ap (λ (w : ℕ). pushOf w x) (received-newest f n h (slice ss (from + 1) r)) ∙ sym (push-all-last (h .newest) ss (from + 1) r (omega arith) (omega arith)) in
+      let single : receiveOf f n (after r) x .count ≡ n → ⊥ = λ z. let counted : receiveOf f n (after r) x .count ≡ 1 = ap (λ (g : Register). g .count) begun in omega arith in
+      let never-r : NeverWhole f n h (slice ss (from + 1) r) = rw cut (never-append f n h (slice ss (from + 1) (m + 1)) middle never (short-never f n (after (m + 1)) middle short)) in
+      (is ∙ begun ∙ ap (λ (w : ℕ). begunOf w 1 0) word, rw cut-last (never-append f n h (slice ss (from + 1) r) (x ∷ []) never-r (single, tt)))
+
+  close-never : (last : ℕ) → CloseOpenings f n ss from last → last < to → (from ≤ last) × (after (last + 1) .count ≡ 1) × NeverWhole f n h (slice ss (from + 1) (last + 1))
+  unfolding receiveAll
+  close-never last start b = (omega arith, rw (slice-none ss (from + 1)) one, rw (slice-none ss (from + 1)) tt)
+  close-never last (later m r before a d o) b =
+      let so-far = close-never m before (omega arith) in
+      let next = next-opened m r (so-far .0) a b d o (so-far .1) (so-far .2) in
+      (omega (arith, so-far .0), ap (λ (g : Register). g .count) (next .0), next .1)
+
+  -- a frame begins with the last of them, and none is whole before
+  pub opened-last : (last : ℕ) → CloseOpenings f n ss from last → from < last → last < to → (receiveAll f n h (slice ss (from + 1) (last + 1)) ≡ begunOf (pushAll (h .newest) (slice ss (from + 1) (last + 1))) 1 0) × NeverWhole f n h (slice ss (from + 1) (last + 1))
+  opened-last last start a b = let z : ⊥ = omega arith in absurd z
+  opened-last last (later m r before c d o) a b =
+      let so-far = close-never m before (omega arith) in
+      next-opened m r (so-far .0) c b d o (so-far .1) (so-far .2)
+
 -- ---- by index in a list of symbols
 
 -- from index `from` on so many symbols are taken and `next` is the reader after them: the answers are Quiet but for the last, which is that of `next`
@@ -204,27 +258,14 @@ module _ (r : Reader) (ss : List ℕ) (from stop to : ℕ) (v : Ready r) (a : fr
         last = λ none. let end : stop - from - 1 ≡ length others = omega (arith, long) in rw (there, end, is, cons) (stride-last r (getD ss from 0) others v all-symbols none);
       }
 
-  -- openings in a row
-  pub strides-open : from + 1 < stop → ((j : ℕ) → from + 1 ≤ j → j < stop → opensAt f ss j ≡ true) → (first .count ≡ n → ⊥) → (next : Reader) → next ≡ withRegister r ((r .place + (stop - from)) % n) (begunOf (pushAll (first .newest) others) 1 0) → Strides r ss from to next (stop - from)
-  strides-open more all-open other next e =
-      let cons = slice-cons ss (from + 1) stop more (omega arith) in
+  -- openings, each before the frame of the one before is whole
+  pub strides-open : from + 1 < stop → first .count ≡ 1 → CloseOpenings f n ss from (stop - 1) → (next : Reader) → next ≡ withRegister r ((r .place + (stop - from)) % n) (begunOf (pushAll (first .newest) others) 1 0) → Strides r ss from to next (stop - from)
+  strides-open more one close next e =
+      let there : stop - 1 + 1 ≡ stop = omega arith in
       let two : 2 ≤ n = omega (arith, size-range f) in
-      let received : receiveAll f n first others ≡ begunOf (pushAll (first .newest) others) 1 0 = rw cons (openings-are f n first (getD ss (from + 1) 0) (slice ss (from + 1 + 1) stop) two (rw cons at others-symbols) (rw cons at others-open) other) in
-      let un : NotWholeBefore f n (r .received) (getD ss from 0 ∷ others) = rw cons (other, openings-not-whole f n first (getD ss (from + 1) 0 ∷ slice ss (from + 1 + 1) stop) two (rw cons at others-symbols) (rw cons at others-open)) in
-      strides-by (begunOf (pushAll (first .newest) others) 1 0) received un next (e ∙ sym (not-whole-same (withRegister r ((r .place + (stop - from)) % n) (begunOf (pushAll (first .newest) others) 1 0)) (λ z. omega (arith, two))))
-    where
-      opened : (j : ℕ) → j < length others → opensFrame f (getD (getD ss from 0 ∷ others) j 0) (getD others j 0) ≡ true
-      opened zero h =
-          let here : from + 1 + 0 - 1 ≡ from = omega arith in
-          let it = all-open (from + 1 + 0) (omega arith) (omega (arith, others-long)) in
-          rw (others-at 0 h) (rw here at it)
-      opened (suc j) h =
-          let here : from + 1 + suc j - 1 ≡ from + 1 + j = omega arith in
-          let it = all-open (from + 1 + suc j) (omega arith) (omega (arith, others-long)) in
-          rw (others-at (suc j) h, others-at j (omega arith)) (rw here at it)
-
-      others-open : AllOpen f (first .newest % 4) others
-      others-open = rw first-low opened
+      let opened = rw there at (opened-last f n ss first from to two l below first-low one (stop - 1) close (omega arith) (omega arith)) in
+      let un : NotWholeBefore f n (r .received) (getD ss from 0 ∷ others) = never-before f n (r .received) (getD ss from 0 ∷ others) ((λ z. omega (arith, one, two)), opened .1) in
+      strides-by (begunOf (pushAll (first .newest) others) 1 0) (opened .0) un next (e ∙ sym (not-whole-same (withRegister r ((r .place + (stop - from)) % n) (begunOf (pushAll (first .newest) others) 1 0)) (λ z. omega (arith, two))))
 
   module _ (none-open : (j : ℕ) → from + 1 ≤ j → j < stop → opensAt f ss j ≡ false) (most : 1 ≤ first .count → first .count + (stop - (from + 1)) ≤ n) where
     none-opens : (j : ℕ) → j < length others → opensFrame f (getD (getD ss from 0 ∷ others) j 0) (getD others j 0) ≡ false
@@ -289,10 +330,11 @@ module _ (r : Reader) (ss : List ℕ) (from to n : ℕ) (first : Register) (stop
       let same : after .received ≡ runOf (receiveOf (r .format) (size (r .format)) (r .received) (getD ss from 0)) (slice ss (from + 1) stop) = ap (λ (q : Reader). q .received) ea ∙ whole in
       rw (en, same) (frame-is r ss from stop to v a b l below none-open most-is (e ∙ en) (sym (ap (λ (h : Register). h .count) same) ∙ c ∙ en))
 
-pub open-way : (r : Reader) (ss : List ℕ) (from to n : ℕ) (first : Register) (stop : ℕ) (next : Reader) → Ready r → to ≤ length ss → SymbolsBelow ss to → n ≡ size (r .format) → first ≡ receiveOf (r .format) n (r .received) (getD ss from 0) → from + 1 < stop → stop ≤ to
-    → ((j : ℕ) → from + 1 ≤ j → j < stop → opensAt (r .format) ss j ≡ true) → (1 ≤ first .count → first .count + (stop - (from + 1)) ≤ n)
-    → next ≡ withRegister r ((r .place + (stop - from)) % n) (begunOf (pushAll (first .newest) (slice ss (from + 1) stop)) 1 0) → Strides r ss from to next (stop - from)
-open-way r ss from to n first stop next v l below en ef a b all-open most e =
+pub open-way : (r : Reader) (ss : List ℕ) (from to n : ℕ) (first : Register) (last : ℕ) (next : Reader) → Ready r → to ≤ length ss → SymbolsBelow ss to → n ≡ size (r .format) → first ≡ receiveOf (r .format) n (r .received) (getD ss from 0) → first .count ≡ 1 → from < last → last < to
+    → CloseOpenings (r .format) n ss from last
+    → next ≡ withRegister r ((r .place + (last + 1 - from)) % n) (begunOf (pushAll (first .newest) (slice ss (from + 1) (last + 1))) 1 0) → Strides r ss from to next (last + 1 - from)
+open-way r ss from to n first last next v l below en ef one a b close e =
     let same : first ≡ receiveOf (r .format) (size (r .format)) (r .received) (getD ss from 0) = ef ∙ ap (λ (k : ℕ). receiveOf (r .format) k (r .received) (getD ss from 0)) en in
-    let other : first .count ≡ n → ⊥ = λ z. let k = most (omega (arith, en, size-range (r .format))) in omega (arith, z) in
-    strides-open r ss from stop to v (omega arith) b l below a all-open (rw (same, en) at other) next (e ∙ rw (same, en))
+    let there : last + 1 - 1 ≡ last = omega arith in
+    let close-there : CloseOpenings (r .format) (size (r .format)) ss from (last + 1 - 1) = rw (there, ← en) close in
+    strides-open r ss from (last + 1) to v (omega arith) (omega arith) l below (omega arith) (sym (ap (λ (h : Register). h .count) same) ∙ one) close-there next (e ∙ rw (same, en))

@@ -1,4 +1,4 @@
-// A stride of a block: its first symbol, then symbols up to the next opening or to the frame's end; openings in a row go together.
+// A stride of a block: its first symbol, then symbols up to the next opening or to the frame's end; openings that come before a frame is whole go together.
 // Only its last symbol can report. A frame that is whole in the stride is read in the block itself.
 ghost use mathlib.Core.Path.{_≡_};
 ghost use mathlib.Core.Bool.{true};
@@ -12,8 +12,8 @@ ghost use Rattle.stream.specs.Feeding.{isValid, withRegister, whenWhole};
 ghost use Rattle.stride.specs.Strides.{runOf, Strides};
 use frame::read;
 use layout::frame_size;
+use openings::last_opening;
 use openings::next_opening;
-use openings::openings_end;
 use receive_many::push_many;
 use receive_many::receive_inside;
 use receive_many::receive_outside;
@@ -47,6 +47,17 @@ fn stride_limit(count: usize, n: usize, from: usize, to: usize) -> usize
         return from + (n - count);
     }
     to
+}
+
+// Openings are looked for among 4,096 symbols, so that the sum with the place is small.
+fn openings_limit(from: usize, to: usize) -> usize
+    requires { ⌜ from < to ⌝ }
+    ensures { λ r. ⌜ (from < r) × (r ≤ to) × (r - from ≤ 4096) ⌝ }
+{
+    if to - from < 4096 {
+        return to;
+    }
+    from + 4096
 }
 
 // Symbols of which none begins a frame.
@@ -86,7 +97,7 @@ fn place_after_many(place: usize, taken: usize, n: usize) -> usize
     (place + taken) % n
 }
 
-// Openings in a row: a frame begins with the last of them.
+// Openings, each before the frame of the one before is whole: a frame begins with the last of them.
 fn stride_of_openings(
     reader: Reader,
     first: Register,
@@ -119,11 +130,15 @@ pub fn advance(reader: Reader, symbols: &[u8], from: usize, to: usize) -> Stride
     let first = receive(format, n, reader.received, symbols[from]);
     let next = from + 1;
     let end = stride_limit(first.count, n, next, to);
-    let opened = openings_end(format, symbols, next, end);
-    if next < opened {
-        return stride_of_openings(reader, first, n, symbols, from, opened);
-    }
     let stop = next_opening(format, symbols, next, end);
+    if first.count == 1 {
+        if stop < end {
+            let last = last_opening(format, symbols, n, from, openings_limit(from, to));
+            if from < last {
+                return stride_of_openings(reader, first, n, symbols, from, last + 1);
+            }
+        }
+    }
     let received = receive_run(first, symbols, next, stop);
     let taken = stop - from;
     let place = place_after_many(reader.place, taken, n);
