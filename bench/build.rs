@@ -1,8 +1,11 @@
-//! With DUSKVEYRA_BEFORE, the directory of an earlier librecorder.a, its Write is linked too, as `before_write`.
+//! With DUSKVEYRA_BEFORE, the directory of an earlier librecorder.a, its functions below are linked too, each under the
+//! name `before_` and the rest of its own.
 
 use std::env;
 use std::path::{Path, PathBuf};
 use std::process::{self, Command};
+
+const FUNCTIONS: [&str; 4] = ["write", "fresh", "feed", "feed_block"];
 
 fn main() {
     println!("cargo:rerun-if-env-changed=DUSKVEYRA_BEFORE");
@@ -13,10 +16,15 @@ fn main() {
     let archive = Path::new(&directory).join("librecorder.a");
     println!("cargo:rerun-if-changed={}", archive.display());
     let out = PathBuf::from(env::var_os("OUT_DIR").unwrap_or_default());
-    // Both libraries export the same names: of the earlier one only Write stays visible, under another.
+    // Both libraries export the same names: of the earlier one only these stay visible, under others.
+    let names = FUNCTIONS.iter().flat_map(|function| {
+        [
+            format!("--redefine-sym=duskveyra_{function}=before_{function}"),
+            format!("--keep-global-symbol=before_{function}"),
+        ]
+    });
     let renamed = Command::new("objcopy")
-        .arg("--redefine-sym=duskveyra_write=before_write")
-        .arg("--keep-global-symbol=before_write")
+        .args(names)
         .arg(&archive)
         .arg(out.join("libbefore.a"))
         .status();

@@ -63,7 +63,8 @@ fn command_rows(programs: &[(Program, bool)], recording: &Path, scratch: &Path) 
     Ok(())
 }
 
-/// The rows of timeread, where there is one: the file in TIMEREAD, or target/bin/timeread of this repository.
+/// The rows of timeread, where there is one: the file in TIMEREAD, or target/bin/timeread of this repository; and those of
+/// an earlier one, the file in TIMEREAD_BEFORE.
 pub fn rows() {
     let package = Path::new(env!("CARGO_MANIFEST_DIR"));
     let timeread = match std::env::var_os("TIMEREAD") {
@@ -78,11 +79,15 @@ pub fn rows() {
     let recording = scratch.join("recording");
     let made = make_recording(&recording).and_then(|()| {
         let own = std::env::current_exe()?;
-        let programs = [
+        let mut programs = vec![
             (program("cat", PathBuf::from("cat"), &[]), false),
             (program("timeread", timeread, &[]), true),
             (program("plain Rust", own, &["--timeread"]), true),
         ];
+        if let Some(before) = std::env::var_os("TIMEREAD_BEFORE") {
+            let before = PathBuf::from(before);
+            programs.push((program("timeread before", before, &[]), true));
+        }
         command_rows(&programs, &recording, &scratch)
     });
     let _ = fs::remove_file(&recording);
@@ -122,7 +127,7 @@ pub fn plain_timeread() -> io::Result<()> {
         expression: first[1].wrapping_sub(b'0'),
     };
     let mut reader =
-        Reader::fresh(format).map_err(|refusal| io::Error::other(format!("{refusal:?}")))?;
+        Reader::fresh(format, 2).map_err(|refusal| io::Error::other(format!("{refusal:?}")))?;
     let mut buffer = vec![0; 65536];
     let (mut elements, mut reports) = (0u64, 0u64);
     loop {

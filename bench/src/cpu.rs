@@ -21,6 +21,16 @@ extern "C" {
     fn getrusage(who: i32, usage: *mut Usage) -> i32;
 }
 
+/// The processor's name as the kernel gives it.
+pub fn model() -> String {
+    let text = std::fs::read_to_string("/proc/cpuinfo").unwrap_or_default();
+    let named = text.lines().find_map(|line| {
+        let (key, value) = line.split_once(':')?;
+        (key.trim() == "model name").then(|| value.trim().to_string())
+    });
+    named.unwrap_or_else(|| "an unnamed processor".to_string())
+}
+
 /// CPU time that this process used so far, in seconds.
 pub fn own() -> f64 {
     let mut time = Timespec {

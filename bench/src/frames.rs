@@ -1,25 +1,10 @@
 //! Write over a million frames of G1 in succession: the library, and an earlier one where it is linked, beside Rust.
 
-#[cfg(before)]
-use crate::plain::Format;
+use crate::before::BEFORE;
 use crate::plain::{self, Time};
-use crate::{compare, format, random, tuned, write_with};
+use crate::{compare, format, random, tuned, write_rust, write_with, Write};
 
 const FRAMES: usize = 1_000_000;
-
-#[cfg(before)]
-extern "C" {
-    /// `duskveyra_write` of the library in DUSKVEYRA_BEFORE, under the name that build.rs gives it.
-    fn before_write(
-        letter: u8,
-        expression: u8,
-        day: u16,
-        hundredths: u32,
-        control: u64,
-        frame: *mut u8,
-        frame_length: usize,
-    ) -> u8;
-}
 
 /// Times in succession over a midnight, each with a control word of 36 bits.
 fn times() -> Vec<(Time, u64)> {
@@ -34,26 +19,6 @@ fn times() -> Vec<(Time, u64)> {
         .collect()
 }
 
-/// Write of the library in DUSKVEYRA_BEFORE.
-#[cfg(before)]
-fn write_before(g: Format, time: Time, control: u64, frame: &mut [u8]) -> bool {
-    let Time { day, hundredths } = time;
-    let (bytes, length) = (frame.as_mut_ptr(), frame.len());
-    // SAFETY: the pointer and the length are those of one slice.
-    let refused = unsafe {
-        before_write(
-            g.letter,
-            g.expression,
-            day,
-            hundredths,
-            control,
-            bytes,
-            length,
-        )
-    };
-    refused == 0
-}
-
 /// All sides in the same rounds: each ratio is of two times within one round.
 pub fn rows() {
     let g = format(b'G', 1);
@@ -64,39 +29,36 @@ pub fn rows() {
             duskveyra::write(g, time, control, frame).is_ok()
         })
     };
-    let plain = |all| {
-        write_with(&times, all, 100, |time, control, frame| {
-            plain::write(g, time, control, frame).is_ok()
-        })
-    };
-    let tuned = |all| {
-        write_with(&times, all, 100, |time, control, frame| {
-            tuned::write(g, time, control, frame).is_ok()
-        })
-    };
-    #[cfg(before)]
-    let before = |all| {
-        write_with(&times, all, 100, |time, control, frame| {
-            write_before(g, time, control, frame)
-        })
-    };
-    #[cfg(before)]
-    assert!(before(true) == now(true));
-    assert!(now(true) == plain(true) && now(true) == tuned(true));
+    let rust = |all, write: Write| write_rust(g, &times, all, 100, write);
+    let before = BEFORE.map(|before| {
+        let times = &times;
+        move |all| {
+            write_with(times, all, 100, |time, control, frame| {
+                (before.write)(g, time, control, frame)
+            })
+        }
+    });
+    assert!(now(true) == rust(true, plain::write) && now(true) == rust(true, tuned::write));
+    assert!(before
+        .as_ref()
+        .is_none_or(|before| before(true) == now(true)));
     let sides = compare(
         FRAMES,
         &[
-            &|| now(false),
-            &|| plain(false),
-            &|| tuned(false),
-            #[cfg(before)]
-            &|| before(false),
+            Some(&|| now(false)),
+            Some(&|| rust(false, plain::write)),
+            Some(&|| rust(false, tuned::write)),
+            before
+                .as_ref()
+                .map(|before| move || before(false))
+                .as_ref()
+                .map(|work| work as _),
         ],
     );
     println!("\n| write, a million frames of G1 | ns per frame | library / this |");
     println!("|---|---:|---:|");
     let names = ["library", "plain Rust", "tuned Rust", "library before"];
-    for (name, side) in names.iter().zip(sides) {
+    for (name, side) in names.iter().zip(sides.into_iter().flatten()) {
         println!("| {name} | {:.2} | {:.2} |", side.time, side.ratio);
     }
 }

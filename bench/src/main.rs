@@ -1,23 +1,24 @@
-//! Times the library against plain Rust in one run and prints one table: medians of interleaved runs, CPU time.
+//! Times the library against Rust and an earlier library in one run and prints tables: medians of interleaved runs, CPU
+//! time.
 
-mod blocks;
+mod before;
 mod commands;
 mod cpu;
 mod frames;
 mod plain;
+mod streams;
 mod tuned;
 
-use duskveyra::sys;
 use plain::{Format, Time};
 use std::cell::RefCell;
 use std::hint::black_box;
+use streams::{feed, STREAM};
 
 const RUNS: usize = 9;
 /// CPU time that one run takes at least, in seconds.
 const LONG_ENOUGH: f64 = 0.04;
 /// Frames, times and pulses that a run goes through again and again.
 const PREPARED: usize = 256;
-const STREAM: usize = 1_000_000;
 
 /// What is timed: it does its whole work once and returns something that depends on all of it.
 type Work<'a> = &'a dyn Fn() -> u64;
@@ -57,38 +58,47 @@ struct Side {
     ratio: f64,
 }
 
-/// Times the sides by turns. A ratio is taken within a round, where other work on the machine slows both sides alike.
-fn compare(items: usize, sides: &[Work]) -> Vec<Side> {
-    let answer = sides[0]();
-    for side in sides {
+/// Times the sides by turns, the library first; a side may be missing. A ratio is taken within a round, where other work on
+/// the machine slows all sides alike.
+fn compare(items: usize, sides: &[Option<Work>]) -> Vec<Option<Side>> {
+    let there: Vec<Work> = sides.iter().flatten().copied().collect();
+    let answer = there[0]();
+    for side in &there {
         assert_eq!(side(), answer, "the sides must agree before they are timed");
     }
-    let turns: Vec<usize> = sides.iter().map(|side| turns_for(side)).collect();
+    let turns: Vec<usize> = there.iter().map(|side| turns_for(side)).collect();
     let rounds: Vec<Vec<f64>> = (0..RUNS)
         .map(|_| {
-            let sides = sides.iter().zip(&turns);
+            let sides = there.iter().zip(&turns);
             sides.map(|(side, &turns)| one_run(side, turns)).collect()
         })
         .collect();
-    (0..sides.len())
-        .map(|side| Side {
-            time: median(rounds.iter().map(|round| round[side]).collect()) * 1e9 / items as f64,
-            ratio: median(rounds.iter().map(|round| round[0] / round[side]).collect()),
-        })
+    let mut timed = (0..there.len()).map(|side| Side {
+        time: median(rounds.iter().map(|round| round[side]).collect()) * 1e9 / items as f64,
+        ratio: median(rounds.iter().map(|round| round[0] / round[side]).collect()),
+    });
+    sides
+        .iter()
+        .map(|side| side.and_then(|_| timed.next()))
         .collect()
 }
 
 fn heading(title: &str) {
-    println!("\n| {title} | ns per | library | plain Rust | library / plain | tuned Rust | library / tuned |");
-    println!("|---|---|---:|---:|---:|---:|---:|");
+    print!("\n| {title} | ns per | library |");
+    for other in ["plain", "tuned"] {
+        print!(" {other} Rust | library / {other} |");
+    }
+    println!(" library before | library / before |");
+    println!("|---|---|---:|---:|---:|---:|---:|---:|---:|");
 }
 
-fn row(name: &str, unit: &str, sides: Vec<Side>) {
-    print!("| {name} | {unit} | {:.2} |", sides[0].time);
-    for other in 1..3 {
+fn row(name: &str, unit: &str, sides: Vec<Option<Side>>) {
+    print!("| {name} | {unit} |");
+    for other in 0..4 {
         match sides.get(other) {
-            Some(side) => print!(" {:.2} | {:.2} |", side.time, side.ratio),
-            None => print!(" | |"),
+            Some(Some(side)) if other == 0 => print!(" {:.2} |", side.time),
+            Some(Some(side)) => print!(" {:.2} | {:.2} |", side.time, side.ratio),
+            _ => print!(" | |"),
         }
     }
     println!();
@@ -133,68 +143,6 @@ fn mix(sum: u64, number: u64) -> u64 {
         .rotate_left(29)
 }
 
-fn feed_library(format: Format, symbols: &[u8]) -> u64 {
-    let mut reader = [0; 10];
-    let (mut reported, mut day, mut hundredths, mut control) = (0, 0, 0, 0);
-    let mut sum = 0;
-    // SAFETY: every pointer points to a local of its own.
-    unsafe {
-        sys::duskveyra_fresh(format.letter, format.expression, &mut reader);
-        for &symbol in symbols {
-            let refused = sys::duskveyra_feed(
-                &mut reader,
-                symbol,
-                &mut reported,
-                &mut day,
-                &mut hundredths,
-                &mut control,
-            );
-            if refused == 0 && reported != 0 {
-                sum = mix(sum, u64::from(day) << 32 | u64::from(hundredths));
-                sum = mix(sum, control);
-            }
-        }
-    }
-    sum
-}
-
-fn feed_plain(format: Format, symbols: &[u8]) -> u64 {
-    let mut reader = plain::Reader::fresh(format).expect("a format");
-    feed_with(symbols, |symbol| reader.feed(symbol))
-}
-
-fn feed_tuned(format: Format, symbols: &[u8]) -> u64 {
-    let mut reader = tuned::Reader::fresh(format).expect("a format");
-    feed_with(symbols, |symbol| reader.feed(symbol))
-}
-
-/// What both Rust sides do with an answer, as `feed_library` does.
-#[inline]
-fn feed_with(
-    symbols: &[u8],
-    mut feed: impl FnMut(u8) -> Result<Option<(Time, u64)>, plain::Refusal>,
-) -> u64 {
-    let mut sum = 0;
-    for &symbol in symbols {
-        if let Ok(Some((time, control))) = feed(symbol) {
-            sum = mix(sum, u64::from(time.day) << 32 | u64::from(time.hundredths));
-            sum = mix(sum, control);
-        }
-    }
-    sum
-}
-
-fn feed(format: Format, symbols: &[u8]) -> Vec<Side> {
-    compare(
-        symbols.len(),
-        &[
-            &|| feed_library(format, symbols),
-            &|| feed_plain(format, symbols),
-            &|| feed_tuned(format, symbols),
-        ],
-    )
-}
-
 /// Writes every prepared time into one frame; the sum is over one element of each, or over all of them.
 #[inline]
 fn write_with(
@@ -218,7 +166,17 @@ fn write_with(
     sum
 }
 
-fn write(format: Format) -> Vec<Side> {
+type Write = fn(Format, Time, u64, &mut [u8]) -> Result<(), plain::Refusal>;
+
+/// Rust's Write, called through a pointer that the optimiser cannot see behind, as the library's is.
+fn write_rust(format: Format, prepared: &[(Time, u64)], all: bool, n: usize, write: Write) -> u64 {
+    let write = black_box(write);
+    write_with(prepared, all, n, |time, control, frame| {
+        write(format, time, control, frame).is_ok()
+    })
+}
+
+fn write(format: Format) -> Vec<Option<Side>> {
     let (n, interval, bits) = table(format);
     let mut state = 7;
     let prepared: Vec<(Time, u64)> = (0..PREPARED)
@@ -236,20 +194,16 @@ fn write(format: Format) -> Vec<Side> {
             duskveyra::write(library_format(format), library_time(time), control, frame).is_ok()
         })
     };
-    let plain = |all| {
-        write_with(&prepared, all, n, |time, control, frame| {
-            plain::write(format, time, control, frame).is_ok()
-        })
-    };
-    let tuned = |all| {
-        write_with(&prepared, all, n, |time, control, frame| {
-            tuned::write(format, time, control, frame).is_ok()
-        })
-    };
-    assert!(library(true) == plain(true) && library(true) == tuned(true));
+    let rust = |all, write: Write| write_rust(format, &prepared, all, n, write);
+    assert!(library(true) == rust(true, plain::write));
+    assert!(library(true) == rust(true, tuned::write));
     compare(
         PREPARED,
-        &[&|| library(false), &|| plain(false), &|| tuned(false)],
+        &[
+            Some(&|| library(false)),
+            Some(&|| rust(false, plain::write)),
+            Some(&|| rust(false, tuned::write)),
+        ],
     )
 }
 
@@ -270,8 +224,10 @@ fn read_with(
         })
 }
 
+type Read = fn(Format, &[u8]) -> Result<(Time, u64), plain::Refusal>;
+
 /// Reads prepared frames; with `spoiled` that element of each is spoiled, so that it is refused with 6.
-fn read(format: Format, spoiled: Option<usize>) -> Vec<Side> {
+fn read(format: Format, spoiled: Option<usize>) -> Vec<Option<Side>> {
     let (n, _, _) = table(format);
     let mut frames = stream(format, PREPARED * n);
     if let Some(index) = spoiled {
@@ -290,28 +246,34 @@ fn read(format: Format, spoiled: Option<usize>) -> Vec<Side> {
         Err(duskveyra::Refusal::InvalidElement(index)) => Err(plain::Refusal::Element(index)),
         Err(_) => Err(plain::Refusal::Reader),
     };
+    let rust = |read: Read| {
+        let read = black_box(read);
+        read_with(&frames, n, |frame| read(format, frame))
+    };
     compare(
         PREPARED,
         &[
-            &|| read_with(&frames, n, library),
-            &|| read_with(&frames, n, |frame| plain::read(format, frame)),
-            &|| read_with(&frames, n, |frame| tuned::read(format, frame)),
+            Some(&|| read_with(&frames, n, library)),
+            Some(&|| rust(plain::read)),
+            Some(&|| rust(tuned::read)),
         ],
     )
 }
 
-fn scan(format: Format, recording: &[u8]) -> Vec<Side> {
+fn scan(format: Format, recording: &[u8]) -> Vec<Option<Side>> {
     compare(
         recording.len(),
         &[
-            &|| match duskveyra::scan(library_format(format), recording, 0) {
-                Ok(Some(found)) => found.at as u64,
+            Some(
+                &|| match duskveyra::scan(library_format(format), recording, 0) {
+                    Ok(Some(found)) => found.start as u64,
+                    _ => 0,
+                },
+            ),
+            Some(&|| match plain::scan(format, recording, 0) {
+                Ok(Some((start, _, _))) => start as u64,
                 _ => 0,
-            },
-            &|| match plain::scan(format, recording, 0) {
-                Ok(Some((at, _, _))) => at as u64,
-                _ => 0,
-            },
+            }),
         ],
     )
 }
@@ -339,19 +301,21 @@ fn classify_with(widths: &[u32], periods: &[u32], classify: impl Fn(u32, u32) ->
     })
 }
 
-fn classify() -> Vec<Side> {
+fn classify() -> Vec<Option<Side>> {
     let (widths, periods) = pulses();
     let library = |width, period| duskveyra::classify(black_box(1_000), width, period).unwrap_or(9);
-    let plain = |width, period| plain::classify(black_box(1_000), width, period).unwrap_or(9);
+    let classify = black_box(plain::classify as fn(u32, u32, u32) -> Result<u8, plain::Refusal>);
+    let plain = |width, period| classify(black_box(1_000), width, period).unwrap_or(9);
     compare(
         widths.len(),
-        &[&|| classify_with(&widths, &periods, library), &|| {
-            classify_with(&widths, &periods, plain)
-        }],
+        &[
+            Some(&|| classify_with(&widths, &periods, library)),
+            Some(&|| classify_with(&widths, &periods, plain)),
+        ],
     )
 }
 
-fn classify_list() -> Vec<Side> {
+fn classify_list() -> Vec<Option<Side>> {
     let (widths, periods) = pulses();
     let (mut one, mut other) = (vec![9; widths.len()], vec![8; widths.len()]);
     let library = duskveyra::classify_list(1_000, &widths, &periods, &mut one);
@@ -361,17 +325,17 @@ fn classify_list() -> Vec<Side> {
     compare(
         widths.len(),
         &[
-            &|| {
+            Some(&|| {
                 let mut symbols = lent.borrow_mut();
                 let done =
                     duskveyra::classify_list(black_box(1_000), &widths, &periods, &mut symbols);
                 u64::from(done.is_ok()) + u64::from(black_box(&symbols)[17])
-            },
-            &|| {
+            }),
+            Some(&|| {
                 let mut symbols = lent.borrow_mut();
                 let done = plain::classify_list(black_box(1_000), &widths, &periods, &mut symbols);
                 u64::from(done.is_ok()) + u64::from(black_box(&symbols)[17])
-            },
+            }),
         ],
     )
 }
@@ -394,40 +358,23 @@ fn library_time(time: Time) -> duskveyra::Time {
     }
 }
 
-fn block_tables() {
-    blocks::rows("B0", format(b'B', 0));
-    blocks::rows("H1", format(b'H', 1));
-}
-
-fn main() {
-    let argument = std::env::args().nth(1);
-    match argument.as_deref() {
-        Some("--timeread") => {
-            commands::plain_timeread().expect("a recording on standard input");
-            return;
-        }
-        Some("commands") => return commands::rows(),
-        Some("blocks") => return block_tables(),
-        _ => {}
-    }
-    if argument.as_deref() == Some("frames") {
-        frames::rows();
-        return;
-    }
-    let formats = [
+/// The formats of the tables, each with its last element that is a bit.
+fn formats() -> [(&'static str, Format, usize); 3] {
+    [
         ("B0", format(b'B', 0), 97),
         ("G1", format(b'G', 1), 98),
         ("H1", format(b'H', 1), 58),
-    ];
-    println!("Nanoseconds of CPU time, medians of {RUNS} runs, the sides by turns; buffers warm and reused.");
-    heading("call");
-    for (name, format, _) in formats {
+    ]
+}
+
+fn frame_rows() {
+    for (name, format, _) in formats() {
         row(&format!("write {name}"), "frame", write(format));
     }
-    for (name, format, _) in formats {
+    for (name, format, _) in formats() {
         row(&format!("read {name}"), "frame", read(format, None));
     }
-    for (name, format, last) in formats {
+    for (name, format, last) in formats() {
         let refused = read(format, Some(last));
         row(
             &format!("read {name}, refused at element {last}"),
@@ -435,11 +382,23 @@ fn main() {
             refused,
         );
     }
-    for (name, format, _) in formats {
+}
+
+fn feed_rows() {
+    for (name, format, _) in formats() {
         let symbols = stream(format, STREAM);
-        row(&format!("feed {name}"), "symbol", feed(format, &symbols));
+        for setting in [2, 5] {
+            row(
+                &format!("feed {name}, setting {setting}"),
+                "symbol",
+                feed(format, setting, &symbols),
+            );
+        }
     }
-    for (name, format, last) in formats {
+}
+
+fn scan_rows() {
+    for (name, format, last) in formats() {
         let (n, _, _) = table(format);
         let mut recording = stream(format, 1_000 * n);
         for frame in recording.chunks_exact_mut(n) {
@@ -457,48 +416,55 @@ fn main() {
             scan(format, &recording),
         );
     }
+}
+
+fn call_table() {
+    heading("call");
+    frame_rows();
+    feed_rows();
+    scan_rows();
     row("classify", "pulse", classify());
     row("classify_list, 4,096 pulses", "pulse", classify_list());
-    frames::rows();
+}
 
-    heading("feed B0 by length of the stream");
-    let symbols = stream(format(b'B', 0), 10_000_000);
+fn length_table() {
+    heading("feed B0 by length of the stream, setting 2");
+    let b0 = format(b'B', 0);
+    let symbols = stream(b0, 10_000_000);
     for length in [10_000, 100_000, 1_000_000, 10_000_000] {
         row(
             &format!("{length} symbols"),
             "symbol",
-            feed(format(b'B', 0), &symbols[..length]),
+            feed(b0, 2, &symbols[..length]),
         );
     }
+}
 
-    block_tables();
+fn stream_tables() {
+    streams::rows("B0", format(b'B', 0));
+    streams::rows("H1", format(b'H', 1));
+}
 
-    heading("feed by kind of stream, 1,000,000 symbols");
-    for (name, format, _) in [formats[0], formats[2]] {
-        let kinds = [
-            ("frames in succession", stream(format, STREAM)),
-            ("marks only", vec![2; STREAM]),
-            ("spoiled only", vec![3; STREAM]),
-            (
-                "mark and zero by turns",
-                (0..STREAM).map(|i| (i % 2 * 2) as u8).collect(),
-            ),
-            ("every frame spoiled at its end", {
-                let mut symbols = stream(format, STREAM);
-                let n = table(format).0;
-                for frame in symbols.chunks_mut(n).filter(|frame| frame.len() == n) {
-                    frame[n - 2] = 3;
-                }
-                symbols
-            }),
-            ("random symbols", {
-                let mut state = 5;
-                (0..STREAM).map(|_| random(&mut state) as u8 & 3).collect()
-            }),
-        ];
-        for (kind, symbols) in kinds {
-            row(&format!("{name}, {kind}"), "symbol", feed(format, &symbols));
+fn main() {
+    let argument = std::env::args().nth(1);
+    if argument.as_deref() == Some("--timeread") {
+        commands::plain_timeread().expect("a recording on standard input");
+        return;
+    }
+    println!(
+        "Nanoseconds of CPU time on {}, medians of {RUNS} runs, the sides by turns; buffers warm and reused.",
+        cpu::model()
+    );
+    match argument.as_deref() {
+        Some("commands") => commands::rows(),
+        Some("streams") => stream_tables(),
+        Some("frames") => frames::rows(),
+        _ => {
+            call_table();
+            frames::rows();
+            length_table();
+            stream_tables();
+            commands::rows();
         }
     }
-    commands::rows();
 }

@@ -1,14 +1,17 @@
-//! The plain Rust side of the benchmark: the crate `reference`, with the reader's answer as the binding gives it.
+//! The plain Rust side of the benchmark: the crate `reference`, with the reader's answers as the binding gives them.
 
 pub use reference::{
     classify, classify_list, next_after, read, scan, step, write, Format, Refusal, Time, USUAL_DAY,
 };
 
+/// A report of a block: the index of the symbol that brought it, the time and the control word.
+pub type Record = (usize, Time, u64);
+
 pub struct Reader(reference::Reader);
 
 impl Reader {
-    pub fn fresh(format: Format) -> Result<Reader, Refusal> {
-        reference::Reader::fresh(format).map(Reader)
+    pub fn fresh(format: Format, setting: u8) -> Result<Reader, Refusal> {
+        reference::Reader::fresh(format, setting).map(Reader)
     }
 
     #[inline]
@@ -18,5 +21,13 @@ impl Reader {
             reference::Answer::Report(time, control) => Ok(Some((time, control))),
             reference::Answer::Refused(refusal) => Err(refusal),
         }
+    }
+
+    /// How many reports a block brought.
+    #[inline]
+    pub fn feed_block(&mut self, symbols: &[u8], records: &mut [Record]) -> usize {
+        self.0
+            .feed_block(symbols, records)
+            .map_or(0, |block| block.reports)
     }
 }

@@ -244,18 +244,25 @@ const HELD: usize = 4096;
 pub struct Reader {
     format: Format,
     layout: &'static Layout,
+    /// k frames of n elements.
+    frames: usize,
     held: [u8; HELD],
     end: usize,
 }
 
 impl Reader {
-    pub fn fresh(format: Format) -> Result<Reader, Refusal> {
+    pub fn fresh(format: Format, setting: u8) -> Result<Reader, Refusal> {
         let layout = layout_of(format)?;
+        if !(2..=5).contains(&setting) {
+            return Err(Refusal::Setting);
+        }
+        let frames = usize::from(setting) * layout.n;
         Ok(Reader {
             format,
             layout,
+            frames,
             held: [3; HELD],
-            end: 2 * layout.n + 1,
+            end: frames + 1,
         })
     }
 
@@ -265,9 +272,8 @@ impl Reader {
             return Err(Refusal::Symbol);
         }
         if self.end == HELD {
-            let kept = 2 * self.layout.n;
-            self.held.copy_within(HELD - kept.., 0);
-            self.end = kept;
+            self.held.copy_within(HELD - self.frames.., 0);
+            self.end = self.frames;
         }
         self.held[self.end] = symbol;
         self.end += 1;
@@ -279,13 +285,19 @@ impl Reader {
 
     fn window(&self) -> Option<(Time, u64)> {
         let n = self.layout.n;
-        let window = &self.held[self.end - 2 * n - 1..self.end];
+        let window = &self.held[self.end - self.frames - 1..self.end];
         let marked = window[0] == 2 && window[1] == 2 && window[n] == 2 && window[n + 1] == 2;
-        if !marked || window[2 * n - 1] == 2 {
+        if !marked || window[self.frames - 1] == 2 {
             return None;
         }
-        let (first, _) = decode(self.layout, &window[1..=n]).ok()?;
-        let (second, control) = decode(self.layout, &window[n + 1..]).ok()?;
-        next_after(self.format, first, second).then_some((second, control))
+        let mut last = decode(self.layout, &window[1..=n]).ok()?;
+        for frame in window[n + 1..].chunks_exact(n) {
+            let next = decode(self.layout, frame).ok()?;
+            if !next_after(self.format, last.0, next.0) {
+                return None;
+            }
+            last = next;
+        }
+        Some(last)
     }
 }

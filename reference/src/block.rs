@@ -32,26 +32,27 @@ impl Reader {
     ) -> Result<Block, Refusal> {
         let mut reports = 0;
         for (taken, &symbol) in symbols.iter().enumerate() {
-            let mut next = self.clone();
-            let stop = match next.feed(symbol) {
-                Answer::Quiet => None,
-                Answer::Refused(Refusal::Symbol) => Some(Stop::UnknownSymbol),
-                Answer::Refused(refusal) => return Err(refusal),
-                Answer::Report(..) if reports == records.len() => Some(Stop::NoRoom),
-                Answer::Report(time, control) => {
+            // Only with the records full can a report be one too many.
+            let before = (reports == records.len()).then(|| self.clone());
+            let stop = match (self.feed(symbol), before) {
+                (Answer::Quiet, _) => continue,
+                (Answer::Report(time, control), None) => {
                     records[reports] = (taken, time, control);
                     reports += 1;
-                    None
+                    continue;
                 }
+                (Answer::Report(..), Some(before)) => {
+                    *self = before;
+                    Stop::NoRoom
+                }
+                (Answer::Refused(Refusal::Symbol), _) => Stop::UnknownSymbol,
+                (Answer::Refused(refusal), _) => return Err(refusal),
             };
-            if let Some(stop) = stop {
-                return Ok(Block {
-                    taken,
-                    reports,
-                    stop,
-                });
-            }
-            *self = next;
+            return Ok(Block {
+                taken,
+                reports,
+                stop,
+            });
         }
         Ok(Block {
             taken: symbols.len(),

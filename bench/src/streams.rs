@@ -1,0 +1,207 @@
+//! Streams of every kind, fed singly and in blocks: the library, Rust and an earlier library by turns.
+
+use crate::before::BEFORE;
+use crate::plain::{self, Format, Refusal, Time};
+use crate::{compare, library_format, mix, random, row, stream, table, tuned, Side};
+use duskveyra::{sys, READER_WORDS};
+use std::hint::black_box;
+
+pub const STREAM: usize = 1_000_000;
+
+/// Reports that a block has room for.
+pub const ROOM: usize = 128;
+
+const BLOCKS: [(&str, usize); 4] = [("1", 1), ("8", 8), ("256", 256), ("4,096", 4_096)];
+
+/// What every side does with a report.
+#[inline]
+pub fn with_report(sum: u64, day: u16, hundredths: u32, control: u64) -> u64 {
+    mix(
+        mix(sum, u64::from(day) << 32 | u64::from(hundredths)),
+        control,
+    )
+}
+
+fn fresh(format: Format, setting: u8) -> [u64; READER_WORDS] {
+    let mut reader = [0; READER_WORDS];
+    // SAFETY: the pointer points to a local of as many words as the library's reader has.
+    let made =
+        unsafe { sys::duskveyra_fresh(library_format(format), black_box(setting), &mut reader) };
+    assert_eq!(made.number, 0);
+    reader
+}
+
+fn feed_library(format: Format, setting: u8, symbols: &[u8]) -> u64 {
+    let mut reader = fresh(format, setting);
+    let mut sum = 0;
+    for &symbol in symbols {
+        // SAFETY: the pointer points to a local.
+        let fed = unsafe { sys::duskveyra_feed(&mut reader, symbol) };
+        if fed.reported != 0 {
+            sum = with_report(sum, fed.time.day, fed.time.hundredths, fed.control);
+        }
+    }
+    sum
+}
+
+/// Rust's feed, called through a pointer that the optimiser cannot see behind, as the library's is.
+fn feed_rust<R>(
+    mut reader: R,
+    symbols: &[u8],
+    feed: fn(&mut R, u8) -> Result<Option<(Time, u64)>, Refusal>,
+) -> u64 {
+    let feed = black_box(feed);
+    let mut sum = 0;
+    for &symbol in symbols {
+        if let Ok(Some((time, control))) = feed(&mut reader, symbol) {
+            sum = with_report(sum, time.day, time.hundredths, control);
+        }
+    }
+    sum
+}
+
+fn feed_plain(format: Format, setting: u8, symbols: &[u8]) -> u64 {
+    let reader = plain::Reader::fresh(format, black_box(setting)).expect("a format and a setting");
+    feed_rust(reader, symbols, plain::Reader::feed)
+}
+
+fn feed_tuned(format: Format, setting: u8, symbols: &[u8]) -> u64 {
+    let reader = tuned::Reader::fresh(format, black_box(setting)).expect("a format and a setting");
+    feed_rust(reader, symbols, tuned::Reader::feed)
+}
+
+/// Single feeds with a setting; the earlier library has 2 alone.
+pub fn feed(format: Format, setting: u8, symbols: &[u8]) -> Vec<Option<Side>> {
+    let before = BEFORE.filter(|_| setting == 2);
+    compare(
+        symbols.len(),
+        &[
+            Some(&|| feed_library(format, setting, symbols)),
+            Some(&|| feed_plain(format, setting, symbols)),
+            Some(&|| feed_tuned(format, setting, symbols)),
+            before
+                .map(|before| move || (before.feed)(format, symbols))
+                .as_ref()
+                .map(|work| work as _),
+        ],
+    )
+}
+
+/// The whole stream in blocks of one size, with the same sum over its reports as single feeds give; `at` is told the
+/// index in the stream of each symbol that brings one.
+fn blocks_library(format: Format, symbols: &[u8], size: usize, mut at: impl FnMut(usize)) -> u64 {
+    let mut reader = fresh(format, 2);
+    let (mut indexes, mut days) = ([0; ROOM], [0; ROOM]);
+    let (mut hundredths, mut controls) = ([0; ROOM], [0; ROOM]);
+    let (mut start, mut sum) = (0, 0);
+    for block in symbols.chunks(size) {
+        // SAFETY: every pointer points to a local of its own, or with its length to one slice.
+        let fed = unsafe {
+            sys::duskveyra_feed_block(
+                &mut reader,
+                block.as_ptr(),
+                block.len(),
+                indexes.as_mut_ptr(),
+                ROOM,
+                days.as_mut_ptr(),
+                ROOM,
+                hundredths.as_mut_ptr(),
+                ROOM,
+                controls.as_mut_ptr(),
+                ROOM,
+            )
+        };
+        for report in 0..fed.reports {
+            at(start + indexes[report]);
+            sum = with_report(sum, days[report], hundredths[report], controls[report]);
+        }
+        start += block.len();
+    }
+    sum
+}
+
+/// The same in plain Rust.
+fn blocks_plain(format: Format, symbols: &[u8], size: usize, mut at: impl FnMut(usize)) -> u64 {
+    let mut reader = plain::Reader::fresh(format, black_box(2)).expect("a format and a setting");
+    let feed_block = black_box(
+        plain::Reader::feed_block as fn(&mut plain::Reader, &[u8], &mut [plain::Record]) -> usize,
+    );
+    let empty = Time {
+        day: 0,
+        hundredths: 0,
+    };
+    let mut records = [(0, empty, 0); ROOM];
+    let (mut start, mut sum) = (0, 0);
+    for block in symbols.chunks(size) {
+        let reports = feed_block(&mut reader, block, &mut records);
+        for &(index, time, control) in &records[..reports] {
+            at(start + index);
+            sum = with_report(sum, time.day, time.hundredths, control);
+        }
+        start += block.len();
+    }
+    sum
+}
+
+fn feed_blocks(format: Format, symbols: &[u8], size: usize) -> Vec<Option<Side>> {
+    let (mut by_library, mut by_plain) = (Vec::new(), Vec::new());
+    blocks_library(format, symbols, size, |at| by_library.push(at));
+    blocks_plain(format, symbols, size, |at| by_plain.push(at));
+    assert!(by_library == by_plain, "the indexes must agree too");
+    let read = |at| {
+        black_box(at);
+    };
+    compare(
+        symbols.len(),
+        &[
+            Some(&|| blocks_library(format, symbols, size, read)),
+            Some(&|| blocks_plain(format, symbols, size, read)),
+            None,
+            BEFORE
+                .map(|before| move || (before.feed_blocks)(format, symbols, size))
+                .as_ref()
+                .map(|work| work as _),
+        ],
+    )
+}
+
+fn kinds(format: Format) -> [(&'static str, Vec<u8>); 6] {
+    let n = table(format).0;
+    let mut spoiled = stream(format, STREAM);
+    for frame in spoiled.chunks_exact_mut(n) {
+        frame[n - 2] = 3;
+    }
+    let mut state = 5;
+    let by_chance = (0..STREAM).map(|_| random(&mut state) as u8 & 3);
+    [
+        ("frames in succession", stream(format, STREAM)),
+        ("marks only", vec![2; STREAM]),
+        (
+            "mark and zero by turns",
+            (0..STREAM).map(|i| (i % 2 * 2) as u8).collect(),
+        ),
+        ("spoiled only", vec![3; STREAM]),
+        ("every frame spoiled at its end", spoiled),
+        ("random symbols", by_chance.collect()),
+    ]
+}
+
+pub fn rows(name: &str, format: Format) {
+    crate::heading(&format!("{name}, 1,000,000 symbols"));
+    for (kind, symbols) in kinds(format) {
+        for setting in [2, 5] {
+            row(
+                &format!("{kind}, single feeds, setting {setting}"),
+                "symbol",
+                feed(format, setting, &symbols),
+            );
+        }
+        for (number, size) in BLOCKS {
+            row(
+                &format!("{kind}, blocks of {number}"),
+                "symbol",
+                feed_blocks(format, &symbols, size),
+            );
+        }
+    }
+}
