@@ -22,23 +22,17 @@ pub fn with_report(sum: u64, day: u16, hundredths: u32, control: u64) -> u64 {
     )
 }
 
-fn fresh(format: Format, setting: u8) -> [u64; READER_WORDS] {
-    let mut reader = [0; READER_WORDS];
-    // SAFETY: the pointer points to a local of as many words as the library's reader has.
-    let made =
-        unsafe { sys::duskveyra_fresh(library_format(format), black_box(setting), &mut reader) };
-    assert_eq!(made.number, 0);
-    reader
-}
-
 fn feed_library(format: Format, setting: u8, symbols: &[u8]) -> u64 {
-    let mut reader = fresh(format, setting);
+    let mut reader = [0; READER_WORDS];
     let mut sum = 0;
-    for &symbol in symbols {
-        // SAFETY: the pointer points to a local.
-        let fed = unsafe { sys::duskveyra_feed(&mut reader, symbol) };
-        if fed.reported != 0 {
-            sum = with_report(sum, fed.time.day, fed.time.hundredths, fed.control);
+    // SAFETY: every pointer points to a local of as many words as the library's reader has.
+    unsafe {
+        sys::duskveyra_fresh(library_format(format), black_box(setting), &mut reader);
+        for &symbol in symbols {
+            let fed = sys::duskveyra_feed(&mut reader, symbol);
+            if fed.reported != 0 {
+                sum = with_report(sum, fed.time.day, fed.time.hundredths, fed.control);
+            }
         }
     }
     sum
@@ -90,27 +84,21 @@ pub fn feed(format: Format, setting: u8, symbols: &[u8]) -> Vec<Option<Side>> {
 /// The whole stream in blocks of one size, with the same sum over its reports as single feeds give; `at` is told the
 /// index in the stream of each symbol that brings one.
 fn blocks_library(format: Format, symbols: &[u8], size: usize, mut at: impl FnMut(usize)) -> u64 {
-    let mut reader = fresh(format, 2);
+    let (format, setting) = (library_format(format), black_box(2));
+    let mut reader = duskveyra::Reader::fresh(format, setting).expect("a format and a setting");
     let (mut indexes, mut days) = ([0; ROOM], [0; ROOM]);
     let (mut hundredths, mut controls) = ([0; ROOM], [0; ROOM]);
     let (mut start, mut sum) = (0, 0);
     for block in symbols.chunks(size) {
-        // SAFETY: every pointer points to a local of its own, or with its length to one slice.
-        let fed = unsafe {
-            sys::duskveyra_feed_block(
-                &mut reader,
-                block.as_ptr(),
-                block.len(),
-                indexes.as_mut_ptr(),
-                ROOM,
-                days.as_mut_ptr(),
-                ROOM,
-                hundredths.as_mut_ptr(),
-                ROOM,
-                controls.as_mut_ptr(),
-                ROOM,
+        let fed = reader
+            .feed_block(
+                block,
+                &mut indexes,
+                &mut days,
+                &mut hundredths,
+                &mut controls,
             )
-        };
+            .expect("a reader that feeding made");
         for report in 0..fed.reports {
             at(start + indexes[report]);
             sum = with_report(sum, days[report], hundredths[report], controls[report]);
