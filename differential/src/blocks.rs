@@ -1,7 +1,7 @@
 //! Streams in blocks of random sizes with random room: the library's block against its own single Feeds and against
 //! `reference`; and blocks of any reader into lists of any lengths.
 
-use crate::calls::{any_words, refused_reader};
+use crate::calls::{any_words, library_format, refused_reader};
 use crate::random::Random;
 use crate::streams::{format_of, setting, stream, table, FORMATS};
 use crate::{agree, fed, plain_fed, Counts, DAY, HUNDREDTHS, PLACE};
@@ -130,11 +130,7 @@ struct Readers {
 
 impl Readers {
     fn fresh(format: Format, setting: u8) -> Result<Readers, String> {
-        let library_format = duskveyra::Format {
-            letter: format.letter,
-            expression: format.expression,
-        };
-        let block = duskveyra::Reader::fresh(library_format, setting)
+        let block = duskveyra::Reader::fresh(library_format(format), setting)
             .map_err(|refusal| format!("{format:?}: {refusal}"))?;
         Ok(Readers {
             single: block.clone(),

@@ -30,7 +30,7 @@ pub fn run_calls(random: &mut Random, counts: &mut Counts) -> Result<(), String>
     Ok(())
 }
 
-fn library_format(format: Format) -> duskveyra::Format {
+pub fn library_format(format: Format) -> duskveyra::Format {
     duskveyra::Format {
         letter: format.letter,
         expression: format.expression,

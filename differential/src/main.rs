@@ -137,86 +137,107 @@ fn pulse_for(random: &mut Random, symbol: u8) -> (u32, u32, u32) {
     (t, width, period)
 }
 
+/// The readers that receive one stream: the library's, fed symbols and fed pulses, that of `reference`, and the plain
+/// machine's list.
+struct Readers {
+    format: reference::Format,
+    setting: u8,
+    library: duskveyra::Reader,
+    by_pulse: duskveyra::Reader,
+    plain: reference::Reader,
+    list: Vec<u8>,
+}
+
+impl Readers {
+    fn fresh(format: reference::Format, setting: u8) -> Result<Readers, String> {
+        let library = duskveyra::Reader::fresh(calls::library_format(format), setting)
+            .map_err(|refusal| format!("{format:?}, setting {setting}: {refusal}"))?;
+        Ok(Readers {
+            format,
+            setting,
+            by_pulse: library.clone(),
+            library,
+            plain: reference::Reader::fresh(format, setting).expect("a format and a setting"),
+            list: Vec::new(),
+        })
+    }
+
+    fn context(&self, symbol: u8) -> String {
+        let (format, setting) = (self.format, self.setting);
+        let start = self.list.len().saturating_sub(window(format, setting));
+        format!(
+            "{format:?}, setting {setting}, symbol {symbol}, the last kn + 1 with it:\n  {:?}",
+            &self.list[start..]
+        )
+    }
+
+    /// One symbol to all: the answer, where all agree.
+    fn feed(&mut self, symbol: u8) -> Result<Fed, String> {
+        let before = self.library.words();
+        let answer = fed(self.library.feed(symbol));
+        let expected = by_definition(self.format, self.setting, &mut self.list, symbol);
+        let beside = plain_fed(self.plain.feed(symbol));
+        if expected != beside {
+            return Err(format!(
+                "reference's reader differs from the definition: {}\n  definition {expected:?}\n  reader     {beside:?}\n  library    {answer:?}",
+                self.context(symbol)
+            ));
+        }
+        agree(|| self.context(symbol), answer, expected)?;
+        let words = self.library.words();
+        agree(
+            || format!("place: {}", self.context(symbol)),
+            words[PLACE],
+            self.plain.place() as u64,
+        )?;
+        agree(
+            || format!("reader after a refusal: {}", self.context(symbol)),
+            expected.is_ok() || words == before,
+            true,
+        )?;
+        Ok(expected)
+    }
+
+    /// A pulse of the symbol that all others were fed, to the reader that is fed pulses.
+    fn feed_pulse(&mut self, random: &mut Random, symbol: u8, expected: Fed) -> Result<(), String> {
+        let (t, width, period) = pulse_for(random, symbol);
+        let pulse = || format!("pulse T {t}, width {width}, period {period}");
+        let classified = duskveyra::classify(t, width, period).map_err(refused);
+        agree(pulse, classified, Ok(symbol))?;
+        let answer = fed(self.by_pulse.feed_pulse(t, width, period));
+        agree(
+            || format!("{}, {}", pulse(), self.context(symbol)),
+            (answer, self.by_pulse.words()),
+            (expected, self.library.words()),
+        )
+    }
+}
+
 /// One stream through the library's reader, by symbols and by pulses, and through the plain ones.
 fn run_stream(random: &mut Random, counts: &mut Counts) -> Result<(), String> {
     let format = format_of(random.pick(&FORMATS));
     let setting = setting(random);
     let symbols = stream(random, format);
-    let name = format!(
-        "{}{}, setting {setting}",
-        format.letter as char, format.expression
-    );
-    let library_format = duskveyra::Format {
-        letter: format.letter,
-        expression: format.expression,
-    };
-    let Ok(mut library) = duskveyra::Reader::fresh(library_format, setting) else {
-        return Err(format!("format {name}: no fresh reader"));
-    };
-    let mut by_pulse = library.clone();
-    let mut plain = reference::Reader::fresh(format, setting).expect("a format and a setting");
-    let mut list = Vec::new();
+    let mut readers = Readers::fresh(format, setting)?;
     let pulses = random.once_in(4);
     for (position, &symbol) in symbols.iter().enumerate() {
-        let context = |list: &[u8]| {
-            let last = &list[list.len().saturating_sub(window(format, setting))..];
-            format!(
-                "format {name}, position {position}, symbol {symbol}, the last kn + 1 with it:\n  {last:?}"
-            )
-        };
-        let before = library.words();
-        let answer = fed(library.feed(symbol));
-        let expected = by_definition(format, setting, &mut list, symbol);
-        let beside = plain_fed(plain.feed(symbol));
-        if expected != beside {
-            return Err(format!(
-                "reference's reader differs from the definition: {}\n  definition {expected:?}\n  reader     {beside:?}\n  library    {answer:?}",
-                context(&list)
-            ));
-        }
-        agree(|| context(&list), answer, expected)?;
-        let place = library.words()[PLACE];
-        agree(
-            || format!("place: {}", context(&list)),
-            place,
-            plain.place() as u64,
-        )?;
-        match expected {
+        let at = |difference| format!("position {position}: {difference}");
+        let answer = readers.feed(symbol).map_err(at)?;
+        match answer {
             Ok(Some((_, hundredths, _))) => {
                 counts.reports[usize::from(setting) - 2] += 1;
                 counts.added += u64::from(hundredths >= 8_640_000);
             }
             Ok(None) => {}
-            Err(_) => {
-                counts.refused += 1;
-                agree(
-                    || format!("reader after a refusal: {}", context(&list)),
-                    library.words(),
-                    before,
-                )?;
-            }
+            Err(_) => counts.refused += 1,
         }
         counts.symbols += 1;
         if pulses && symbol <= 3 {
-            let (t, width, period) = pulse_for(random, symbol);
-            let classified = duskveyra::classify(t, width, period).map_err(refused);
-            let pulse = || format!("pulse T {t}, width {width}, period {period}");
-            agree(pulse, classified, Ok(symbol))?;
-            let answer = fed(by_pulse.feed_pulse(t, width, period));
-            agree(
-                || format!("{}, {}", pulse(), context(&list)),
-                answer,
-                expected,
-            )?;
-            agree(
-                || format!("reader, {}, {}", pulse(), context(&list)),
-                by_pulse.words(),
-                library.words(),
-            )?;
+            readers.feed_pulse(random, symbol, answer).map_err(at)?;
             counts.calls += 2;
         }
         if random.once_in(1000) {
-            library = duskveyra::Reader::from_words(library.words());
+            readers.library = duskveyra::Reader::from_words(readers.library.words());
         }
     }
     Ok(())
