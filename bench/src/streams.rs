@@ -38,12 +38,10 @@ fn feed_library(format: Format, setting: u8, symbols: &[u8]) -> u64 {
     sum
 }
 
+type Fed = Result<Option<(Time, u64)>, Refusal>;
+
 /// Rust's feed, called through a pointer that the optimiser cannot see behind, as the library's is.
-fn feed_rust<R>(
-    mut reader: R,
-    symbols: &[u8],
-    feed: fn(&mut R, u8) -> Result<Option<(Time, u64)>, Refusal>,
-) -> u64 {
+fn feed_rust<R>(mut reader: R, symbols: &[u8], feed: fn(&mut R, u8) -> Fed) -> u64 {
     let feed = black_box(feed);
     let mut sum = 0;
     for &symbol in symbols {

@@ -443,7 +443,7 @@ pub fn refused_reader(words: &Words) -> Option<u8> {
     let known = FORMATS.iter().find(|&&(letter, expression)| {
         words[0] == u64::from(letter) && words[1] == u64::from(expression)
     });
-    if !known.is_some_and(|&known| words[PLACE] < table(format_of(known)).0 as u64) {
+    if known.is_none_or(|&known| words[PLACE] >= table(format_of(known)).0 as u64) {
         return Some(13);
     }
     (!(2..=5).contains(&words[SETTING])).then_some(26)
