@@ -1,12 +1,12 @@
 -- Where frames may begin in a list of symbols, by index.
-use mathlib.Core.Path.{_≡_, sym, ap, _∙_}
+use mathlib.Core.Path.{_≡_, refl, sym, ap, _∙_}
 use mathlib.Core.Bool.{Bool, true, false, cond}
 use mathlib.Core.List.{List}
 use Prim.Native.Nat.{ℕ, _+_, _-_, _<_, _≤_}
 use native.Mathlib.Omega.{arith}
 use native.Mathlib.Decide.{decLt}
 use borrow.Author.Tests.{leb-true, leb-false}
-use lib.Dec.{leb}
+use lib.Dec.{leb, ltb}
 use lib.ListN.{getD}
 use Rattle.timecode.specs.Laws.Tests.{by-test}
 use Rattle.timecode.specs.declared.Format.{Format}
@@ -38,14 +38,26 @@ pub data CloseOpenings (f : Format) (n : ℕ) (ss : List ℕ) (from : ℕ) : ℕ
   start : CloseOpenings f n ss from from
   later : (before last : ℕ) → CloseOpenings f n ss from before → before < last → last < before + n → opensAt f ss last ≡ true → CloseOpenings f n ss from last
 
--- one place more
-pub close-turn : (f : Format) (n : ℕ) (ss : List ℕ) (from last i r : ℕ) (opens : Bool) → CloseOpenings f n ss from last → last < i → i - last < n → opens ≡ opensAt f ss i → r ≡ cond opens i last → CloseOpenings f n ss from r
-close-turn f n ss from last i r opens c a b o e =
-    by-test (opensAt f ss i)
-    (λ y. let is : r ≡ i = e ∙ rw (o, y) in rw is (later last i c a (omega arith) y))
-    (λ m. let is : r ≡ last = e ∙ rw (o, m) in rw is c)
+-- a frame may begin with the symbol at a place, counted from 1, or it is 0
+abbrev pub OpensHighest : Format → List ℕ → ℕ → ℕ → ℕ → Type 0
+OpensHighest f ss from count r = (r ≤ count) × (1 ≤ r → opensAt f ss (from + (r - 1)) ≡ true)
 
--- the last is at the place or before it
-pub latest-within : (opens : Bool) (from last i r : ℕ) → from ≤ last → last < i → r ≡ cond opens i last → (from ≤ r) × (r ≤ i)
-latest-within true from last i r a b e = (omega (arith, e), omega (arith, e))
-latest-within false from last i r a b e = (omega (arith, e), omega (arith, e))
+-- one place more
+pub highest-turn : (f : Format) (ss : List ℕ) (from i before place r : ℕ) (opens : Bool) → OpensHighest f ss from i before → opens ≡ opensAt f ss (from + i) → place ≡ cond opens (i + 1) 0 → r ≡ cond (ltb place before) before place → OpensHighest f ss from (i + 1) r
+highest-turn f ss from i before place r opens h o p e =
+    by-test (ltb place before)
+    (λ y. let is : r ≡ before = e ∙ rw y in rw is (omega (arith, h .0), h .1))
+    (λ m.
+    let is : r ≡ place = e ∙ rw m in
+    by-test (opensAt f ss (from + i))
+    (λ y.
+    let there : place ≡ i + 1 = p ∙ rw (o, y) in
+    let back : i + 1 - 1 ≡ i = omega arith in
+    rw (is, there) (omega arith, λ k. rw (back, y) refl))
+    (λ n. let none : place ≡ 0 = p ∙ rw (o, n) in rw (is, none) (omega arith, λ k. let z : ⊥ = omega arith in absurd z)))
+
+-- the next opening that is close enough
+pub close-next : (f : Format) (n : ℕ) (ss : List ℕ) (from last count more : ℕ) → CloseOpenings f n ss from last → count < n → OpensHighest f ss (last + 1) count more → 1 ≤ more → CloseOpenings f n ss from (last + more)
+close-next f n ss from last count more c b h some =
+    let there : last + 1 + (more - 1) ≡ last + more = omega arith in
+    later last (last + more) c (omega arith) (omega (arith, h .0)) (rw there at (h .1 some))

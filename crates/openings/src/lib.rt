@@ -3,10 +3,11 @@
 ghost use mathlib.Core.Path.{_≡_};
 ghost use mathlib.Core.Bool.{true, false, cond};
 ghost use Prim.Native.Nat.{ℕ, _+_, _≤_, _<_};
+ghost use lib.Dec.{ltb};
 ghost use lib.ListN.{getD, length};
 ghost use Rattle.following.specs.Rows.{opensFrame};
 ghost use Rattle.openings.specs.Accepted.{acceptedIn};
-ghost use Rattle.openings.specs.Openings.{opensAt, CloseOpenings};
+ghost use Rattle.openings.specs.Openings.{opensAt, OpensHighest, CloseOpenings};
 use timecode::Format;
 use timecode::MARK;
 use timecode::SPOILED;
@@ -89,27 +90,66 @@ pub fn next_opening(format: Format, symbols: &[u8], from: usize, to: usize) -> u
     to
 }
 
-fn latest(opens: bool, here: usize, last: usize) -> usize
-    ensures { λ r. ⌜ r ≡ cond opens here last ⌝ }
+fn place_or_none(here: bool, place: u8) -> u8
+    ensures { λ r. ⌜ r ≡ cond here place 0 ⌝ }
 {
-    if opens {
-        return here;
+    if here {
+        return place;
     }
-    last
+    0
+}
+
+fn higher(first: u8, second: u8) -> u8
+    ensures { λ r. ⌜ r ≡ cond (ltb first second) second first ⌝ }
+{
+    if first < second {
+        return second;
+    }
+    first
+}
+
+// The highest of some places at which a frame may begin, counted from 1, or 0: again it looks at all of them.
+fn highest_opening(format: Format, symbols: &[u8], from: usize, count: usize) -> u8
+    requires { ⌜ (1 ≤ from) × (from + count ≤ length (now symbols)) × (count ≤ 128) ⌝ }
+    ensures { λ r. ⌜ OpensHighest format (now (symbols .entry)) from count r ⌝ }
+{
+    let mut highest = 0;
+    let mut i = 0;
+    while i < count {
+        let at = from + i;
+        let opens = is_opening(format, symbols[at - 1], symbols[at]);
+        i += 1;
+        highest = higher(place_or_none(opens, i as u8), highest);
+    }
+    highest
+}
+
+// So many places after the last opening are fewer than n symbols after it.
+fn places_after(last: usize, n: usize, to: usize) -> usize
+    requires { ⌜ (last < to) × (1 ≤ n) ⌝ }
+    ensures { λ r. ⌜ (last + 1 + r ≤ to) × (r < n) ⌝ }
+{
+    let left = to - last - 1;
+    if left < n {
+        return left;
+    }
+    n - 1
 }
 
 // The last of the openings after an index of which each comes fewer than n symbols after the one before, or the index: where a frame begins
 // at the index, none is whole before that last opening.
 pub fn last_opening(format: Format, symbols: &[u8], n: usize, from: usize, to: usize) -> usize
-    requires { ⌜ (from < to) × (to ≤ length (now symbols)) ⌝ }
+    requires { ⌜ (from < to) × (to ≤ length (now symbols)) × (1 ≤ n) × (n ≤ 100) ⌝ }
     ensures { λ r. ⌜ (from ≤ r) × (r < to) × CloseOpenings format n (now (symbols .entry)) from r ⌝ }
 {
     let mut last = from;
-    let mut i = from + 1;
-    while i < to && i - last < n {
-        let opens = is_opening(format, symbols[i - 1], symbols[i]);
-        last = latest(opens, i, last);
-        i += 1;
+    while last < to {
+        let count = places_after(last, n, to);
+        let highest = wide(highest_opening(format, symbols, last + 1, count));
+        if highest == 0 {
+            return last;
+        }
+        last += highest;
     }
     last
 }

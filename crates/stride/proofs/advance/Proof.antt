@@ -41,7 +41,7 @@ openings-limit-requires : tie.Need-openings-limit-requires
 openings-limit-requires c κs = c .before .before .before .before .before .before .before .before .before .before .pre .2
 
 last-opening-requires : tie.Need-last-opening-requires
-last-opening-requires c κs = (c .openings-limit .ensures .0, omega (arith, c .openings-limit .ensures .1, c .before .before .before .before .before .before .before .before .before .before .before .pre .3))
+last-opening-requires c κs = (c .openings-limit .ensures .0, omega (arith, c .openings-limit .ensures .1, c .before .before .before .before .before .before .before .before .before .before .before .pre .3), omega (arith, c .before .before .before .before .before .before .before .before .frame-size .ensures .1), c .before .before .before .before .before .before .before .before .frame-size .ensures .2)
 
 add-stride-of-openings : tie.Need-add-stride-of-openings
 add-stride-of-openings c = omega (arith, c .before .last-opening .ensures .1, c .before .before .openings-limit .ensures .1, c .before .before .before .before .before .before .before .before .before .before .before .before .before .pre .3, c .before .before .before .before .before .before .before .before .before .before .before .before .before .good)
