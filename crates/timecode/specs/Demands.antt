@@ -11,7 +11,7 @@ use native.Mathlib.Omega.{arith}
 use Rattle.timecode.specs.Answers.{refusalNumber}
 use Rattle.timecode.specs.Calls.{classifyListOf, classifyListLeaves}
 use Rattle.timecode.specs.Formats.{member, known, size, interval, lastHundredth, dayLength, onFormat, carriesLeap, secondCarried}
-use Rattle.timecode.specs.Frames.{yearLengths, usual, kinds, dayEnd, sameDay, nextDay, stepOf, Follows, nextAfter, stepBackOf, Precedes, writeOf, writeLeaves, readOf, Sent, Generator, sentAt, dayBefore, following, preceding, onDay, areSymbols, isTime, timeIn, secondsAgree}
+use Rattle.timecode.specs.Frames.{newYear, yearLengths, usual, kinds, dayEnd, sameDay, nextDay, stepOf, Follows, nextAfter, stepBackOf, Precedes, writeOf, writeLeaves, readOf, Sent, Generator, sentAt, dayBefore, following, preceding, onDay, areSymbols, isTime, timeIn, secondsAgree}
 use Rattle.timecode.specs.Laws.Back.{step-back, back-step, back-on-format, follows-precedes, precedes-follows}
 use Rattle.timecode.specs.Laws.Checks.{accepted, by-reading, refused-up-to}
 use Rattle.timecode.specs.Laws.Existence.{frames, length-frames, control-at, first-time, generator, goes-on}
@@ -118,9 +118,9 @@ pub step-stays-on-format : (f : Format) (t u : Time) → Follows f t u → (onFo
 step-stays-on-format f t u s = let o = step-on-format f t u s in (is-on-format f u o, is-carried f u o)
 
 -- D, E and H step as usual for every kind.
-pub step-as-usual-without-leap : (f : Format) (t : Time) (year kind : ℕ) → carriesLeap f ≡ false → member kind kinds ≡ true → stepOf f t year kind ≡ stepOf f t year usual
+pub step-as-usual-without-leap : (f : Format) (t : Time) (length kind : ℕ) → carriesLeap f ≡ false → member kind kinds ≡ true → stepOf f t length kind ≡ stepOf f t length usual
 unfolding stepOf onDay following
-step-as-usual-without-leap f t year kind m h = rw (h, usual-end f kind m, usual-end f usual m)
+step-as-usual-without-leap f t length kind m h = rw (h, usual-end f kind m, usual-end f usual m)
 
 pub next-after-exactly-when-some-step : (f : Format) (t u : Time) → (nextAfter f t u ≡ true) ↔ Follows f t u
 next-after-exactly-when-some-step f t u = (next-follows f t u, follows-next f t u)
@@ -141,27 +141,27 @@ three-may-follow f t u s = go (lands f t (s .0) (s .1) u w) (year-is (s .0) (w .
 
 -- ---- Step back, for every format, time, year length and kind of day that the first call takes: a step and then a step back returns the time, and so does the other order.
 
-pub step-then-back : (f : Format) (t u : Time) (year kind : ℕ) → stepOf f t year kind ≡ To u → stepBackOf f u year kind ≡ To t
-step-then-back f t u year kind = step-back f t year kind u
+pub step-then-back : (f : Format) (t u : Time) (length kind : ℕ) → stepOf f t length kind ≡ To u → stepBackOf f u length kind ≡ To t
+step-then-back f t u length kind = step-back f t length kind u
 
-pub back-then-step : (f : Format) (t u : Time) (year kind : ℕ) → stepBackOf f u year kind ≡ To t → stepOf f t year kind ≡ To u
-back-then-step f t u year kind = back-step f u year kind t
+pub back-then-step : (f : Format) (t u : Time) (length kind : ℕ) → stepBackOf f u length kind ≡ To t → stepOf f t length kind ≡ To u
+back-then-step f t u length kind = back-step f u length kind t
 
 -- The checks are the step's: both refuse the same, with the same number.
-pub back-refuses-as-step : (f : Format) (t : Time) (year kind : ℕ) (r : Refusal) → (stepBackOf f t year kind ≡ Stepped.Refused r) ↔ (stepOf f t year kind ≡ Stepped.Refused r)
+pub back-refuses-as-step : (f : Format) (t : Time) (length kind : ℕ) (r : Refusal) → (stepBackOf f t length kind ≡ Stepped.Refused r) ↔ (stepOf f t length kind ≡ Stepped.Refused r)
 unfolding stepOf stepBackOf
-back-refuses-as-step f t year kind r = (
-  λ h. refuses-alike f t year kind (preceding f t year kind) r h (To (following f t year kind)),
-  λ h. refuses-alike f t year kind (following f t year kind) r h (To (preceding f t year kind)),
+back-refuses-as-step f t length kind r = (
+  λ h. refuses-alike f t length kind (preceding f t length kind) r h (To (following f t length kind)),
+  λ h. refuses-alike f t length kind (following f t length kind) r h (To (preceding f t length kind)),
 )
 
 -- Day 1, c 0 goes to that year's last frame.
-pub first-frame-back-to-last : (f : Format) (year kind : ℕ) → known f ≡ true → member year yearLengths ≡ true → member kind kinds ≡ true
-    → stepBackOf f (record { day = 1; hundredths = 0 }) year kind ≡ To (record { day = year; hundredths = dayEnd f kind - interval f })
+pub first-frame-back-to-last : (f : Format) (length kind : ℕ) → known f ≡ true → member length yearLengths ≡ true → member kind kinds ≡ true
+    → stepBackOf f newYear length kind ≡ To (record { day = length; hundredths = dayEnd f kind - interval f })
 unfolding stepBackOf preceding dayBefore
-first-frame-back-to-last f year kind k l m =
-    step-answers f (record { day = 1; hundredths = 0 }) year kind k (record { first = omega arith; last = omega arith; below = omega arith; grid = zero-mod (interval f); carried = λ n. omega arith }) l
-    (year-range year l .0) m (omega (arith, day-end-range f kind)) (To (record { day = year; hundredths = dayEnd f kind - interval f }))
+first-frame-back-to-last f length kind k l m =
+    step-answers f newYear length kind k (record { first = omega arith; last = omega arith; below = omega arith; grid = zero-mod (interval f); carried = λ n. omega arith }) l
+    (year-range length l .0) m (omega (arith, day-end-range f kind)) (To (record { day = length; hundredths = dayEnd f kind - interval f }))
 
 -- Next after, read backwards, is some step back.
 pub next-after-backwards : (f : Format) (t u : Time) → (nextAfter f t u ≡ true) ↔ Precedes f t u
@@ -172,9 +172,9 @@ pub back-stays-on-format : (f : Format) (t u : Time) → Precedes f t u → (onF
 back-stays-on-format f t u s = let o = back-on-format f t u s in (is-on-format f t o, is-carried f t o)
 
 -- D, E and H step back as usual for every kind.
-pub back-as-usual-without-leap : (f : Format) (t : Time) (year kind : ℕ) → carriesLeap f ≡ false → member kind kinds ≡ true → stepBackOf f t year kind ≡ stepBackOf f t year usual
+pub back-as-usual-without-leap : (f : Format) (t : Time) (length kind : ℕ) → carriesLeap f ≡ false → member kind kinds ≡ true → stepBackOf f t length kind ≡ stepBackOf f t length usual
 unfolding stepBackOf onDay preceding
-back-as-usual-without-leap f t year kind m h = rw (h, usual-end f kind m, usual-end f usual m)
+back-as-usual-without-leap f t length kind m h = rw (h, usual-end f kind m, usual-end f usual m)
 
 -- A generator received in reverse: each frame's time is a step back of the one that was sent after it.
 pub generators-run-backwards : (f : Format) (sent : List Sent) → Generator f sent → (j : ℕ) → suc j < length sent → Precedes f (sentAt sent j .time) (sentAt sent (suc j) .time)

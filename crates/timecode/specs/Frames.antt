@@ -20,6 +20,23 @@ use Rattle.timecode.specs.declared.Time.{Time}
 use Rattle.timecode.specs.declared.Written.{Written}
 use Rattle.timecode.specs.declared.Written.the-variants.{Done}
 
+-- ---- times
+
+-- stands for the time of a frame that there is not, which nothing asks for
+abbrev pub noTime : Time
+noTime = record { day = 0; hundredths = 0 }
+
+-- the same day at c
+abbrev pub sameDayAt : Time → ℕ → Time
+sameDayAt t c = record { day = t .day; hundredths = c }
+
+-- the first frame of a year
+abbrev pub newYear : Time
+newYear = record { day = 1; hundredths = 0 }
+
+abbrev pub sameTime : Time → Time → Bool
+sameTime t u = eqb (t .day) (u .day) && eqb (t .hundredths) (u .hundredths)
+
 -- ---- Step
 
 abbrev pub yearLengths : List ℕ
@@ -27,11 +44,11 @@ yearLengths = 365 ∷ 366 ∷ []
 
 -- number 11: the year's length is 365 or 366, and the day is not beyond it
 unfoldable pub inYear : Time → ℕ → Bool
-inYear t year = member year yearLengths && leb (t .day) year
+inYear t length = member length yearLengths && leb (t .day) length
 
 -- day + 1, and after the year's last day day 1
 unfoldable pub dayAfter : ℕ → ℕ → ℕ
-dayAfter day year = cond (eqb day year) 1 (day + 1)
+dayAfter day length = cond (eqb day length) 1 (day + 1)
 
 -- The kind of a day: usual, a second added, a second taken.
 abbrev pub usual : ℕ
@@ -60,35 +77,37 @@ onDay f t kind = member kind kinds && ltb (t .hundredths) (dayEnd f kind)
 
 -- the next frame of the same day
 abbrev pub sameDay : Format → Time → Time
-sameDay f t = record { day = t .day; hundredths = t .hundredths + interval f }
+sameDay f t = sameDayAt t (t .hundredths + interval f)
 
 -- the first frame of the day after
 abbrev pub nextDay : Time → ℕ → Time
-nextDay t year = record { day = dayAfter (t .day) year; hundredths = 0 }
+nextDay t length = record { day = dayAfter (t .day) length; hundredths = 0 }
 
 -- c + S, or at the day's end the day after and c = 0
 unfoldable pub following : Format → Time → ℕ → ℕ → Time
-following f t year kind = cond (eqb (t .hundredths + interval f) (dayEnd f kind)) (nextDay t year) (sameDay f t)
+following f t length kind = cond (eqb (t .hundredths + interval f) (dayEnd f kind)) (nextDay t length) (sameDay f t)
 
 -- Both steps check the time that is given with 1, 2, 14, 11, 15. The kind is that of the earlier time's day.
 abbrev pub checkStep : Format → Time → ℕ → ℕ → Stepped → Stepped
-checkStep f t year kind answer =
+checkStep f t length kind answer =
     check Stepped.Refused UnknownFormat (known f)  -- 1
     (check Stepped.Refused InvalidTime (onFormat f t)  -- 2
     (check Stepped.Refused SecondNotCarried (secondCarried f t)  -- 14
-    (check Stepped.Refused InvalidYearLength (inYear t year)  -- 11
+    (check Stepped.Refused InvalidYearLength (inYear t length)  -- 11
     (check Stepped.Refused InvalidKind (onDay f t kind)  -- 15
     answer))))
 
+-- Step in a year of that length
+abbrev pub stepBy : Format → Time → ℕ → ℕ → Stepped
+stepBy f t length kind = checkStep f t length kind (To (following f t length kind))
+
+-- the length is the one that is given
 unfoldable pub stepOf : Format → Time → ℕ → ℕ → Stepped
-stepOf f t year kind = checkStep f t year kind (To (following f t year kind))
+stepOf f t given kind = stepBy f t given kind
 
 -- u is the step of t for a year length and a kind that Step takes
 abbrev pub Follows : Format → Time → Time → Type 0
-Follows f t u = (year : ℕ) × (kind : ℕ) × (stepOf f t year kind ≡ To u)
-
-abbrev pub sameTime : Time → Time → Bool
-sameTime t u = eqb (t .day) (u .day) && eqb (t .hundredths) (u .hundredths)
+Follows f t u = (length : ℕ) × (kind : ℕ) × (stepOf f t length kind ≡ To u)
 
 abbrev pub stepsTo : Stepped → Time → Bool
 stepsTo (To v) u = sameTime v u
@@ -100,7 +119,7 @@ any p (x ∷ xs) = p x || any p xs
 
 -- Without a known year and kind, u is next after t if some year length and some kind give it. Day 366 counts only with 366: Step refuses it with 365.
 unfoldable pub nextAfter : Format → Time → Time → Bool
-nextAfter f t u = any (λ year. any (λ kind. stepsTo (stepOf f t year kind) u) kinds) yearLengths
+nextAfter f t u = any (λ length. any (λ kind. stepsTo (stepOf f t length kind) u) kinds) yearLengths
 
 -- u is day 1 and v is day 366, both at midnight
 pub record YearTurn (u v : Time) : Type 0 where
@@ -122,27 +141,30 @@ Turn f u v = YearTurn u v ⊎ LeapTurn f u v
 
 -- day - 1, and before day 1 the year's last day
 unfoldable pub dayBefore : ℕ → ℕ → ℕ
-dayBefore day year = cond (eqb day 1) year (day - 1)
+dayBefore day length = cond (eqb day 1) length (day - 1)
 
 -- the frame before on the same day
 abbrev pub sameDayBefore : Format → Time → Time
-sameDayBefore f t = record { day = t .day; hundredths = t .hundredths - interval f }
+sameDayBefore f t = sameDayAt t (t .hundredths - interval f)
 
 -- the last frame of the day before, which is of that kind
 abbrev pub lastBefore : Format → Time → ℕ → ℕ → Time
-lastBefore f t year kind = record { day = dayBefore (t .day) year; hundredths = dayEnd f kind - interval f }
+lastBefore f t length kind = record { day = dayBefore (t .day) length; hundredths = dayEnd f kind - interval f }
 
 -- c - S, or at c = 0 the last frame of the day before
 unfoldable pub preceding : Format → Time → ℕ → ℕ → Time
-preceding f t year kind = cond (eqb (t .hundredths) 0) (lastBefore f t year kind) (sameDayBefore f t)
+preceding f t length kind = cond (eqb (t .hundredths) 0) (lastBefore f t length kind) (sameDayBefore f t)
 
 -- The year and the kind are those of the time before; the checks are Step's.
+abbrev pub stepBackBy : Format → Time → ℕ → ℕ → Stepped
+stepBackBy f t length kind = checkStep f t length kind (To (preceding f t length kind))
+
 unfoldable pub stepBackOf : Format → Time → ℕ → ℕ → Stepped
-stepBackOf f t year kind = checkStep f t year kind (To (preceding f t year kind))
+stepBackOf f t given kind = stepBackBy f t given kind
 
 -- t is the step back of u for a year length and a kind that it takes
 abbrev pub Precedes : Format → Time → Time → Type 0
-Precedes f t u = (year : ℕ) × (kind : ℕ) × (stepBackOf f u year kind ≡ To t)
+Precedes f t u = (length : ℕ) × (kind : ℕ) × (stepBackOf f u length kind ≡ To t)
 
 -- ---- Write
 
@@ -271,7 +293,7 @@ pub record Sent : Type 0 where
 
 -- stands for a frame past the last, which nothing asks for
 abbrev pub noFrame : Sent
-noFrame = record { time = record { day = 0; hundredths = 0 }; control = 0 }
+noFrame = record { time = noTime; control = 0 }
 
 -- Its first time and all its control words are any that Write takes. Each time is the step of the last for a year length and a kind that Step takes, chosen anew at each step.
 pub record Generator (f : Format) (sent : List Sent) : Type 0 where

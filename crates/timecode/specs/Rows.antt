@@ -9,7 +9,7 @@ use lib.ListN.{length, drop, set, replicate}
 use Rattle.timecode.specs.Answers.{Result, writtenResult, readingResult, steppedResult, subtractedResult, classifiedResult, scannedResult, answerResult}
 use Rattle.timecode.specs.Calls.{symbolOf, isInterval, classifyOf, symbolsOf, classifyListOf, classifyListLeaves, differenceOf, partAt, lowestOf, scanOf}
 use Rattle.timecode.specs.Formats.{A, B, D, E, G, H, table, lookUp, rowOf, known, size, interval, carriesControl, carriesSeconds, inRange, onFormat, carriesLeap, secondCarried}
-use Rattle.timecode.specs.Frames.{inYear, dayAfter, usual, secondAdded, secondTaken, dayLengthOf, dayEnd, onDay, following, stepOf, nextAfter, written, controlFits, writeOf, writeLeaves, marksAgree, elementFits, checkElements, lastSecond, isTime, timeIn, secondsAgree, readOf}
+use Rattle.timecode.specs.Frames.{newYear, inYear, dayAfter, usual, secondAdded, secondTaken, dayLengthOf, dayEnd, onDay, following, stepOf, nextAfter, written, controlFits, writeOf, writeLeaves, marksAgree, elementFits, checkElements, lastSecond, isTime, timeIn, secondsAgree, readOf}
 use Rattle.timecode.specs.Layout.{seconds, minutes, hours, days, tenths, hundredthsDigit, hasSeconds, straightSeconds, control, timeFields, fields, runs, timeNumbers, numbers, isMark, filler, symbolAt, encode, value}
 use Rattle.timecode.specs.Stream.{twoFrames, windowLength, frameIn, nextInRow, inRow, windowAnswer, lastOf, plainAnswer}
 use Rattle.timecode.specs.declared.Format.{Format}
@@ -45,7 +45,7 @@ format letter expression = record { letter = letter; expression = expression }
 abbrev expressionsFrom : ℕ → ℕ → ℕ → List ℤ
 expressionsFrom letter zero e = []
 expressionsFrom letter (suc k) e =
-    cond (eqb (writtenResult (writeOf (format letter e) (record { day = 1; hundredths = 0 }) 0 (lent (format letter e))) .number) 0)
+    cond (eqb (writtenResult (writeOf (format letter e) newYear 0 (lent (format letter e))) .number) 0)
     (pos letter ∷ (pos e ∷ expressionsFrom letter k (suc e)))
     (expressionsFrom letter k (suc e))
 

@@ -9,11 +9,11 @@ use native.Mathlib.Omega.{arith}
 use borrow.Author.Tests.{leb-true, ltb-true, eqb-true, eqb-false, le-leb, lt-ltb, eq-eqb, ne-eqb}
 use lib.Dec.{leb, ltb, eqb}
 use Rattle.timecode.specs.Formats.{member, table, lookUp, rowOf, known, interval, lastDay, dayLength, onFormat, carriesLeap, secondCarried, OnFormat}
-use Rattle.timecode.specs.Frames.{yearLengths, inYear, dayAfter, secondAdded, secondTaken, kinds, dayLengthOf, dayEnd, onDay, sameDay, nextDay, following, checkStep, stepOf, Follows, sameTime, stepsTo, any, nextAfter, LeapTurn, Turn}
+use Rattle.timecode.specs.Frames.{yearLengths, inYear, dayAfter, secondAdded, secondTaken, kinds, dayLengthOf, dayEnd, onDay, sameDay, nextDay, following, checkStep, stepBy, stepOf, Follows, stepsTo, any, nextAfter, LeapTurn, Turn}
 use Rattle.timecode.specs.Laws.Checks.{passed, same-check, next}
 use Rattle.timecode.specs.Laws.Table.{everyFormat, of-every}
 use Rattle.timecode.specs.Laws.Tests.{by-test, clash, and-left, and-right, or-other, or-first, or-second}
-use Rattle.timecode.specs.Laws.Times.{on-format, is-on-format, is-carried}
+use Rattle.timecode.specs.Laws.Times.{same-is, same-self, on-format, is-on-format, is-carried}
 use Rattle.timecode.specs.declared.Format.{Format}
 use Rattle.timecode.specs.declared.Refusal.the-variants.{UnknownFormat, InvalidTime, InvalidYearLength, SecondNotCarried, InvalidKind}
 use Rattle.timecode.specs.declared.Refusal.{Refusal}
@@ -21,75 +21,61 @@ use Rattle.timecode.specs.declared.Stepped.{Stepped}
 use Rattle.timecode.specs.declared.Stepped.the-variants.{To}
 use Rattle.timecode.specs.declared.Time.{Time}
 
--- ---- two times are one
-
-pub time-path : (t u : Time) → t .day ≡ u .day → t .hundredths ≡ u .hundredths → t ≡ u
-time-path t u p q = λ i. record { day = p i; hundredths = q i }
-
-same-is : (t u : Time) → sameTime t u ≡ true → t ≡ u
-same-is t u h =
-    let d = eqb (t .day) (u .day) in
-    let c = eqb (t .hundredths) (u .hundredths) in
-    time-path t u (eqb-true (t .day) (u .day) (and-left d c h)) (eqb-true (t .hundredths) (u .hundredths) (and-right d c h))
-
-pub same-self : (t : Time) → sameTime t t ≡ true
-same-self t = rw (eq-eqb (t .day) (t .day) refl, eq-eqb (t .hundredths) (t .hundredths) refl)
-
 -- ---- the checks of both steps
 
 -- the checks are passed, and the step of t to v answers u
-pub record Went (f : Format) (t : Time) (year kind : ℕ) (v u : Time) : Type 0 where
+pub record Went (f : Format) (t : Time) (length kind : ℕ) (v u : Time) : Type 0 where
   pub format : known f ≡ true
   pub from : OnFormat f t
-  pub length-is : member year yearLengths ≡ true
-  pub inside : t .day ≤ year
+  pub length-is : member length yearLengths ≡ true
+  pub inside : t .day ≤ length
   pub kind-is : member kind kinds ≡ true
   pub before : t .hundredths < dayEnd f kind
   pub to : v ≡ u
 
-pub went-to : (f : Format) (t : Time) (year kind : ℕ) (v u : Time) → checkStep f t year kind (To v) ≡ To u → Went f t year kind v u
+pub went-to : (f : Format) (t : Time) (length kind : ℕ) (v u : Time) → checkStep f t length kind (To v) ≡ To u → Went f t length kind v u
 unfolding inYear onDay
-went-to f t year kind v u h =
+went-to f t length kind v u h =
     let a = passed Stepped.Refused UnknownFormat (known f) _ (To u) (next u) h in
     let b = passed Stepped.Refused InvalidTime (onFormat f t) _ (To u) (next u) (a .1) in
     let s = passed Stepped.Refused SecondNotCarried (secondCarried f t) _ (To u) (next u) (b .1) in
-    let c = passed Stepped.Refused InvalidYearLength (member year yearLengths && leb (t .day) year) _ (To u) (next u) (s .1) in
+    let c = passed Stepped.Refused InvalidYearLength (member length yearLengths && leb (t .day) length) _ (To u) (next u) (s .1) in
     let d = passed Stepped.Refused InvalidKind (member kind kinds && ltb (t .hundredths) (dayEnd f kind)) _ (To u) (next u) (c .1) in
     let last = d .1 in
     record {
       format = a .0;
       from = on-format f t (b .0) (s .0);
-      length-is = and-left (member year yearLengths) (leb (t .day) year) (c .0);
-      inside = leb-true (t .day) year (and-right (member year yearLengths) (leb (t .day) year) (c .0));
+      length-is = and-left (member length yearLengths) (leb (t .day) length) (c .0);
+      inside = leb-true (t .day) length (and-right (member length yearLengths) (leb (t .day) length) (c .0));
       kind-is = and-left (member kind kinds) (ltb (t .hundredths) (dayEnd f kind)) (d .0);
       before = ltb-true (t .hundredths) (dayEnd f kind) (and-right (member kind kinds) (ltb (t .hundredths) (dayEnd f kind)) (d .0));
       to = cc;
     }
 
 -- both steps answer where the checks are passed
-pub step-answers : (f : Format) (t : Time) (year kind : ℕ) → known f ≡ true → OnFormat f t → member year yearLengths ≡ true → t .day ≤ year → member kind kinds ≡ true → t .hundredths < dayEnd f kind
-    → (answer : Stepped) → checkStep f t year kind answer ≡ answer
+pub step-answers : (f : Format) (t : Time) (length kind : ℕ) → known f ≡ true → OnFormat f t → member length yearLengths ≡ true → t .day ≤ length → member kind kinds ≡ true → t .hundredths < dayEnd f kind
+    → (answer : Stepped) → checkStep f t length kind answer ≡ answer
 unfolding inYear onDay
-step-answers f t year kind k o l i m b answer = rw (k, is-on-format f t o, is-carried f t o, l, le-leb (t .day) year i, m, lt-ltb (t .hundredths) (dayEnd f kind) b)
+step-answers f t length kind k o l i m b answer = rw (k, is-on-format f t o, is-carried f t o, l, le-leb (t .day) length i, m, lt-ltb (t .hundredths) (dayEnd f kind) b)
 
-pub answers-alike : (f : Format) (t : Time) (year kind : ℕ) (v u : Time) → checkStep f t year kind (To v) ≡ To u → (answer : Stepped) → checkStep f t year kind answer ≡ answer
-answers-alike f t year kind v u h answer =
-    let w = went-to f t year kind v u h in
-    step-answers f t year kind (w .format) (w .from) (w .length-is) (w .inside) (w .kind-is) (w .before) answer
+pub answers-alike : (f : Format) (t : Time) (length kind : ℕ) (v u : Time) → checkStep f t length kind (To v) ≡ To u → (answer : Stepped) → checkStep f t length kind answer ≡ answer
+answers-alike f t length kind v u h answer =
+    let w = went-to f t length kind v u h in
+    step-answers f t length kind (w .format) (w .from) (w .length-is) (w .inside) (w .kind-is) (w .before) answer
 
 -- and refuse alike where one is not
-pub refuses-alike : (f : Format) (t : Time) (year kind : ℕ) (v : Time) (r : Refusal) → checkStep f t year kind (To v) ≡ Stepped.Refused r → (answer : Stepped) → checkStep f t year kind answer ≡ Stepped.Refused r
-refuses-alike f t year kind v r h answer =
+pub refuses-alike : (f : Format) (t : Time) (length kind : ℕ) (v : Time) (r : Refusal) → checkStep f t length kind (To v) ≡ Stepped.Refused r → (answer : Stepped) → checkStep f t length kind answer ≡ Stepped.Refused r
+refuses-alike f t length kind v r h answer =
     same-check Stepped.Refused UnknownFormat (known f) _ _ (Stepped.Refused r)
     (same-check Stepped.Refused InvalidTime (onFormat f t) _ _ (Stepped.Refused r)
     (same-check Stepped.Refused SecondNotCarried (secondCarried f t) _ _ (Stepped.Refused r)
-    (same-check Stepped.Refused InvalidYearLength (inYear t year) _ _ (Stepped.Refused r)
+    (same-check Stepped.Refused InvalidYearLength (inYear t length) _ _ (Stepped.Refused r)
     (same-check Stepped.Refused InvalidKind (onDay f t kind) (To v) answer (Stepped.Refused r) (λ e. absurd (next v r (sym e)))))))
     h
 
-pub went : (f : Format) (t : Time) (year kind : ℕ) (u : Time) → stepOf f t year kind ≡ To u → Went f t year kind (following f t year kind) u
+pub went : (f : Format) (t : Time) (length kind : ℕ) (u : Time) → stepOf f t length kind ≡ To u → Went f t length kind (following f t length kind) u
 unfolding stepOf
-went f t year kind u h = went-to f t year kind (following f t year kind) u h
+went f t length kind u h = went-to f t length kind (following f t length kind) u h
 
 -- a day with a second added has room for every time that Write takes
 longest-day : (f : Format) (t : Time) → OnFormat f t → t .hundredths < dayEnd f secondAdded
@@ -124,7 +110,7 @@ one-any p (y ∷ ys) x m h =
 pub next-follows : (f : Format) (t u : Time) → nextAfter f t u ≡ true → Follows f t u
 unfolding nextAfter
 next-follows f t u h =
-    let y = any-one (λ year. any (λ kind. stepsTo (stepOf f t year kind) u) kinds) yearLengths h in
+    let y = any-one (λ length. any (λ kind. stepsTo (stepOf f t length kind) u) kinds) yearLengths h in
     let k = any-one (λ kind. stepsTo (stepOf f t (y .0) kind) u) kinds (y .1) in
     (y .0, k .0, steps-to-is (stepOf f t (y .0) (k .0)) u (k .1))
 
@@ -132,21 +118,21 @@ pub follows-next : (f : Format) (t u : Time) → Follows f t u → nextAfter f t
 unfolding nextAfter
 follows-next f t u s =
     let w = went f t (s .0) (s .1) u (s .2) in
-    one-any (λ year. any (λ kind. stepsTo (stepOf f t year kind) u) kinds) yearLengths (s .0) (w .length-is)
+    one-any (λ length. any (λ kind. stepsTo (stepOf f t length kind) u) kinds) yearLengths (s .0) (w .length-is)
     (one-any (λ kind. stepsTo (stepOf f t (s .0) kind) u) kinds (s .1) (w .kind-is) (is-given (stepOf f t (s .0) (s .1)) u (s .2)))
 
 -- ---- a step stays on the format
 
-pub year-is : (year : ℕ) → member year yearLengths ≡ true → (year ≡ 365) ⊎ (year ≡ 366)
-year-is year h =
-    by-test (eqb year 365)
-    (λ y. inl (eqb-true year 365 y))
-    (λ m. by-test (eqb year 366) (λ y. inr (eqb-true year 366 y)) (λ n. clash (rw (m, n) at h) refl))
+pub year-is : (length : ℕ) → member length yearLengths ≡ true → (length ≡ 365) ⊎ (length ≡ 366)
+year-is length h =
+    by-test (eqb length 365)
+    (λ y. inl (eqb-true length 365 y))
+    (λ m. by-test (eqb length 366) (λ y. inr (eqb-true length 366 y)) (λ n. clash (rw (m, n) at h) refl))
 
-pub year-range : (year : ℕ) → member year yearLengths ≡ true → (1 ≤ year) × (year ≤ lastDay)
-year-range year h = go (year-is year h)
+pub year-range : (length : ℕ) → member length yearLengths ≡ true → (1 ≤ length) × (length ≤ lastDay)
+year-range length h = go (year-is length h)
   where
-    go : (year ≡ 365) ⊎ (year ≡ 366) → (1 ≤ year) × (year ≤ lastDay)
+    go : (length ≡ 365) ⊎ (length ≡ 366) → (1 ≤ length) × (length ≤ lastDay)
     go (inl e) = omega arith
     go (inr e) = omega arith
 
@@ -218,17 +204,17 @@ day-end-range f kind =
     (λ y. omega (arith, leap-end f kind y, end-range (dayLengthOf kind) (ends kind)))
     (λ m. omega (arith, usual-end f kind m))
 
-pub day-after-inside : (day year : ℕ) → 1 ≤ day → day ≤ year → (1 ≤ dayAfter day year) × (dayAfter day year ≤ year)
+pub day-after-inside : (day length : ℕ) → 1 ≤ day → day ≤ length → (1 ≤ dayAfter day length) × (dayAfter day length ≤ length)
 unfolding dayAfter
-day-after-inside day year a b = by-test (eqb day year) (λ y. rw y (omega arith)) (λ m. let n = eqb-false day year m in rw m (omega arith))
+day-after-inside day length a b = by-test (eqb day length) (λ y. rw y (omega arith)) (λ m. let n = eqb-false day length m in rw m (omega arith))
 
 -- a step goes to the next frame of the day, or from the day's last frame to the day after
 abbrev pub Lands : Format → Time → ℕ → ℕ → Time → Type 0
-Lands f t year kind u = ((sameDay f t ≡ u) × (t .hundredths + interval f < dayEnd f kind)) ⊎ ((nextDay t year ≡ u) × (t .hundredths + interval f ≡ dayEnd f kind))
+Lands f t length kind u = ((sameDay f t ≡ u) × (t .hundredths + interval f < dayEnd f kind)) ⊎ ((nextDay t length ≡ u) × (t .hundredths + interval f ≡ dayEnd f kind))
 
-pub lands : (f : Format) (t : Time) (year kind : ℕ) (u : Time) → Went f t year kind (following f t year kind) u → Lands f t year kind u
+pub lands : (f : Format) (t : Time) (length kind : ℕ) (u : Time) → Went f t length kind (following f t length kind) u → Lands f t length kind u
 unfolding following
-lands f t year kind u w =
+lands f t length kind u w =
     let to = w .to in
     by-test (eqb (t .hundredths + interval f) (dayEnd f kind))
     (λ y. inr (rw y at to, eqb-true (t .hundredths + interval f) (dayEnd f kind) y))
@@ -237,8 +223,8 @@ lands f t year kind u w =
       omega (arith, eqb-false (t .hundredths + interval f) (dayEnd f kind) m, carries f (w .format) kind (w .kind-is) (t .hundredths) (w .before) (w .from .grid)),
     ))
 
-landed-on : (f : Format) (t : Time) (year kind : ℕ) (u : Time) → Went f t year kind (following f t year kind) u → Lands f t year kind u → OnFormat f u
-landed-on f t year kind u w (inl p) =
+landed-on : (f : Format) (t : Time) (length kind : ℕ) (u : Time) → Went f t length kind (following f t length kind) u → Lands f t length kind u → OnFormat f u
+landed-on f t length kind u w (inl p) =
     let o = w .from in
     subst (OnFormat f) (p .0)
     (record {
@@ -248,9 +234,9 @@ landed-on f t year kind u w (inl p) =
       grid = add-mod-right (t .hundredths) (interval f) ∙ o .grid;
       carried = λ m. omega (arith, p .1, usual-end f kind m);
     })
-landed-on f t year kind u w (inr p) =
-    let d = day-after-inside (t .day) year (w .from .first) (w .inside) in
-    subst (OnFormat f) (p .0) (record { first = d .0; last = omega (arith, d .1, year-range year (w .length-is)); below = omega arith; grid = zero-mod (interval f); carried = λ m. omega arith })
+landed-on f t length kind u w (inr p) =
+    let d = day-after-inside (t .day) length (w .from .first) (w .inside) in
+    subst (OnFormat f) (p .0) (record { first = d .0; last = omega (arith, d .1, year-range length (w .length-is)); below = omega arith; grid = zero-mod (interval f); carried = λ m. omega arith })
 
 -- a step of a time on the format is on the format
 pub step-on-format : (f : Format) (t u : Time) → Follows f t u → OnFormat f u

@@ -10,12 +10,13 @@ use borrow.Author.Tests.{ltb-true, not-true, eqb-false}
 use lib.Dec.{ltb, eqb}
 use lib.ListN.{length, getD}
 use Rattle.timecode.specs.Formats.{member, table, lookUp, rowOf, known, size, carriesControl, carriesSeconds, dayLength, carriesLeap}
-use Rattle.timecode.specs.Frames.{Follows, written, Apart, LeapTurn, Turn, YearTurn}
+use Rattle.timecode.specs.Frames.{sameDayAt, newYear, Follows, written, Apart, LeapTurn, Turn, YearTurn}
 use Rattle.timecode.specs.Laws.Marks.{at-written}
 use Rattle.timecode.specs.Laws.Places.{distinct, spared}
-use Rattle.timecode.specs.Laws.Stepping.{time-path, every, one-of, went, Alike, two-that-follow}
+use Rattle.timecode.specs.Laws.Stepping.{every, one-of, went, Alike, two-that-follow}
 use Rattle.timecode.specs.Laws.Table.{everyFormat, of-every}
 use Rattle.timecode.specs.Laws.Tests.{and-left, and-right}
+use Rattle.timecode.specs.Laws.Times.{time-path}
 use Rattle.timecode.specs.Layout.{seconds, minutes, hours, days, tenths, hundredthsDigit, hasSeconds, straightSeconds, control, timeFields, fields, runs, timeNumbers, numbers, allDigits, isMark, filler, symbolAt}
 use Rattle.timecode.specs.declared.Format.{Format}
 use Rattle.timecode.specs.declared.Time.{Time}
@@ -46,9 +47,6 @@ differ-at f u a v b (p ∷ ps) d (suc j) h =
 abbrev turnPlaces : List ℕ
 turnPlaces = 30 ∷ 31 ∷ 32 ∷ 36 ∷ 37 ∷ 40 ∷ 41 ∷ []
 
-abbrev newYear : Time
-newYear = record { day = 1; hundredths = 0 }
-
 abbrev leapDay : Time
 leapDay = record { day = 366; hundredths = 0 }
 
@@ -72,27 +70,24 @@ year-apart f u v k t =
 abbrev midnightPlaces : List ℕ
 midnightPlaces = 10 ∷ 13 ∷ 15 ∷ 17 ∷ 20 ∷ 21 ∷ 26 ∷ []
 
-abbrev on : ℕ → ℕ → Time
-on day hundredths = record { day = day; hundredths = hundredths }
-
 -- the seconds that stand where a day of another kind has ended: 23:59:59 and 23:59:60
 abbrev lateSeconds : List ℕ
 lateSeconds = 8639900 ∷ dayLength ∷ []
 
 -- the format does not carry the added second, or the frames at these and that of midnight differ at the places
-abbrev differAt : List ℕ → ℕ → ℕ → ℕ → ℕ → Format → Bool
-differAt cs d e a b f = cond (carriesLeap f) (every (λ c. differ f (on d c) a (on e 0) b midnightPlaces) cs) true
+abbrev differAt : List ℕ → Time → Time → ℕ → ℕ → Format → Bool
+differAt cs u v a b f = cond (carriesLeap f) (every (λ c. differ f (sameDayAt u c) a (sameDayAt v 0) b midnightPlaces) cs) true
 
-late-differ : (d e a b : ℕ) → everyFormat (differAt lateSeconds d e a b) ≡ true
+late-differ : (u v : Time) (a b : ℕ) → everyFormat (differAt lateSeconds u v a b) ≡ true
 unfolding everyFormat table size rowOf lookUp filler isMark symbolAt runs fields timeFields numbers timeNumbers seconds minutes hours days tenths hundredthsDigit straightSeconds hasSeconds carriesSeconds control carriesControl carriesLeap
-late-differ d e a b = refl
+late-differ u v a b = refl
 
 leap-apart : (f : Format) (u v : Time) → known f ≡ true → LeapTurn f u v → Apart f u v
 leap-apart f u v k t =
     let c = u .hundredths in
-    let q = time-path v (on (v .day) 0) refl (t .midnight) in
-    let late : (a b : ℕ) → every (λ c. differ f (on (u .day) c) a (on (v .day) 0) b midnightPlaces) lateSeconds ≡ true = λ a b. rw (t .carried) at (of-every (differAt lateSeconds (u .day) (v .day) a b) (late-differ (u .day) (v .day) a b) f k) in
-    rw q (differ-apart f u (on (v .day) 0) midnightPlaces refl (omega arith) (λ a b. one-of (λ c. differ f (on (u .day) c) a (on (v .day) 0) b midnightPlaces) lateSeconds (late a b) c (is-late (t .late))))
+    let q = time-path v (sameDayAt v 0) refl (t .midnight) in
+    let late : (a b : ℕ) → every (λ c. differ f (sameDayAt u c) a (sameDayAt v 0) b midnightPlaces) lateSeconds ≡ true = λ a b. rw (t .carried) at (of-every (differAt lateSeconds u v a b) (late-differ u v a b) f k) in
+    rw q (differ-apart f u (sameDayAt v 0) midnightPlaces refl (omega arith) (λ a b. one-of (λ c. differ f (sameDayAt u c) a (sameDayAt v 0) b midnightPlaces) lateSeconds (late a b) c (is-late (t .late))))
   where
     is-late : (u .hundredths ≡ 8639900) ⊎ (u .hundredths ≡ dayLength) → member (u .hundredths) lateSeconds ≡ true
     is-late (inl p) = rw p

@@ -7,12 +7,28 @@ use native.Mathlib.Omega.{arith}
 use borrow.Author.Tests.{leb-true, ltb-true, eqb-true, le-leb, lt-ltb, eq-eqb}
 use lib.Dec.{leb, eqb}
 use Rattle.timecode.specs.Formats.{table, lookUp, rowOf, known, interval, lastDay, lastHundredth, dayLength, inRange, onFormat, carriesLeap, secondCarried, OnFormat}
-use Rattle.timecode.specs.Frames.{timeIn}
+use Rattle.timecode.specs.Frames.{sameTime, timeIn}
 use Rattle.timecode.specs.Laws.Table.{by-letter}
 use Rattle.timecode.specs.Laws.Tests.{by-test, and-left, and-right}
 use Rattle.timecode.specs.Layout.{seconds, minutes, hours, days, tenths, hundredthsDigit, timeFields, flatten, addedIn, second, minute, hour, timeNumbers, allDigits, Small, decode}
 use Rattle.timecode.specs.declared.Format.{Format}
 use Rattle.timecode.specs.declared.Time.{Time}
+
+-- ---- two times are one
+
+pub time-path : (t u : Time) → t .day ≡ u .day → t .hundredths ≡ u .hundredths → t ≡ u
+time-path t u p q = λ i. record { day = p i; hundredths = q i }
+
+pub same-is : (t u : Time) → sameTime t u ≡ true → t ≡ u
+same-is t u h =
+    let d = eqb (t .day) (u .day) in
+    let c = eqb (t .hundredths) (u .hundredths) in
+    time-path t u (eqb-true (t .day) (u .day) (and-left d c h)) (eqb-true (t .hundredths) (u .hundredths) (and-right d c h))
+
+pub same-self : (t : Time) → sameTime t t ≡ true
+same-self t = rw (eq-eqb (t .day) (t .day) refl, eq-eqb (t .hundredths) (t .hundredths) refl)
+
+-- ---- a time on the format
 
 second-carried : (f : Format) (t : Time) → secondCarried f t ≡ true → carriesLeap f ≡ false → t .hundredths < dayLength
 unfolding secondCarried

@@ -10,7 +10,7 @@ use borrow.Author.Tests.{eqb-true, eq-eqb}
 use lib.ListN.{length, getD, drop, length-drop}
 use lib.Seq.{getD-take, getD-drop, length-take-le}
 use Rattle.timecode.specs.Formats.{size}
-use Rattle.timecode.specs.Frames.{Follows, nextAfter, readOf}
+use Rattle.timecode.specs.Frames.{noTime, Follows, nextAfter, readOf}
 use Rattle.timecode.specs.Laws.Checks.{quiet-no-report}
 use Rattle.timecode.specs.Laws.Marks.{size-positive, accepted-first, accepted-last}
 use Rattle.timecode.specs.Laws.Stepping.{next-follows, follows-next}
@@ -43,7 +43,7 @@ pub record Confirmed (f : Format) (m : ℕ) (window : List ℕ) (t : Time) (w : 
 
 abbrev timeOf : Reading → Time
 timeOf (Accepted t w) = t
-timeOf (Reading.Refused r) = record { day = 0; hundredths = 0 }
+timeOf (Reading.Refused r) = noTime
 
 abbrev controlOf : Reading → ℕ
 controlOf (Accepted t w) = w

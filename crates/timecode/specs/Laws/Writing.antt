@@ -17,7 +17,7 @@ use Rattle.timecode.specs.Laws.Reading.{elements-pass, straight-binary, 
 use Rattle.timecode.specs.Laws.Runs.{length-encode, small-length, small-append, decode-encode, encode-clean}
 use Rattle.timecode.specs.Laws.Table.{layout-proper}
 use Rattle.timecode.specs.Laws.Tests.{by-test}
-use Rattle.timecode.specs.Laws.Times.{on-format, is-on-format, is-carried, one-added, time-small}
+use Rattle.timecode.specs.Laws.Times.{time-path, on-format, is-on-format, is-carried, one-added, time-small}
 use Rattle.timecode.specs.Layout.{Run, seconds, minutes, hours, days, tenths, hundredthsDigit, hasSeconds, straightSeconds, control, timeFields, fields, flatten, runs, second, minute, hour, timeNumbers, numbers, fieldDigits, allDigits, inRun, isMark, filler, symbolAt, tabulate, encode, numberIn, Small, decode}
 use Rattle.timecode.specs.declared.Format.{Format}
 use Rattle.timecode.specs.declared.Reading.{Reading}
@@ -123,7 +123,7 @@ module _ (f : Format) (t : Time) (w : ℕ) (v : Valid f t w) where
 
   time-back : timeIn f frame ≡ t
   unfolding timeIn
-  time-back = λ i. record { day = day-back i; hundredths = clock-back i }
+  time-back = time-path (timeIn f frame) t day-back clock-back
     where
       clock-back : ((numberIn frame (hours f) * 60 + numberIn frame (minutes f)) * 60 + numberIn frame (seconds f)) * 100 + numberIn frame (tenths f) * 10 + numberIn frame (hundredthsDigit f) ≡ t .hundredths
       clock-back = rw (hour-back, minute-back, second-back, tenth-back, hundredth-back) (omega (arith, v .time .below))
