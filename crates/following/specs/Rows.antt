@@ -18,7 +18,7 @@ use Rattle.timecode.specs.Laws.Marks.{accepted-first, accepted-last, mark-index
 use Rattle.timecode.specs.Laws.Reading.{accepted-was-written}
 use Rattle.timecode.specs.Laws.Table.{size-range}
 use Rattle.timecode.specs.Laws.Tests.{by-test, clash, and-left, and-right}
-use Rattle.timecode.specs.Layout.{isMark}
+use Rattle.timecode.specs.Layout.{filler}
 use Rattle.timecode.specs.Stream.{lead, opens, windowLength, frameIn, firstInRow, nextInRow, inRow, windowAnswer, lastOf, plainAnswer}
 use Rattle.timecode.specs.declared.Answer.{Answer}
 use Rattle.timecode.specs.declared.Answer.the-variants.{Quiet, Report}
@@ -272,8 +272,8 @@ no-opening-inside f frame t w h i b o =
     let p = accepted-was-written f frame t w h in
     let second = eqb-true (getD frame (suc i) 0) 2 (and-left (eqb (getD frame (suc i) 0) 2) (leadsFrame f (getD frame i 0)) o) in
     let first = eqb-true (getD frame i 0) 2 (and-right (eqb (getD frame (suc i) 0) 2) (leadsFrame f (getD frame i 0)) o) in
-    let at : (k : ℕ) → k < size f → getD frame k 0 ≡ 2 → isMark k ≡ true = λ k c m. mark-only f t w (p .0) k c (ap (λ (xs : List ℕ). getD xs k 0) (p .1) ∙ m) in
-    marks-apart i (mark-index i (at i (omega arith) first)) (mark-index (suc i) (at (suc i) b second))
+    let at : (k : ℕ) → k < size f → getD frame k 0 ≡ 2 → filler f k ≡ 2 = λ k c m. mark-only f t w (p .0) k c (ap (λ (xs : List ℕ). getD xs k 0) (p .1) ∙ m) in
+    marks-apart i (mark-index f i (at i (omega arith) first)) (mark-index f (suc i) (at (suc i) b second))
 
 pub accepted-opens : (f : Format) (frame : List ℕ) (t : Time) (w : ℕ) → readOf f frame ≡ Accepted t w → getD frame 0 0 ≡ 2
 accepted-opens f frame t w h = accepted-first f frame t w h

@@ -103,16 +103,16 @@ module _ (f : Format) (m : ℕ) (ss : List ℕ) (none : Answer) where
 -- a window of a generator's elements, whatever was received before
 module _ (f : Format) (m : ℕ) (few : suc m ≤ 5) (sent : List Sent) (gen : Generator f sent) where
   intact : (before : List ℕ) (q : ℕ) → q + suc m < length sent
-      → plainAnswer f (suc m) (before ++ take (windowLength f (suc m)) (drop (size f * suc q - 1) (elements f sent))) ≡ Report (sentAt sent (q + suc m) .time) (sentAt sent (q + suc m) .control)
+      → plainAnswer f (suc m) (before ++ take (windowLength f (suc m)) (drop (size f * suc q - lead f) (elements f sent))) ≡ Report (sentAt sent (q + suc m) .time) (sentAt sent (q + suc m) .control)
   unfolding windowLength
   intact before q h =
-      let start = size f * suc q - 1 in
-      let n = suc m * size f + 1 in
+      let start = size f * suc q - lead f in
+      let n = suc m * size f + lead f in
       let window = take n (drop start (elements f sent)) in
       let whole : size f * suc (q + suc m) ≤ size f * length sent = mul-le-mul-left (size f) h in
-      let inside : size f * suc q - 1 + (suc m * size f + 1) ≤ length (elements f sent) = omega (arith, length-elements f sent, size-positive f) in
-      let l : length (take (suc m * size f + 1) (drop (size f * suc q - 1) (elements f sent))) ≡ suc m * size f + 1 =
-      length-take-le n (drop start (elements f sent)) (omega (arith, length-drop (size f * suc q - 1) (elements f sent))) in
+      let inside : size f * suc q - lead f + (suc m * size f + lead f) ≤ length (elements f sent) = omega (arith, length-elements f sent, size-positive f) in
+      let l : length (take (suc m * size f + lead f) (drop (size f * suc q - lead f) (elements f sent))) ≡ suc m * size f + lead f =
+      length-take-le n (drop start (elements f sent)) (omega (arith, length-drop (size f * suc q - lead f) (elements f sent))) in
       let u : q + suc m ≡ suc q + m = omega arith in
       rw u
       (part-intact f m sent gen start [] before window (part-replaced f sent start n [] window inside (none-replaced window)) (omega arith) (λ j b. refl) (suc q) (omega (arith, size-positive f)))

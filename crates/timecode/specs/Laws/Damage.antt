@@ -6,6 +6,7 @@ use mathlib.Core.Logic.{_⊎_, inl, inr}
 use Prim.Native.Nat.{ℕ, zero, suc, _+_, _*_, _-_, _/_, _%_, _<_, _≤_}
 use native.Mathlib.Nat.{div-add-mod, lt-of-mul-lt-mul-left, add-mul-mod-self-left, le-of-mul-le-mul-left, mul-le-mul-left, div-eq-of-lt-le, add-zero}
 use native.Mathlib.Omega.{arith}
+use borrow.Author.Tests.{eq-eqb}
 use lib.ListN.{length, getD, length-map}
 use lib.Seq.{ext-getD}
 use Rattle.timecode.specs.Formats.{member, size}
@@ -17,7 +18,7 @@ use Rattle.timecode.specs.Laws.Reading.{accepted-was-written}
 use Rattle.timecode.specs.Laws.Successors.{two-that-follow-are-apart}
 use Rattle.timecode.specs.Laws.Windows.{long, Confirmed, length-frame-in, at-frame, first-of, before-of}
 use Rattle.timecode.specs.Laws.Writing.{length-written}
-use Rattle.timecode.specs.Stream.{frameIn}
+use Rattle.timecode.specs.Stream.{lead, frameIn}
 use Rattle.timecode.specs.declared.Format.{Format}
 use Rattle.timecode.specs.declared.Reading.the-variants.{Accepted}
 use Rattle.timecode.specs.declared.Time.{Time}
@@ -29,38 +30,38 @@ pub record Near (f : Format) (m : ℕ) (sent : List Sent) (start : ℕ) (places 
   pub same : (k : ℕ) → k < long f m → member k places ≡ false → getD window k 0 ≡ getD (elements f sent) (start + k) 0
 
 module _ (f : Format) (m : ℕ) (sent : List Sent) (gen : Generator f sent) (start : ℕ) (places window : List ℕ) (near : Near f m sent start places window) where
-  -- one of m + 1 pairs of marks is untouched, so the window begins one element before a frame
-  aligned : length places ≤ m → (t : Time) (w : ℕ) → Confirmed f m window t w → (start + 1) % size f ≡ 0
+  -- one of m + 1 pairs of marks is untouched, so the window begins with the lead of a frame
+  aligned : length places ≤ m → (t : Time) (w : ℕ) → Confirmed f m window t w → (start + lead f) % size f ≡ 0
   aligned few t w c =
       let x = missed (suc m) (map (λ p. p / size f) places) (omega (arith, length-map places (λ p. p / size f))) in
       let j = x .0 in
       let b : j ≤ m = omega (arith, x .1) in
       let q0 : size f * j / size f ≡ j = div-eq-of-lt-le (size f) (omega arith) (omega (arith, size-positive f)) in
-      let q1 : (size f * j + 1) / size f ≡ j = div-eq-of-lt-le (size f) (omega arith) (omega (arith, size-large f)) in
+      let q1 : (lead f + size f * j) / size f ≡ j = div-eq-of-lt-le (size f) (omega arith) (omega (arith, size-large f)) in
       let h0 : member (size f * j) places ≡ false = member-map (λ p. p / size f) (size f * j) places (rw q0 (x .2)) in
-      let h1 : member (size f * j + 1) places ≡ false = member-map (λ p. p / size f) (size f * j + 1) places (rw q1 (x .2)) in
+      let h1 : member (lead f + size f * j) places ≡ false = member-map (λ p. p / size f) (lead f + size f * j) places (rw q1 (x .2)) in
       let y = mul-le-mul-left (size f) b in
       let m0 = marks f sent gen (start + size f * j) (sym (near .same (size f * j) (omega (arith, size-positive f)) h0) ∙ before-of f m window t w c j b) in
-      let m1 = marks f sent gen (start + (size f * j + 1)) (sym (near .same (size f * j + 1) (omega (arith, size-positive f)) h1) ∙ first-of f m window t w c j b) in
-      let u : start + (size f * j + 1) ≡ start + size f * j + 1 = omega arith in
-      let v : start + size f * j + 1 ≡ start + 1 + size f * j = omega arith in
-      sym (add-mul-mod-self-left (start + 1) (size f) j) ∙ ap (λ (k : ℕ). k % size f) (sym v) ∙ pair f (start + size f * j) m0 (rw u at m1)
+      let m1 = marks f sent gen (start + (lead f + size f * j)) (sym (near .same (lead f + size f * j) (omega (arith, size-positive f)) h1) ∙ first-of f m window t w c j b) in
+      let u : start + (lead f + size f * j) ≡ start + size f * j + 1 = omega arith in
+      let v : start + size f * j + 1 ≡ start + lead f + size f * j = omega arith in
+      sym (add-mul-mod-self-left (start + lead f) (size f) j) ∙ ap (λ (k : ℕ). k % size f) (sym v) ∙ pair f (start + size f * j) m0 (rw u at m1)
 
-  module _ (q : ℕ) (a : start + 1 ≡ size f * q) where
+  module _ (q : ℕ) (a : start + lead f ≡ size f * q) where
     pub frames-inside : q + m < length sent
     frames-inside = le-of-mul-le-mul-left {k = size f} (omega (arith, near .inside, length-elements f sent)) (size-positive f)
 
     -- an untouched element of frame j
-    frame-near : (j i : ℕ) → j ≤ m → i < size f → member (1 + size f * j + i) places ≡ false → getD (frameIn f window j) i 0 ≡ getD (frameOf f (sentAt sent (q + j))) i 0
+    frame-near : (j i : ℕ) → j ≤ m → i < size f → member (lead f + size f * j + i) places ≡ false → getD (frameIn f window j) i 0 ≡ getD (frameOf f (sentAt sent (q + j))) i 0
     frame-near j i b h d =
-        let u : start + (1 + size f * j + i) ≡ size f * (q + j) + i = omega arith in
+        let u : start + (lead f + size f * j + i) ≡ size f * (q + j) + i = omega arith in
         at-frame f window j i h
-        ∙ near .same (1 + size f * j + i) (omega (arith, mul-le-mul-left (size f) b)) d
+        ∙ near .same (lead f + size f * j + i) (omega (arith, mul-le-mul-left (size f) b)) d
         ∙ ap (λ (x : ℕ). getD (elements f sent) x 0) u
         ∙ element-at f sent (q + j) i (omega (arith, frames-inside)) h
 
     -- an untouched frame reads as it was sent
-    untouched-reads : (j : ℕ) → j ≤ m → ((i : ℕ) → i < size f → member (1 + size f * j + i) places ≡ false) → readOf f (frameIn f window j) ≡ Accepted (sentAt sent (q + j) .time) (sentAt sent (q + j) .control)
+    untouched-reads : (j : ℕ) → j ≤ m → ((i : ℕ) → i < size f → member (lead f + size f * j + i) places ≡ false) → readOf f (frameIn f window j) ≡ Accepted (sentAt sent (q + j) .time) (sentAt sent (q + j) .control)
     untouched-reads j b d = ap (readOf f) whole ∙ frame-reads f sent gen (q + j) (omega (arith, frames-inside))
       where
         n : length (frameIn f window j) ≡ size f
@@ -79,18 +80,18 @@ module _ (f : Format) (m : ℕ) (sent : List Sent) (gen : Generator f sent) (sta
           sent-follows : Follows f (sentAt sent (q + j) .time) (sentAt sent (q + suc j) .time)
           sent-follows = let u : suc (q + j) ≡ q + suc j = omega arith in rw u at (gen .steps (q + j) (omega (arith, frames-inside)))
 
-          same : (i : ℕ) → i < size f → member i (map (λ p. p - (1 + size f * suc j)) places) ≡ false
+          same : (i : ℕ) → i < size f → member i (map (λ p. p - (lead f + size f * suc j)) places) ≡ false
               → getD (written f (c .times (suc j)) (c .controls (suc j))) i 0 ≡ getD (written f (sentAt sent (q + suc j) .time) (sentAt sent (q + suc j) .control)) i 0
           same i h d =
-              let u : 1 + size f * suc j + i - (1 + size f * suc j) ≡ i = omega arith in
+              let u : lead f + size f * suc j + i - (lead f + size f * suc j) ≡ i = omega arith in
               ap (λ (x : List ℕ). getD x i 0) (accepted-was-written f (frameIn f window (suc j)) (c .times (suc j)) (c .controls (suc j)) (c .reads (suc j) b) .1)
-              ∙ frame-near (suc j) i b h (member-map (λ p. p - (1 + size f * suc j)) (1 + size f * suc j + i) places (rw u d))
+              ∙ frame-near (suc j) i b h (member-map (λ p. p - (lead f + size f * suc j)) (lead f + size f * suc j + i) places (rw u d))
 
           pick : (c .times (suc j) ≡ sentAt sent (q + suc j) .time) ⊎ Apart f (c .times (suc j)) (sentAt sent (q + suc j) .time) → c .times (suc j) ≡ sentAt sent (q + suc j) .time
           pick (inl p) = p
           pick (inr p) =
               absurd
-              (p (c .controls (suc j)) (sentAt sent (q + suc j) .control) (map (λ p. p - (1 + size f * suc j)) places) (omega (arith, length-map places (λ p. p - (1 + size f * suc j)))) same)
+              (p (c .controls (suc j)) (sentAt sent (q + suc j) .control) (map (λ p. p - (lead f + size f * suc j)) places) (omega (arith, length-map places (λ p. p - (lead f + size f * suc j)))) same)
 
       right-on : length places < 7 → (j d : ℕ) → j + d ≤ m → c .times j ≡ sentAt sent (q + j) .time → c .times (j + d) ≡ sentAt sent (q + (j + d)) .time
       right-on few j zero b r = rw (add-zero j) r
@@ -99,13 +100,13 @@ module _ (f : Format) (m : ℕ) (sent : List Sent) (gen : Generator f sent) (sta
       -- some frame is untouched, and the times behind it are right
       right-last : length places ≤ m → length places < 7 → c .times m ≡ sentAt sent (q + m) .time
       right-last few less =
-          let x = missed (suc m) (map (λ p. (p - 1) / size f) places) (omega (arith, length-map places (λ p. (p - 1) / size f))) in
+          let x = missed (suc m) (map (λ p. (p - lead f) / size f) places) (omega (arith, length-map places (λ p. (p - lead f) / size f))) in
           let j = x .0 in
           let b : j ≤ m = omega (arith, x .1) in
-          let d : (i : ℕ) → i < size f → member (1 + size f * j + i) places ≡ false =
+          let d : (i : ℕ) → i < size f → member (lead f + size f * j + i) places ≡ false =
           (λ i h.
-          let y : (1 + size f * j + i - 1) / size f ≡ j = div-eq-of-lt-le (size f) (omega arith) (omega arith) in
-          member-map (λ p. (p - 1) / size f) (1 + size f * j + i) places (rw y (x .2))) in
+          let y : (lead f + size f * j + i - lead f) / size f ≡ j = div-eq-of-lt-le (size f) (omega arith) (omega arith) in
+          member-map (λ p. (p - lead f) / size f) (lead f + size f * j + i) places (rw y (x .2))) in
           let read = untouched-reads j b d in
           let found = c .reads j b in
           let right : c .times j ≡ sentAt sent (q + j) .time = cc in
@@ -114,25 +115,25 @@ module _ (f : Format) (m : ℕ) (sent : List Sent) (gen : Generator f sent) (sta
 
   pub no-false-time : length places ≤ m → length places < 7 → (t : Time) (w : ℕ) → Confirmed f m window t w → EndsFrame f sent (start + long f m) t
   no-false-time few less t w c =
-      let q = (start + 1) / size f in
-      let a : start + 1 ≡ size f * q = omega (arith, div-add-mod (start + 1) (size f), aligned few t w c) in
+      let q = (start + lead f) / size f in
+      let a : start + lead f ≡ size f * q = omega (arith, div-add-mod (start + lead f) (size f), aligned few t w c) in
       record { frame = q + m; inside = frames-inside q a; whole = omega arith; time = sym (c .last-time) ∙ right-last q a t w c few less }
 
-  pub intact : ((k : ℕ) → k < long f m → member k places ≡ false) → (q : ℕ) → start + 1 ≡ size f * q → Confirmed f m window (sentAt sent (q + m) .time) (sentAt sent (q + m) .control)
+  pub intact : ((k : ℕ) → k < long f m → member k places ≡ false) → (q : ℕ) → start + lead f ≡ size f * q → Confirmed f m window (sentAt sent (q + m) .time) (sentAt sent (q + m) .control)
   intact clear q a =
       record {
         times = λ j. sentAt sent (q + j) .time;
         controls = λ j. sentAt sent (q + j) .control;
-        begins = lead q a;
-        reads = λ j b. untouched-reads q a j b (λ i h. clear (1 + size f * j + i) (omega (arith, mul-le-mul-left (size f) b)));
+        begins = eq-eqb (getD window 0 0) 2 (mark-before q a);
+        reads = λ j b. untouched-reads q a j b (λ i h. clear (lead f + size f * j + i) (omega (arith, mul-le-mul-left (size f) b)));
         follows = λ j b. let u : suc (q + j) ≡ q + suc j = omega arith in rw u at (gen .steps (q + j) (omega (arith, frames-inside q a)));
         last-time = refl;
         last-control = refl;
       }
     where
-      lead : (q : ℕ) → start + 1 ≡ size f * q → getD window 0 0 ≡ 2
-      lead zero a = let n : ⊥ = omega arith in absurd n
-      lead (suc q) a =
+      mark-before : (q : ℕ) → start + lead f ≡ size f * q → getD window 0 0 ≡ 2
+      mark-before zero a = let n : ⊥ = omega arith in absurd n
+      mark-before (suc q) a =
           let u : start + 0 ≡ size f * q + (size f - 1) = omega (arith, size-positive f) in
           let b : suc q < length sent = lt-of-mul-lt-mul-left (size f) (omega (arith, near .inside, length-elements f sent, size-positive f)) in
           near .same 0 (omega arith) (clear 0 (omega arith))

@@ -100,7 +100,7 @@ marks f sent gen k h = go (decLt k (length (elements f sent)))
     go (yes a) =
         let p = place-in-frame f sent k a in
         let s = sentAt sent (k / size f) in
-        mark-at f k (mark-index (k % size f) (mark-only f (s .time) (s .control) (sent-valid f sent gen (k / size f) (p .inside)) (k % size f) (p .index) (sym (p .is) ∙ h)))
+        mark-at f k (mark-index f (k % size f) (mark-only f (s .time) (s .control) (sent-valid f sent gen (k / size f) (p .inside)) (k % size f) (p .index) (sym (p .is) ∙ h)))
 
 abbrev Pair : ℕ → Type 0
 Pair n = (k : ℕ) → MarkAt n k → MarkAt n (k + 1) → (k + 1) % n ≡ 0

@@ -1,14 +1,14 @@
 -- The plain machine with the setting k: exactly when it reports, that its answers depend on the last kn + 1 symbols alone, and that a higher setting reports a part of what a lower one reports.
 use mathlib.Core.Path.{_≡_, refl, sym, ap, ap₂, _∙_, subst}
-use mathlib.Core.Bool.{cond}
+use mathlib.Core.Bool.{true, cond}
 use mathlib.Core.List.{List, [], _∷_, _++_, append-assoc, append-nil}
 use mathlib.Core.Logic.{_↔_}
 use Prim.Native.Nat.{ℕ, zero, suc, _+_, _*_, _-_, _<_, _≤_}
 use native.Mathlib.Nat.{not-suc-le-zero, mul-zero, mul-le-mul-left}
 use native.Mathlib.Omega.{arith}
 use native.Mathlib.Decide.{ℕ-discrete, decLe, decLt}
-use borrow.Author.Tests.{leb-true, leb-false, le-leb, lt-leb}
-use lib.ListN.{getD, length, take, drop, length-append, length-drop, take-append-drop}
+use borrow.Author.Tests.{leb-true, leb-false, le-leb, lt-leb, eqb-true, eq-eqb}
+use lib.ListN.{getD, length, take, drop, replicate, length-append, length-drop, length-replicate, take-append-drop}
 use lib.Seq.{drop-cons, drop-drop, drop-at, take-all, take-add, take-append-le, take-append-seam, drop-append-le, getD-drop}
 use Rattle.timecode.specs.Formats.{isSymbol, size}
 use Rattle.timecode.specs.Laws.Checks.{quiet-no-report, refused-no-report}
@@ -17,7 +17,7 @@ use Rattle.timecode.specs.Laws.Stepping.{next-follows, follows-next}
 use Rattle.timecode.specs.Laws.Tests.{by-test}
 use Rattle.timecode.specs.Frames.{readOf}
 use Rattle.timecode.specs.Laws.Windows.{Confirmed, window-confirmed, confirmed-window, window-quiet, before-of}
-use Rattle.timecode.specs.Stream.{windowLength, frameIn, windowAnswer, lastOf, plainAnswer, Plain, plainFeed, plainAnswers, plainReceived, elementsOf, IsElement, IsNewest, elementsUpTo, joined, EndsInFrames, SameWindow}
+use Rattle.timecode.specs.Stream.{lead, opens, windowLength, frameIn, windowAnswer, lastOf, plainAnswer, Plain, plainFeed, plainAnswers, plainReceived, elementsOf, IsElement, IsNewest, elementsUpTo, joined, EndsInFrames, SameWindow}
 use Rattle.timecode.specs.declared.Answer.{Answer}
 use Rattle.timecode.specs.declared.Answer.the-variants.{Quiet, Report}
 use Rattle.timecode.specs.declared.Format.{Format}
@@ -82,23 +82,26 @@ length-last k xs h = length-drop (length xs - k) xs ∙ omega arith
 
 -- ---- exactly when a report comes
 
--- a window is its first symbol and its frames
-window-parts : (f : Format) (window : List ℕ) (k : ℕ) → take (1 + size f * k) window ≡ take 1 window ++ joined (frameIn f window) k
+-- a window is its lead and its frames
+window-parts : (f : Format) (window : List ℕ) (k : ℕ) → take (lead f + size f * k) window ≡ take (lead f) window ++ joined (frameIn f window) k
 unfolding frameIn
-window-parts f window zero = let u : 1 + size f * 0 ≡ 1 = omega arith in ap (λ (n : ℕ). take n window) u ∙ sym (append-nil (take 1 window))
+window-parts f window zero = let u : lead f + size f * 0 ≡ lead f = omega arith in ap (λ (n : ℕ). take n window) u ∙ sym (append-nil (take (lead f) window))
 window-parts f window (suc k) =
-    let u : 1 + size f * suc k ≡ 1 + size f * k + size f = omega arith in
+    let u : lead f + size f * suc k ≡ lead f + size f * k + size f = omega arith in
     ap (λ (n : ℕ). take n window) u
-    ∙ take-add (1 + size f * k) (size f) window
+    ∙ take-add (lead f + size f * k) (size f) window
     ∙ ap (λ (xs : List ℕ). xs ++ frameIn f window k) (window-parts f window k)
-    ∙ append-assoc (take 1 window) (joined (frameIn f window) k) (frameIn f window k)
+    ∙ append-assoc (take (lead f) window) (joined (frameIn f window) k) (frameIn f window k)
 
-window-is : (f : Format) (k : ℕ) (window : List ℕ) → length window ≡ windowLength f k → getD window 0 0 ≡ 2 → window ≡ 2 ∷ joined (frameIn f window) k
+lead-marks : (f : Format) (window : List ℕ) → 0 < length window → opens f window ≡ true → take (lead f) window ≡ replicate (lead f) 2
+lead-marks f window l b = ap (take 1) (drop-cons window 0 0 l) ∙ ap (λ (s : ℕ). s ∷ []) (eqb-true (getD window 0 0) 2 b)
+
+window-is : (f : Format) (k : ℕ) (window : List ℕ) → length window ≡ windowLength f k → opens f window ≡ true → window ≡ replicate (lead f) 2 ++ joined (frameIn f window) k
 unfolding windowLength
 window-is f k window l b =
-    sym (take-all (1 + size f * k) window (omega arith))
+    sym (take-all (lead f + size f * k) window (omega arith))
     ∙ window-parts f window k
-    ∙ ap (λ (xs : List ℕ). xs ++ joined (frameIn f window) k) (ap (take 1) (drop-cons window 0 0 (omega arith)) ∙ ap (λ (s : ℕ). s ∷ []) b)
+    ∙ ap (λ (xs : List ℕ). xs ++ joined (frameIn f window) k) (lead-marks f window (omega arith) b)
 
 module _ (f : Format) (frames : ℕ → List ℕ) where
   length-joined : (k : ℕ) → ((j : ℕ) → j < k → length (frames j) ≡ size f) → length (joined frames k) ≡ size f * k
@@ -152,19 +155,24 @@ unfolding windowLength lastOf frameIn
 ends-report f m received t w e = answer-long f (suc m) received (omega (arith, n)) ∙ ap (windowAnswer f (suc m)) last ∙ confirmed-window f m window t w confirmed
   where
     window : List ℕ
-    window = 2 ∷ joined (e .frames) (suc m)
+    window = replicate (lead f) 2 ++ joined (e .frames) (suc m)
 
     whole : (j : ℕ) → j < suc m → length (e .frames j) ≡ size f
     whole j b = accepted-length f (e .frames j) (e .times j) (e .controls j) (e .accepted j b)
 
-    n : length received ≡ length (e .before) + suc (size f * suc m)
-    n = ap length (e .received-is) ∙ length-append (e .before) window ∙ ap (λ (x : ℕ). length (e .before) + suc x) (length-joined f (e .frames) (suc m) whole)
+    window-size : length window ≡ lead f + size f * suc m
+    window-size =
+        length-append (replicate (lead f) 2) (joined (e .frames) (suc m))
+        ∙ ap₂ (λ (x y : ℕ). x + y) (length-replicate {A = ℕ} (lead f) 2) (length-joined f (e .frames) (suc m) whole)
 
-    last : drop (length received - (suc m * size f + 1)) received ≡ window
-    last = ap (drop (length received - (suc m * size f + 1))) (e .received-is) ∙ drop-at (e .before) window (length received - (suc m * size f + 1)) (omega (arith, n))
+    n : length received ≡ length (e .before) + (lead f + size f * suc m)
+    n = ap length (e .received-is) ∙ length-append (e .before) window ∙ ap (λ (x : ℕ). length (e .before) + x) window-size
 
-    frame-is : (j : ℕ) → j < suc m → take (size f) (drop (1 + size f * j) window) ≡ e .frames j
-    frame-is j b = let u : 1 + size f * j ≡ suc (size f * j) = omega arith in rw u (part-of f (e .frames) (suc m) whole j b)
+    last : drop (length received - (suc m * size f + lead f)) received ≡ window
+    last = ap (drop (length received - (suc m * size f + lead f))) (e .received-is) ∙ drop-at (e .before) window (length received - (suc m * size f + lead f)) (omega (arith, n))
+
+    frame-is : (j : ℕ) → j < suc m → take (size f) (drop (lead f + size f * j) window) ≡ e .frames j
+    frame-is j b = let u : lead f + size f * j ≡ suc (size f * j) = omega arith in rw u (part-of f (e .frames) (suc m) whole j b)
 
     confirmed : Confirmed f m window t w
     confirmed =
@@ -263,8 +271,8 @@ feed-at f k received (s ∷ ss) none (suc i) b =
 frame-later : (f : Format) (window : List ℕ) (d j : ℕ) → frameIn f (drop (size f * d) window) j ≡ frameIn f window (d + j)
 unfolding frameIn
 frame-later f window d j =
-    let u : size f * d + (1 + size f * j) ≡ 1 + size f * (d + j) = omega arith in
-    ap (take (size f)) (drop-drop (1 + size f * j) (size f * d) window ∙ ap (λ (i : ℕ). drop i window) u)
+    let u : size f * d + (lead f + size f * j) ≡ lead f + size f * (d + j) = omega arith in
+    ap (take (size f)) (drop-drop (lead f + size f * j) (size f * d) window ∙ ap (λ (i : ℕ). drop i window) u)
 
 -- the last m + 1 of d + m + 1 frames are confirmed too
 fewer-confirmed : (f : Format) (m d : ℕ) (window : List ℕ) (t : Time) (w : ℕ) → Confirmed f (d + m) window t w → Confirmed f m (drop (size f * d) window) t w
@@ -273,7 +281,7 @@ fewer-confirmed f m d window t w c =
     record {
       times = λ j. c .times (d + j);
       controls = λ j. c .controls (d + j);
-      begins = getD-drop (size f * d) window 0 0 ∙ ap (λ (i : ℕ). getD window i 0) u ∙ before-of f (d + m) window t w c d (omega arith);
+      begins = eq-eqb (getD (drop (size f * d) window) 0 0) 2 (getD-drop (size f * d) window 0 0 ∙ ap (λ (i : ℕ). getD window i 0) u ∙ before-of f (d + m) window t w c d (omega arith));
       reads = λ j b. rw (frame-later f window d j) (c .reads (d + j) (omega arith));
       follows = λ j b. let v : d + suc j ≡ suc (d + j) = omega arith in rw v (c .follows (d + j) (omega arith));
       last-time = c .last-time;
@@ -288,9 +296,9 @@ fewer-report f m d received t w h =
     let long-window = lastOf (windowLength f (suc (d + m))) received in
     let c = window-confirmed f (d + m) long-window t w (sym (answer-long f (suc (d + m)) received l) ∙ h) in
     let r = confirmed-window f m (drop (size f * d) long-window) t w (fewer-confirmed f m d long-window t w c) in
-    let u : length received - (suc (d + m) * size f + 1) + size f * d ≡ length received - (suc m * size f + 1) = omega arith in
-    let z : drop (size f * d) (drop (length received - (suc (d + m) * size f + 1)) received) ≡ drop (length received - (suc m * size f + 1)) received =
-    drop-drop (size f * d) (length received - (suc (d + m) * size f + 1)) received ∙ ap (λ (i : ℕ). drop i received) u in
+    let u : length received - (suc (d + m) * size f + lead f) + size f * d ≡ length received - (suc m * size f + lead f) = omega arith in
+    let z : drop (size f * d) (drop (length received - (suc (d + m) * size f + lead f)) received) ≡ drop (length received - (suc m * size f + lead f)) received =
+    drop-drop (size f * d) (length received - (suc (d + m) * size f + lead f)) received ∙ ap (λ (i : ℕ). drop i received) u in
     answer-long f (suc m) received (omega arith) ∙ ap (windowAnswer f (suc m)) (sym z) ∙ r
 
 pub higher-report : (f : Format) (k m : ℕ) → 1 ≤ k → k ≤ m → (received : List ℕ) (t : Time) (w : ℕ) → plainAnswer f m received ≡ Report t w → plainAnswer f k received ≡ Report t w

@@ -31,47 +31,45 @@ pub at-written : (f : Format) (t : Time) (w i : ℕ) → i < size f → getD (wr
 unfolding written
 at-written f t w i h = getD-encode (size f) (filler f) (runs f) (allDigits (fields f) (numbers t w)) i h
 
-filler-mark : (f : Format) (i : ℕ) → isMark i ≡ true → filler f i ≡ 2
-unfolding filler
-filler-mark f i h = rw h
-
-mark-filler : (f : Format) (i : ℕ) → filler f i ≡ 2 → isMark i ≡ true
-unfolding filler
-mark-filler f i h = by-test (isMark i) (λ y. y) (λ m. let z : _≡_ {A = ℕ} 0 2 = rw m at h in let n : ⊥ = omega arith in absurd n)
-
-pub mark-there : (f : Format) (t : Time) (w : ℕ) → Valid f t w → (i : ℕ) → i < size f → isMark i ≡ true → getD (written f t w) i 0 ≡ 2
+-- a mark stands exactly where what fills the rest of a frame is a mark
+pub mark-there : (f : Format) (t : Time) (w : ℕ) → Valid f t w → (i : ℕ) → i < size f → filler f i ≡ 2 → getD (written f t w) i 0 ≡ 2
 mark-there f t w v i h m =
     let xs = allDigits (fields f) (numbers t w) in
     at-written f t w i h
     ∙ by-test (covered (runs f) i)
-    (λ y. clash (eq-eqb (filler f i) 2 (filler-mark f i m)) (covered-inside (size f) (filler f) (runs f) (layout-proper f (v .format)) i y .1))
-    (λ n. symbol-free (size f) (filler f) (runs f) xs i n ∙ filler-mark f i m)
+    (λ y. clash (eq-eqb (filler f i) 2 m) (covered-inside (size f) (filler f) (runs f) (layout-proper f (v .format)) i y .1))
+    (λ n. symbol-free (size f) (filler f) (runs f) xs i n ∙ m)
 
-pub mark-only : (f : Format) (t : Time) (w : ℕ) → Valid f t w → (i : ℕ) → i < size f → getD (written f t w) i 0 ≡ 2 → isMark i ≡ true
+pub mark-only : (f : Format) (t : Time) (w : ℕ) → Valid f t w → (i : ℕ) → i < size f → getD (written f t w) i 0 ≡ 2 → filler f i ≡ 2
 mark-only f t w v i h k =
     let xs = allDigits (fields f) (numbers t w) in
     let s : symbolAt (filler f) (runs f) xs i ≡ 2 = sym (at-written f t w i h) ∙ k in
     by-test (covered (runs f) i)
     (λ y. let n : ⊥ = omega (arith, s, symbol-covered (size f) (filler f) (runs f) xs (small-length (runs f) xs (written-small f t w v)) i y) in absurd n)
-    (λ n. mark-filler f i (sym (symbol-free (size f) (filler f) (runs f) xs i n) ∙ s))
+    (λ n. sym (symbol-free (size f) (filler f) (runs f) xs i n) ∙ s)
 
-pub mark-index : (i : ℕ) → isMark i ≡ true → (i ≡ 0) ⊎ (i % 10 ≡ 9)
-unfolding isMark
-mark-index i h = by-test (eqb i 0) (λ y. inl (eqb-true i 0 y)) (λ m. inr (eqb-true (i % 10) 9 (or-other (eqb i 0) (eqb (i % 10) 9) m h)))
+mark-filler : (f : Format) (i : ℕ) → filler f i ≡ 2 → isMark i ≡ true
+unfolding filler
+mark-filler f i h = by-test (isMark i) (λ y. y) (λ m. let z : _≡_ {A = ℕ} 0 2 = rw m at h in let n : ⊥ = omega arith in absurd n)
 
-first-is-mark : isMark 0 ≡ true
+-- marks stand at 0 and at 9, 19, ..
+pub mark-index : (f : Format) (i : ℕ) → filler f i ≡ 2 → (i ≡ 0) ⊎ (i % 10 ≡ 9)
 unfolding isMark
-first-is-mark = refl
+mark-index f i h = by-test (eqb i 0) (λ y. inl (eqb-true i 0 y)) (λ m. inr (eqb-true (i % 10) 9 (or-other (eqb i 0) (eqb (i % 10) 9) m (mark-filler f i h))))
 
-last-is-mark : (f : Format) → isMark (size f - 1) ≡ true
-unfolding isMark
-last-is-mark f = two-sizes (λ n. isMark (n - 1) ≡ true) refl refl f
+first-filler : (f : Format) → filler f 0 ≡ 2
+unfolding filler isMark
+first-filler f = refl
+
+last-filler : (f : Format) → filler f (size f - 1) ≡ 2
+unfolding filler isMark
+last-filler f = two-sizes (λ n. filler f (n - 1) ≡ 2) refl refl f
 
 pub first-mark : (f : Format) (t : Time) (w : ℕ) → Valid f t w → getD (written f t w) 0 0 ≡ 2
-first-mark f t w v = mark-there f t w v 0 (size-positive f) first-is-mark
+first-mark f t w v = mark-there f t w v 0 (size-positive f) (first-filler f)
 
 pub last-mark : (f : Format) (t : Time) (w : ℕ) → Valid f t w → getD (written f t w) (size f - 1) 0 ≡ 2
-last-mark f t w v = mark-there f t w v (size f - 1) (omega (arith, size-positive f)) (last-is-mark f)
+last-mark f t w v = mark-there f t w v (size f - 1) (omega (arith, size-positive f)) (last-filler f)
 
 -- ---- an accepted frame
 
@@ -89,9 +87,9 @@ pub accepted-length : (f : Format) (frame : List ℕ) (t : Time) (w : ℕ) → r
 accepted-length f frame t w h = ap length (sym (accepted-was-written f frame t w h .1)) ∙ length-written f t w
 
 -- the element before the last mark is no mark
-before-last : (f : Format) → isMark (size f - 2) ≡ true → ⊥
-unfolding isMark
-before-last = two-sizes (λ n. isMark (n - 2) ≡ true → ⊥) (λ h. clash h refl) (λ h. clash h refl)
+before-last : (f : Format) → filler f (size f - 2) ≡ 2 → ⊥
+unfolding filler isMark
+before-last f = two-sizes (λ n. filler f (n - 2) ≡ 2 → ⊥) (λ h. omega arith) (λ h. omega arith) f
 
 pub accepted-before-last : (f : Format) (frame : List ℕ) (t : Time) (w : ℕ) → readOf f frame ≡ Accepted t w → getD frame (size f - 2) 0 ≡ 2 → ⊥
 accepted-before-last f frame t w h m =

@@ -6,7 +6,7 @@ use Prim.Native.Nat.{ℕ, zero, suc, _+_, _*_, _-_, _<_, _≤_}
 use native.Mathlib.Nat.{not-suc-le-zero, mul-le-mul-left}
 use native.Mathlib.Omega.{arith}
 use native.Mathlib.Decide.{ℕ-discrete}
-use borrow.Author.Tests.{eqb-true, eq-eqb}
+use borrow.Author.Tests.{eqb-true}
 use lib.ListN.{length, getD, drop, length-drop}
 use lib.Seq.{getD-take, getD-drop, length-take-le}
 use Rattle.timecode.specs.Formats.{size}
@@ -14,7 +14,7 @@ use Rattle.timecode.specs.Frames.{noTime, Follows, nextAfter, readOf}
 use Rattle.timecode.specs.Laws.Checks.{quiet-no-report}
 use Rattle.timecode.specs.Laws.Marks.{size-positive, accepted-first, accepted-last}
 use Rattle.timecode.specs.Laws.Stepping.{next-follows, follows-next}
-use Rattle.timecode.specs.Stream.{twoFrames, opens, windowLength, frameIn, firstInRow, nextInRow, inRow, windowAnswer, confirm}
+use Rattle.timecode.specs.Stream.{twoFrames, lead, opens, windowLength, frameIn, firstInRow, nextInRow, inRow, windowAnswer, confirm}
 use Rattle.timecode.specs.declared.Answer.{Answer}
 use Rattle.timecode.specs.declared.Answer.the-variants.{Quiet, Report}
 use Rattle.timecode.specs.declared.Format.{Format}
@@ -22,9 +22,9 @@ use Rattle.timecode.specs.declared.Reading.{Reading}
 use Rattle.timecode.specs.declared.Reading.the-variants.{Accepted}
 use Rattle.timecode.specs.declared.Time.{Time}
 
--- the symbols of a mark and m + 1 frames
+-- the symbols of the lead and m + 1 frames
 abbrev pub long : Format → ℕ → ℕ
-long f m = size f * suc m + 1
+long f m = size f * suc m + lead f
 
 pub window-long : (f : Format) (m : ℕ) → windowLength f (suc m) ≡ long f m
 unfolding windowLength
@@ -33,7 +33,7 @@ window-long f m = omega arith
 pub record Confirmed (f : Format) (m : ℕ) (window : List ℕ) (t : Time) (w : ℕ) : Type 0 where
   pub times : ℕ → Time
   pub controls : ℕ → ℕ
-  pub begins : getD window 0 0 ≡ 2
+  pub begins : opens f window ≡ true
   pub reads : (j : ℕ) → j ≤ m → readOf f (frameIn f window j) ≡ Accepted (times j) (controls j)
   pub follows : (j : ℕ) → j < m → Follows f (times j) (times (suc j))
   pub last-time : times m ≡ t
@@ -130,7 +130,7 @@ module _ (f : Format) (m : ℕ) (window : List ℕ) (t : Time) (w : ℕ) where
       record {
         times = λ j. timeOf (readAt f window j);
         controls = λ j. controlOf (readAt f window j);
-        begins = eqb-true (getD window 0 0) 2 (x .0);
+        begins = x .0;
         reads = y .0 .reads;
         follows = y .0 .follows;
         last-time = ap timeOf (y .1);
@@ -147,7 +147,7 @@ module _ (f : Format) (m : ℕ) (window : List ℕ) (t : Time) (w : ℕ) where
           reads = λ j b. accepted-is (readAt f window j) (c .times j) (c .controls j) (c .reads j b);
           follows = λ j b. rw (time j (omega arith), time (suc j) b) (c .follows j b);
         } in
-        rw (eq-eqb (getD window 0 0) 2 (c .begins))
+        rw (c .begins)
         (row-report f window m r
         ∙ ap₂ (λ (x : Time) (y : ℕ). Report x y) (time m (omega arith) ∙ c .last-time) (ap controlOf (c .reads m (omega arith)) ∙ c .last-control))
 
@@ -198,25 +198,25 @@ two-frames f window = ap (λ (a : Answer). cond (opens f window) a Quiet) (row-o
 module _ (f : Format) (m : ℕ) (window : List ℕ) (s : length window ≡ long f m) where
   pub length-frame-in : (j : ℕ) → j ≤ m → length (frameIn f window j) ≡ size f
   unfolding frameIn
-  length-frame-in j b = length-take-le (size f) (drop (1 + size f * j) window) (omega (arith, length-drop (1 + size f * j) window, mul-le-mul-left (size f) b))
+  length-frame-in j b = length-take-le (size f) (drop (lead f + size f * j) window) (omega (arith, length-drop (lead f + size f * j) window, mul-le-mul-left (size f) b))
 
-pub at-frame : (f : Format) (window : List ℕ) (j i : ℕ) → i < size f → getD (frameIn f window j) i 0 ≡ getD window (1 + size f * j + i) 0
+pub at-frame : (f : Format) (window : List ℕ) (j i : ℕ) → i < size f → getD (frameIn f window j) i 0 ≡ getD window (lead f + size f * j + i) 0
 unfolding frameIn
-at-frame f window j i h = getD-take (size f) (drop (1 + size f * j) window) i 0 h ∙ getD-drop (1 + size f * j) window i 0
+at-frame f window j i h = getD-take (size f) (drop (lead f + size f * j) window) i 0 h ∙ getD-drop (lead f + size f * j) window i 0
 
 -- ---- a confirmed window has pairs of marks at n j, n j + 1
 
 module _ (f : Format) (m : ℕ) (window : List ℕ) (t : Time) (w : ℕ) (c : Confirmed f m window t w) where
-  pub first-of : (j : ℕ) → j ≤ m → getD window (size f * j + 1) 0 ≡ 2
+  pub first-of : (j : ℕ) → j ≤ m → getD window (lead f + size f * j) 0 ≡ 2
   first-of j b =
-      let u : 1 + size f * j + 0 ≡ size f * j + 1 = omega arith in
+      let u : lead f + size f * j + 0 ≡ lead f + size f * j = omega arith in
       rw u at (sym (at-frame f window j 0 (size-positive f)) ∙ accepted-first f (frameIn f window j) (c .times j) (c .controls j) (c .reads j b))
 
   pub last-of : (j : ℕ) → j ≤ m → getD window (size f * suc j) 0 ≡ 2
   last-of j b =
-      let u : 1 + size f * j + (size f - 1) ≡ size f * suc j = omega (arith, size-positive f) in
+      let u : lead f + size f * j + (size f - 1) ≡ size f * suc j = omega (arith, size-positive f) in
       rw u at (sym (at-frame f window j (size f - 1) (omega (arith, size-positive f))) ∙ accepted-last f (frameIn f window j) (c .times j) (c .controls j) (c .reads j b))
 
   pub before-of : (j : ℕ) → j ≤ m → getD window (size f * j) 0 ≡ 2
-  before-of zero b = let u : 0 ≡ size f * 0 = omega arith in subst (λ (k : ℕ). getD window k 0 ≡ 2) u (c .begins)
+  before-of zero b = let u : 0 ≡ size f * 0 = omega arith in subst (λ (k : ℕ). getD window k 0 ≡ 2) u (eqb-true (getD window 0 0) 2 (c .begins))
   before-of (suc j) b = last-of j (omega arith)
