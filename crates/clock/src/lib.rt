@@ -1,11 +1,12 @@
 // Times: whether one lies on a format, Step, step back, next after, and Difference.
 ghost use mathlib.Core.Path.{_≡_};
-ghost use mathlib.Core.Bool.{true};
-ghost use Prim.Native.Nat.{_+_, _*_, _<_};
+ghost use mathlib.Core.Bool.{true, cond, _&&_};
+ghost use Prim.Native.Nat.{_+_, _*_, _%_, _<_, _≤_};
+ghost use lib.Dec.{ltb, eqb};
 ghost use lib.IntN.{pos, _-ℤ_};
 ghost use Rattle.timecode.specs.Answers.{check};
 ghost use Rattle.timecode.specs.Calls.{differenceOf};
-ghost use Rattle.timecode.specs.Formats.{known, inRange, onFormat, secondCarried};
+ghost use Rattle.timecode.specs.Formats.{known, dayLength, inRange, onFormat, secondCarried};
 ghost use Rattle.timecode.specs.Frames.{inYear, kinds, dayEnd, onDay, following, checkStep, stepOf, sameTime, stepsTo, any, nextAfter, preceding, stepBackOf};
 ghost use Rattle.timecode.specs.declared.Refusal.the-variants.{InvalidYearLength, InvalidKind};
 ghost use Rattle.timecode.specs.declared.Stepped.the-variants.{To, Refused};
@@ -29,23 +30,37 @@ fn in_range(time: Time) -> bool
     false
 }
 
-pub fn on_format(format: Format, time: Time) -> bool
-    ensures { λ r. ⌜ r ≡ onFormat format time ⌝ }
+// The time is in range, and the frame interval divides its hundredths.
+pub fn lies_on(interval: u32, time: Time) -> bool
+    requires { ⌜ 1 ≤ interval ⌝ }
+    ensures { λ r. ⌜ r ≡ (inRange time && eqb (time .hundredths % interval) 0) ⌝ }
 {
     if in_range(time) {
-        return time.hundredths % frame_interval(format) == 0;
+        return time.hundredths % interval == 0;
     }
     false
 }
 
-// The time is not in the added second, or the format carries it.
-pub fn second_carried(format: Format, time: Time) -> bool
-    ensures { λ r. ⌜ r ≡ secondCarried format time ⌝ }
+fn on_format(format: Format, time: Time) -> bool
+    ensures { λ r. ⌜ r ≡ onFormat format time ⌝ }
 {
-    if carries_leap(format) {
+    lies_on(frame_interval(format), time)
+}
+
+// The time is not in the added second, or the leap second is carried.
+pub fn second_allowed(leap: bool, time: Time) -> bool
+    ensures { λ r. ⌜ r ≡ cond leap true (ltb (time .hundredths) dayLength) ⌝ }
+{
+    if leap {
         return true;
     }
     time.hundredths < Time::DAY_LENGTH
+}
+
+fn second_carried(format: Format, time: Time) -> bool
+    ensures { λ r. ⌜ r ≡ secondCarried format time ⌝ }
+{
+    second_allowed(carries_leap(format), time)
 }
 
 // The year's length is 365 or 366, and the day is not beyond it.

@@ -35,21 +35,25 @@ unfoldable pub digitsFrom : ℕ → ℕ → List ℕ → Bool
 digitsFrom zero j ds = true
 digitsFrom (suc n) j ds = leb (getD ds j 0) 9 && digitsFrom n (suc j) ds
 
-unfoldable pub isTimeOf : Format → List ℕ → Bool
-isTimeOf f ds = digitsFrom 11 0 ds && (leb (pairAt ds 4) 23 && (leb (pairAt ds 2) 59 && (leb (pairAt ds 0) (lastSecond f (pairAt ds 4) (pairAt ds 2)) && (leb 1 (dayFrom ds) && leb (dayFrom ds) 366))))
+-- the last second of a minute, where the leap second is carried or not
+unfoldable pub lastSecondOf : Bool → ℕ → ℕ → ℕ
+lastSecondOf leap hour minute = cond (leap && (eqb hour 23 && eqb minute 59)) 60 59
+
+unfoldable pub isTimeOf : Bool → List ℕ → Bool
+isTimeOf leap ds = digitsFrom 11 0 ds && (leb (pairAt ds 4) 23 && (leb (pairAt ds 2) 59 && (leb (pairAt ds 0) (lastSecondOf leap (pairAt ds 4) (pairAt ds 2)) && (leb 1 (dayFrom ds) && leb (dayFrom ds) 366))))
 
 unfoldable pub timeFrom : List ℕ → Time
 timeFrom ds = record { day = dayFrom ds; hundredths = ((pairAt ds 4 * 60 + pairAt ds 2) * 60 + pairAt ds 0) * 100 + getD ds 9 0 * 10 + getD ds 10 0 }
 
-unfoldable pub agreeOf : Format → List ℕ → Bool
-agreeOf f ds = cond (hasSeconds f) (eqb (getD ds 11 0 + 512 * getD ds 12 0) (timeFrom ds .hundredths / 100)) true
+-- straight binary seconds are carried where their first run has elements
+unfoldable pub agreeOf : List ℕ → List ℕ → Bool
+agreeOf ws ds = cond (eqb (getD ws 11 0) 0) true (eqb (getD ds 11 0 + 512 * getD ds 12 0) (timeFrom ds .hundredths / 100))
 
-unfoldable pub controlFrom : Format → List ℕ → ℕ
-controlFrom f ds =
-    getD ds 13 0 + 2 ^ getD (widthsOf f) 13 0 * (getD ds 14 0 + 2 ^ getD (widthsOf f) 14 0 * (getD ds 15 0 + 2 ^ getD (widthsOf f) 15 0 * (getD ds 16 0 + 2 ^ getD (widthsOf f) 16 0 * getD ds 17 0)))
+unfoldable pub controlFrom : List ℕ → List ℕ → ℕ
+controlFrom ws ds = getD ds 13 0 + 2 ^ getD ws 13 0 * (getD ds 14 0 + 2 ^ getD ws 14 0 * (getD ds 15 0 + 2 ^ getD ws 15 0 * (getD ds 16 0 + 2 ^ getD ws 16 0 * getD ds 17 0)))
 
-unfoldable pub meaningOf : Format → List ℕ → Reading
-meaningOf f ds = check Reading.Refused InvalidDigit (isTimeOf f ds) (check Reading.Refused SecondsDiffer (agreeOf f ds) (Accepted (timeFrom ds) (controlFrom f ds)))
+unfoldable pub meaningOf : Bool → List ℕ → List ℕ → Reading
+meaningOf leap ws ds = check Reading.Refused InvalidDigit (isTimeOf leap ds) (check Reading.Refused SecondsDiffer (agreeOf ws ds) (Accepted (timeFrom ds) (controlFrom ws ds)))
 
 -- ---- a frame's digits say what the frame says
 
@@ -85,7 +89,7 @@ module _ (f : Format) (frame : List ℕ) where
   unfolding digitsFrom codeRuns codeFields timeFields seconds minutes hours days tenths hundredthsDigit straightSeconds codeControl
   digits-are = refl
 
-  control-code : controlFrom f ds ≡ numberIn frame (codeControl f)
+  control-code : controlFrom (widthsOf f) ds ≡ numberIn frame (codeControl f)
   unfolding controlFrom widthsOf codeRuns codeFields timeFields seconds minutes hours days tenths hundredthsDigit straightSeconds codeControl codeRange
   control-code =
       ap
@@ -97,7 +101,7 @@ module _ (f : Format) (frame : List ℕ) where
       last : (x r : ℕ) → x ≡ x + r * 0
       last x r = omega arith
 
-  control-is : controlFrom f ds ≡ numberIn frame (control f)
+  control-is : controlFrom (widthsOf f) ds ≡ numberIn frame (control f)
   control-is = control-code ∙ code-number f frame
 
   straight-is : hasSeconds f ≡ true → getD ds 11 0 + 512 * getD ds 12 0 ≡ numberIn frame (straightSeconds f)
@@ -113,15 +117,15 @@ module _ (f : Format) (frame : List ℕ) where
         hundredths = ((hour-is i * 60 + minute-is i) * 60 + second-is i) * 100 + tenth-is i * 10 + hundredth-is i;
       }
 
-  is-time-is : isTimeOf f ds ≡ isTime f frame
-  unfolding isTimeOf isTime
+  is-time-is : isTimeOf (carriesLeap f) ds ≡ isTime f frame
+  unfolding isTimeOf isTime lastSecondOf lastSecond
   is-time-is = rw (digits-are, hour-is, minute-is, second-is, day-is)
 
-  agree-is : agreeOf f ds ≡ secondsAgree f frame
+  agree-is : agreeOf (widthsOf f) ds ≡ secondsAgree f frame
   unfolding agreeOf secondsAgree
-  agree-is = by-test (hasSeconds f) (λ y. rw (y, straight-is y, time-is)) (λ m. rw m)
+  agree-is = by-test (hasSeconds f) (λ y. rw (straight-width f, y, straight-is y, time-is)) (λ m. rw (straight-width f, m))
 
-  pub meaning-is : meaningOf f ds ≡ check Reading.Refused InvalidDigit (isTime f frame) (check Reading.Refused SecondsDiffer (secondsAgree f frame) (Accepted (timeIn f frame) (numberIn frame (control f))))
+  pub meaning-is : meaningOf (carriesLeap f) (widthsOf f) ds ≡ check Reading.Refused InvalidDigit (isTime f frame) (check Reading.Refused SecondsDiffer (secondsAgree f frame) (Accepted (timeIn f frame) (numberIn frame (control f))))
   unfolding meaningOf
   meaning-is = rw (is-time-is, agree-is, time-is, control-is)
 
@@ -152,20 +156,20 @@ digits-small (suc n) j ds h zero l = rw (add-zero j) (leb-true (getD ds j 0) 9 (
 digits-small (suc n) j ds h (suc k) l = rw (add-suc j k, ← suc-add j k) (digits-small n (suc j) ds (and-right (leb (getD ds j 0) 9) (digitsFrom n (suc j) ds) h) k (omega arith))
 
 -- where it is not 23:59 the 60th second is the last
-pub other-minute : (f : Format) (h m : ℕ) → (eqb h 23 && eqb m 59) ≡ false → lastSecond f h m ≡ 59
-unfolding lastSecond
-other-minute f h m n = by-test (carriesLeap f) (λ y. rw (y, n)) (λ k. rw k)
+pub other-minute : (leap : Bool) (h m : ℕ) → (eqb h 23 && eqb m 59) ≡ false → lastSecondOf leap h m ≡ 59
+unfolding lastSecondOf
+other-minute leap h m n = by-test leap (λ y. rw (y, n)) (λ k. rw k)
 
-last-second-60 : (f : Format) (h m : ℕ) → lastSecond f h m ≤ 60
-unfolding lastSecond
-last-second-60 f h m = by-test (carriesLeap f && (eqb h 23 && eqb m 59)) (λ y. rw y (omega arith)) (λ n. rw n (omega arith))
+last-second-60 : (leap : Bool) (h m : ℕ) → lastSecondOf leap h m ≤ 60
+unfolding lastSecondOf
+last-second-60 leap h m = by-test (leap && (eqb h 23 && eqb m 59)) (λ y. rw y (omega arith)) (λ n. rw n (omega arith))
 
-pub time-bounds : (f : Format) (ds : List ℕ) → isTimeOf f ds ≡ true → Bounds ds
+pub time-bounds : (leap : Bool) (ds : List ℕ) → isTimeOf leap ds ≡ true → Bounds ds
 unfolding isTimeOf
-time-bounds f ds h =
+time-bounds leap ds h =
     let H = leb (pairAt ds 4) 23 in
     let M = leb (pairAt ds 2) 59 in
-    let last = lastSecond f (pairAt ds 4) (pairAt ds 2) in
+    let last = lastSecondOf leap (pairAt ds 4) (pairAt ds 2) in
     let S = leb (pairAt ds 0) last in
     let F = leb 1 (dayFrom ds) in
     let L = leb (dayFrom ds) 366 in
@@ -176,16 +180,8 @@ time-bounds f ds h =
     record {
       hour = leb-true (pairAt ds 4) 23 (and-left H (M && (S && (F && L))) a);
       minute = leb-true (pairAt ds 2) 59 (and-left M (S && (F && L)) b);
-      second = omega (arith, leb-true (pairAt ds 0) last (and-left S (F && L) c), last-second-60 f (pairAt ds 4) (pairAt ds 2));
+      second = omega (arith, leb-true (pairAt ds 0) last (and-left S (F && L) c), last-second-60 leap (pairAt ds 4) (pairAt ds 2));
       day = leb-true (dayFrom ds) 366 (and-right F L (and-right S (F && L) c));
       tenth = digits 9 (omega arith);
       hundredth = digits 10 (omega arith);
     }
-
--- ---- straight binary seconds are carried where their run has a width
-
-pub no-width : (f : Format) (w : ℕ) → w ≡ getD (widthsOf f) 11 0 → w ≡ 0 → hasSeconds f ≡ false
-no-width f w e z = by-test (hasSeconds f) (λ y. let n : _≡_ {A = ℕ} 0 9 = sym z ∙ e ∙ straight-width f ∙ rw y in let none : ⊥ = omega arith in absurd none) (λ m. m)
-
-pub some-width : (f : Format) (w : ℕ) → w ≡ getD (widthsOf f) 11 0 → (w ≡ 0 → ⊥) → hasSeconds f ≡ true
-some-width f w e n = by-test (hasSeconds f) (λ y. y) (λ m. absurd (n (e ∙ straight-width f ∙ rw m)))

@@ -5,11 +5,12 @@ ghost use mathlib.Core.Bool.{true, cond};
 ghost use Prim.Native.Nat.{_+_, _*_, _^_, _≤_, _<_};
 ghost use lib.Dec.{eqb};
 ghost use lib.ListN.{getD, length};
-ghost use Rattle.timecode.specs.Frames.{controlFits, lastSecond, Valid};
+ghost use Rattle.timecode.specs.Frames.{controlFits, Valid};
 ghost use Rattle.timecode.specs.Layout.{numbers, allDigits};
+ghost use Rattle.timecode.specs.declared.Format.{Format};
 ghost use Rattle.layout.specs.Tables.{widthsOf};
 ghost use Rattle.layout.specs.Runs.{codeFields};
-ghost use Rattle.digits.specs.Meaning.{pairAt, dayFrom, digitsFrom, isTimeOf, timeFrom, agreeOf, controlFrom, meaningOf, Bounds};
+ghost use Rattle.digits.specs.Meaning.{pairAt, dayFrom, digitsFrom, lastSecondOf, isTimeOf, timeFrom, agreeOf, controlFrom, meaningOf, Bounds};
 ghost use Rattle.digits.specs.Splitting.{Widths, Digits};
 use layout::CONTROL_1;
 use layout::CONTROL_2;
@@ -27,8 +28,6 @@ use layout::SECOND;
 use layout::STRAIGHT_HIGH;
 use layout::STRAIGHT_LOW;
 use layout::TENTH;
-use layout::carries_leap;
-use timecode::Format;
 use timecode::Reading;
 use timecode::Refusal;
 use timecode::Time;
@@ -42,9 +41,9 @@ fn width(widths: &[u8], j: usize) -> usize
 }
 
 // The control word needs no more bits than are carried.
-pub fn control_fits(format: Format, widths: &[u8], control: u64) -> bool
-    requires { ⌜ Widths (now widths) × (now widths ≡ widthsOf format) ⌝ }
-    ensures { λ r. ⌜ r ≡ controlFits format control ⌝ }
+pub fn control_fits(widths: &[u8], control: u64) -> bool
+    requires { ⌜ Widths (now widths) ⌝ }
+    ensures { λ r. ⌜ ((f : Format) → now (widths .entry) ≡ widthsOf f → r ≡ controlFits f control) ⌝ }
 {
     let bits = width(widths, CONTROL_1)
         + width(widths, CONTROL_2)
@@ -54,7 +53,7 @@ pub fn control_fits(format: Format, widths: &[u8], control: u64) -> bool
     control >> bits == 0
 }
 
-// The number where the format carries run j, else 0.
+// The number where run j is carried, else 0.
 fn carried(widths: &[u8], j: usize, x: u64) -> u64
     requires { ⌜ Widths (now widths) × (j < 18) ⌝ }
     ensures { λ r. ⌜ r ≡ cond (eqb (getD (now (widths .entry)) j 0) 0) 0 x ⌝ }
@@ -68,9 +67,9 @@ fn carried(widths: &[u8], j: usize, x: u64) -> u64
 // The digits of a time and a control word. The added second is one more than the second before it: 23:59:60.
 // Where the first of its ranges is not carried, the control word is moved up to the second; a word that fits has no bits for
 // ranges behind the last that is carried.
-pub fn digits_of(format: Format, widths: &[u8], time: Time, control: u64) -> [u64; 18]
-    requires { ⌜ Widths (now widths) × (now widths ≡ widthsOf format) × Valid format time control ⌝ }
-    ensures { λ r. ⌜ r ≡ allDigits (codeFields format) (numbers time control) ⌝ }
+pub fn digits_of(widths: &[u8], time: Time, control: u64) -> [u64; 18]
+    requires { ⌜ Widths (now widths) ⌝ }
+    ensures { λ r. ⌜ ((f : Format) → now (widths .entry) ≡ widthsOf f → Valid f time control → r ≡ allDigits (codeFields f) (numbers time control)) ⌝ }
 {
     let day = time.day as u64;
     let c = time.hundredths as u64;
@@ -134,13 +133,13 @@ fn are_digits(digits: &[u64]) -> bool
     true
 }
 
-// The last second of a minute: the 61st at 23:59 only, where the format carries it.
-fn last_second(format: Format, hour: u64, minute: u64) -> u64
-    ensures { λ r. ⌜ r ≡ lastSecond format hour minute ⌝ }
+// The last second of a minute: the 61st at 23:59 only, where the leap second is carried.
+fn last_second(leap: bool, hour: u64, minute: u64) -> u64
+    ensures { λ r. ⌜ r ≡ lastSecondOf leap hour minute ⌝ }
 {
     if hour == 23 {
         if minute == 59 {
-            if carries_leap(format) {
+            if leap {
                 return 60;
             }
         }
@@ -149,9 +148,9 @@ fn last_second(format: Format, hour: u64, minute: u64) -> u64
 }
 
 // Number 7: no digit over 9, hours over 23, minutes over 59, seconds over the minute's last, day 0 or over 366.
-fn is_time(format: Format, digits: &[u64]) -> bool
+fn is_time(leap: bool, digits: &[u64]) -> bool
     requires { ⌜ Digits (now digits) ⌝ }
-    ensures { λ r. ⌜ r ≡ isTimeOf format (now (digits .entry)) ⌝ }
+    ensures { λ r. ⌜ r ≡ isTimeOf leap (now (digits .entry)) ⌝ }
 {
     if are_digits(digits) {
         let hour = pair(digits, HOUR);
@@ -162,7 +161,7 @@ fn is_time(format: Format, digits: &[u64]) -> bool
         if 59 < minute {
             return false;
         }
-        if last_second(format, hour, minute) < pair(digits, SECOND) {
+        if last_second(leap, hour, minute) < pair(digits, SECOND) {
             return false;
         }
         let day = day_in(digits);
@@ -190,9 +189,9 @@ fn time_in(digits: &[u64]) -> Time
 }
 
 // Number 8: where straight binary seconds are carried, they are the seconds that the digits say.
-fn seconds_agree(format: Format, widths: &[u8], digits: &[u64], time: Time) -> bool
-    requires { ⌜ Widths (now widths) × (now widths ≡ widthsOf format) × Digits (now digits) × (time ≡ timeFrom (now digits)) ⌝ }
-    ensures { λ r. ⌜ r ≡ agreeOf format (now (digits .entry)) ⌝ }
+fn seconds_agree(widths: &[u8], digits: &[u64], time: Time) -> bool
+    requires { ⌜ Widths (now widths) × Digits (now digits) × (time ≡ timeFrom (now digits)) ⌝ }
+    ensures { λ r. ⌜ r ≡ agreeOf (now (widths .entry)) (now (digits .entry)) ⌝ }
 {
     if width(widths, STRAIGHT_LOW) == 0 {
         return true;
@@ -210,9 +209,9 @@ fn join(low: u64, width: usize, high: u64) -> u64
 }
 
 // The control word.
-fn control_in(format: Format, widths: &[u8], digits: &[u64]) -> u64
-    requires { ⌜ Widths (now widths) × (now widths ≡ widthsOf format) × Digits (now digits) ⌝ }
-    ensures { λ r. ⌜ r ≡ controlFrom format (now (digits .entry)) ⌝ }
+fn control_in(widths: &[u8], digits: &[u64]) -> u64
+    requires { ⌜ Widths (now widths) × Digits (now digits) ⌝ }
+    ensures { λ r. ⌜ r ≡ controlFrom (now (widths .entry)) (now (digits .entry)) ⌝ }
 {
     let word4 = join(
         digits[CONTROL_4],
@@ -225,14 +224,14 @@ fn control_in(format: Format, widths: &[u8], digits: &[u64]) -> u64
 }
 
 // What digits say that come from a frame in which nothing offends.
-pub fn meaning(format: Format, widths: &[u8], digits: &[u64]) -> Reading
-    requires { ⌜ Widths (now widths) × (now widths ≡ widthsOf format) × Digits (now digits) ⌝ }
-    ensures { λ r. ⌜ r ≡ meaningOf format (now (digits .entry)) ⌝ }
+pub fn meaning(leap: bool, widths: &[u8], digits: &[u64]) -> Reading
+    requires { ⌜ Widths (now widths) × Digits (now digits) ⌝ }
+    ensures { λ r. ⌜ r ≡ meaningOf leap (now (widths .entry)) (now (digits .entry)) ⌝ }
 {
-    if is_time(format, digits) {
+    if is_time(leap, digits) {
         let time = time_in(digits);
-        if seconds_agree(format, widths, digits, time) {
-            let control = control_in(format, widths, digits);
+        if seconds_agree(widths, digits, time) {
+            let control = control_in(widths, digits);
             return Reading::Accepted { time, control };
         }
         return Reading::Refused(Refusal::SecondsDiffer);

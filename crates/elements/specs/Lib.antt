@@ -3,3 +3,4 @@ pub mod Stores
 pub mod RunLoops
 pub mod RunBits
 pub mod Tens
+pub mod Carries

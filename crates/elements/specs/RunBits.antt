@@ -7,18 +7,18 @@ use native.Mathlib.Nat.{div-eq-of-lt, mod-eq-of-lt, add-zero, add-comm, zero-add
 use native.Mathlib.Omega.{arith}
 use borrow.Author.Tests.{ltb-true, ltb-false, leb-true, leb-false}
 use lib.Dec.{leb, ltb}
-use lib.ListN.{getD, length, drop, drop-of-length-le}
+use lib.ListN.{getD, length}
 use lib.Pow.{field, high, low, mod-mod-pow, pow-mono, pow-pos, shr-shr, split}
-use lib.Seq.{drop-cons}
 use Rattle.timecode.specs.Formats.{table, lookUp, rowOf, known, size, carriesControl, carriesSeconds}
 use Rattle.timecode.specs.Frames.{covered}
 use Rattle.timecode.specs.Laws.Bits.{value-of-bits}
-use Rattle.timecode.specs.Laws.Runs.{in-run, proper, covered-once, later-proper, covered-inside, symbol-free, place-in, length-tabulate, getD-tabulate, tabulate-same}
+use Rattle.timecode.specs.Laws.Runs.{in-run, proper, covered-once, later-proper, covered-inside, symbol-free, place-in, length-tabulate, getD-tabulate, tabulate-same, tabulate-self}
 use Rattle.timecode.specs.Laws.Table.{everyFormat, of-every}
 use Rattle.timecode.specs.Laws.Tests.{by-test, clash, and-left, and-right}
 use Rattle.timecode.specs.Layout.{Run, seconds, minutes, hours, days, tenths, hundredthsDigit, hasSeconds, straightSeconds, timeFields, inRun, bitOf, placeOf, isMark, filler, symbolAt, tabulate, encode, value, Small}
 use Rattle.timecode.specs.declared.Format.{Format}
-use Rattle.layout.specs.Tables.{startsOf}
+use Rattle.layout.specs.Letters.{same-starts}
+use Rattle.layout.specs.Tables.{runStarts, startsOf}
 use Rattle.layout.specs.Runs.{codeRange, codeControl, codeFields, codeRuns, code-proper}
 use Rattle.elements.specs.RunLoops.{Narrow, runs-narrow}
 
@@ -36,24 +36,45 @@ packed from to [] xs = 0
 packed from to (s ∷ ss) [] = 0
 packed from to (s ∷ ss) (x ∷ xs) = placedAt from to s x + packed from to ss xs
 
+-- the same by the number of a run: n runs from j on, each counted from an index
+unfoldable pub packedRuns : ℕ → List ℕ → ℕ → ℕ → ℕ
+packedRuns from xs j zero = 0
+packedRuns from xs j (suc n) = getD xs j 0 % 512 * 2 ^ (getD runStarts j 0 - from) + packedRuns from xs (suc j) n
+
 -- element i of a frame: bit i of the head, or from 60 on bit i - 60 of the tail; a mark counts as 0 there
 unfoldable pub elementAt : ℕ → ℕ → ℕ → ℕ
 elementAt head tail i = cond (isMark i) 2 (cond (ltb i 60) (head / 2 ^ i % 2) (tail / 2 ^ (i - 60) % 2))
 
+-- any digits as the elements of a frame
+unfoldable pub putIn : ℕ → List ℕ → List ℕ
+putIn n xs = tabulate n 0 (elementAt (packed 0 60 runStarts xs) (packed 60 100 runStarts xs))
+
 -- ---- turns of the loop over the runs
 
-pub packed-start : (from to : ℕ) (ss xs : List ℕ) → length ss ≡ 18 → 0 ≡ packed from to (drop 18 ss) (drop 18 xs)
-unfolding packed
-packed-start from to ss xs l = rw (drop-of-length-le ss {i = 18} (omega arith))
+pub packed-start : (from : ℕ) (xs : List ℕ) (j : ℕ) → 0 ≡ packedRuns from xs j (j - j)
+unfolding packedRuns
+packed-start from xs j = let z : j - j ≡ 0 = omega arith in rw z
 
-pub packed-turn : (from to : ℕ) (ss xs : List ℕ) (j : ℕ) → length ss ≡ 18 → length xs ≡ 18 → 0 < j → j ≤ 18
-    → packed from to (drop j ss) (drop j xs) + placedAt from to (getD ss (j - 1) 0) (getD xs (j - 1) 0) ≡ packed from to (drop (j - 1) ss) (drop (j - 1) xs)
-unfolding packed
-packed-turn from to ss xs j l m a b =
+pub packed-turn : (from : ℕ) (xs : List ℕ) (first j last : ℕ) → first < j → j ≤ last
+    → packedRuns from xs j (last - j) + getD xs (j - 1) 0 % 512 * 2 ^ (getD runStarts (j - 1) 0 - from) ≡ packedRuns from xs (j - 1) (last - (j - 1))
+unfolding packedRuns
+packed-turn from xs first j last a b =
+    let n : last - (j - 1) ≡ suc (last - j) = omega arith in
     let h : suc (j - 1) ≡ j = omega arith in
-    let front : drop (j - 1) ss ≡ getD ss (j - 1) 0 ∷ drop j ss = rw h at (drop-cons ss (j - 1) 0 (omega arith)) in
-    let behind : drop (j - 1) xs ≡ getD xs (j - 1) 0 ∷ drop j xs = rw h at (drop-cons xs (j - 1) 0 (omega arith)) in
-    rw (front, behind) (add-comm (packed from to (drop j ss) (drop j xs)) (placedAt from to (getD ss (j - 1) 0) (getD xs (j - 1) 0)))
+    rw (n, h) (add-comm (packedRuns from xs j (last - j)) (getD xs (j - 1) 0 % 512 * 2 ^ (getD runStarts (j - 1) 0 - from)))
+
+-- the digits of the time and the first control range stand below 60, straight binary seconds and the other ranges from 60 on
+module _ (xs : List ℕ) (l : length xs ≡ 18) where
+  same-digits : xs ≡ tabulate 18 0 (λ j. getD xs j 0)
+  same-digits = sym (tabulate-self xs) ∙ ap (λ (n : ℕ). tabulate n 0 (λ j. getD xs j 0)) l
+
+  pub head-packed : packedRuns 0 xs 0 11 + packedRuns 0 xs 13 1 ≡ packed 0 60 runStarts xs
+  unfolding packed packedRuns
+  head-packed = omega arith ∙ ap (packed 0 60 runStarts) (sym same-digits)
+
+  pub tail-packed : packedRuns 60 xs 11 2 + packedRuns 60 xs 14 4 ≡ packed 60 100 runStarts xs
+  unfolding packed packedRuns
+  tail-packed = omega arith ∙ ap (packed 60 100 runStarts) (sym same-digits)
 
 -- ---- bits of a sum
 
@@ -196,34 +217,48 @@ parts-apart = refl
 
 module _ (f : Format) (k : known f ≡ true) (xs : List ℕ) where
   -- the elements of the digits' bits
-  abbrev pub put : ℕ → ℕ
+  abbrev put : ℕ → ℕ
   put = elementAt (packed 0 60 (startsOf f) xs) (packed 60 100 (startsOf f) xs)
 
+  put-is : (n : ℕ) → putIn n xs ≡ tabulate n 0 put
+  unfolding putIn
+  put-is n = rw (same-starts f)
+
   -- where the digits fit their runs, these are the symbols in which they stand
-  put-right : Small (codeRuns f) xs → (n : ℕ) → n ≤ 100 → tabulate n 0 put ≡ encode n (filler f) (codeRuns f) xs
+  pub put-right : Small (codeRuns f) xs → (n : ℕ) → n ≤ 100 → putIn n xs ≡ encode n (filler f) (codeRuns f) xs
   unfolding elementAt encode startsOf
   put-right s n l =
       let both = of-every (λ f. allApart 0 60 (codeRuns f) && allApart 60 100 (codeRuns f)) parts-apart f k in
       let first = and-left (allApart 0 60 (codeRuns f)) (allApart 60 100 (codeRuns f)) both in
       let last = and-right (allApart 0 60 (codeRuns f)) (allApart 60 100 (codeRuns f)) both in
-      tabulate-same n put (symbolAt (filler f) (codeRuns f) xs)
+      put-is n
+      ∙ tabulate-same n put (symbolAt (filler f) (codeRuns f) xs)
       (λ i h.
       ap (cond (isMark i) 2)
       (by-test (ltb i 60)
       (λ y.
       let below = ltb-true i 60 y in
-      rw y (packed-bit (size f) (filler f) 0 60 (codeRuns f) xs (code-proper f k) (runs-narrow f k) s first i (omega arith) ∙ ap (symbolAt zeros (codeRuns f) xs) (zero-add i)))
+      rw y (packed-bit (size f) (filler f) 0 60 (codeRuns f) xs (code-proper f k) (runs-narrow f) s first i (omega arith) ∙ ap (symbolAt zeros (codeRuns f) xs) (zero-add i)))
       (λ y.
       let from = ltb-false i 60 y in
       let at : 60 + (i - 60) ≡ i = omega arith in
-      rw y (packed-bit (size f) (filler f) 60 100 (codeRuns f) xs (code-proper f k) (runs-narrow f k) s last (i - 60) (omega arith) ∙ ap (symbolAt zeros (codeRuns f) xs) at)))
+      rw y (packed-bit (size f) (filler f) 60 100 (codeRuns f) xs (code-proper f k) (runs-narrow f) s last (i - 60) (omega arith) ∙ ap (symbolAt zeros (codeRuns f) xs) at)))
       ∙ sym (symbol-marks f k xs i))
 
-  put-binary : (i : ℕ) → isMark i ≡ false → put i < 2
-  unfolding elementAt
-  put-binary i m = rw m (by-test (ltb i 60) (λ y. rw y (omega arith)) (λ y. rw y (omega arith)))
+pub length-put : (n : ℕ) (xs : List ℕ) → length (putIn n xs) ≡ n
+unfolding putIn
+length-put n xs = length-tabulate n 0 _
 
-  pub digits-put : (n : ℕ) (frame : List ℕ) → n ≤ 100 → frame ≡ tabulate n 0 put
-      → (Small (codeRuns f) xs → frame ≡ encode n (filler f) (codeRuns f) xs) × ((i : ℕ) → i < n → isMark i ≡ false → getD frame i 0 < 2) × (length frame ≡ n)
-  digits-put n frame l e =
-      (λ s. e ∙ put-right s n l, λ i h m. rw (e, getD-tabulate n 0 put 0 i h, zero-add i) (put-binary i m), ap length e ∙ length-tabulate n 0 put)
+-- any digits give zeros, ones and marks
+module _ (n : ℕ) (xs : List ℕ) (i : ℕ) (h : i < n) where
+  pub put-at : getD (putIn n xs) i 0 ≡ elementAt (packed 0 60 runStarts xs) (packed 60 100 runStarts xs) i
+  unfolding putIn
+  put-at = getD-tabulate n 0 _ 0 i h ∙ ap (elementAt (packed 0 60 runStarts xs) (packed 60 100 runStarts xs)) (zero-add i)
+
+  pub put-mark : isMark i ≡ true → getD (putIn n xs) i 0 ≡ 2
+  unfolding elementAt
+  put-mark m = put-at ∙ rw m
+
+  pub put-binary : isMark i ≡ false → getD (putIn n xs) i 0 < 2
+  unfolding elementAt
+  put-binary m = rw (put-at, m) (by-test (ltb i 60) (λ y. rw y (omega arith)) (λ y. rw y (omega arith)))

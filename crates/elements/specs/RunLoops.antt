@@ -1,20 +1,20 @@
--- The format's runs one by one: what a turn of the loops over them does.
+-- A row's runs one by one: what a turn of the loops over them does.
 use mathlib.Core.Path.{_≡_, refl, ap, ap₂, _∙_}
 use mathlib.Core.Bool.{Bool, true, cond, _&&_}
 use mathlib.Core.List.{List, [], _∷_, map}
 use Prim.Native.Nat.{ℕ, zero, suc, _+_, _*_, _-_, _<_, _≤_}
 use native.Mathlib.Omega.{arith}
-use borrow.Author.Tests.{leb-true, lt-ltb}
-use lib.Dec.{leb, ltb}
+use borrow.Author.Tests.{leb-true}
+use lib.Dec.{leb}
 use lib.ListN.{getD, length, List·getD-map}
 use lib.Pow.{pow-mono}
-use Rattle.timecode.specs.Formats.{table, lookUp, rowOf, known, size, carriesControl, carriesSeconds}
+use Rattle.timecode.specs.Formats.{A, B, E, G, H, member, rowOf, known, size, carriesControl}
 use Rattle.timecode.specs.Laws.Runs.{place-in, covered-inside, covered-at}
-use Rattle.timecode.specs.Laws.Table.{everyFormat, of-every}
-use Rattle.timecode.specs.Laws.Tests.{and-left, and-right}
+use Rattle.timecode.specs.Laws.Tests.{by-test, and-left, and-right, everyBelow, below-every}
 use Rattle.timecode.specs.Layout.{Run, seconds, minutes, hours, days, tenths, hundredthsDigit, hasSeconds, straightSeconds, timeFields, filler, tabulate, value, Small, decode}
 use Rattle.timecode.specs.declared.Format.{Format}
-use Rattle.layout.specs.Tables.{startsOf, widthsOf}
+use Rattle.layout.specs.Letters.{same-starts}
+use Rattle.layout.specs.Tables.{runStarts, startsOf, widthsOf}
 use Rattle.layout.specs.Runs.{codeRange, codeControl, codeFields, codeRuns, code-proper}
 
 abbrev noRun : Run
@@ -31,10 +31,6 @@ pub length-widths : (f : Format) → length (widthsOf f) ≡ 18
 unfolding widthsOf codeRuns codeFields timeFields seconds minutes hours days tenths hundredthsDigit straightSeconds codeControl
 length-widths f = refl
 
-pub length-starts : (f : Format) → length (startsOf f) ≡ 18
-unfolding startsOf codeRuns codeFields timeFields seconds minutes hours days tenths hundredthsDigit straightSeconds codeControl
-length-starts f = refl
-
 start-at : (f : Format) (j : ℕ) → getD (startsOf f) j 0 ≡ runAt f j .start
 unfolding startsOf
 start-at f j = List·getD-map (λ (r : Run). r .start) (codeRuns f) j noRun
@@ -45,36 +41,28 @@ width-at f j = List·getD-map (λ (r : Run). r .width) (codeRuns f) j noRun
 
 -- ---- each run lies in the frame, and is at most 9 wide
 
-abbrev allSmall : List ℕ → Bool
-allSmall [] = true
-allSmall (w ∷ ws) = leb w 9 && allSmall ws
-
-small-at : (ws : List ℕ) → allSmall ws ≡ true → (j : ℕ) → getD ws j 0 ≤ 9
-small-at [] h j = omega arith
-small-at (w ∷ ws) h zero = leb-true w 9 (and-left (leb w 9) (allSmall ws) h)
-small-at (w ∷ ws) h (suc j) = small-at ws (and-right (leb w 9) (allSmall ws) h) j
-
-widths-small : everyFormat (λ f. allSmall (widthsOf f)) ≡ true
-unfolding everyFormat table widthsOf codeRuns codeFields timeFields seconds minutes hours days tenths hundredthsDigit straightSeconds hasSeconds carriesSeconds codeControl codeRange carriesControl rowOf lookUp
-widths-small = refl
-
-pub width-small : (f : Format) → known f ≡ true → (j : ℕ) → getD (widthsOf f) j 0 ≤ 9
-width-small f k j = small-at (widthsOf f) (of-every (λ f. allSmall (widthsOf f)) widths-small f k) j
-
 -- every run is at most 9 wide
 abbrev pub Narrow : List Run → Type 0
 Narrow [] = Unit
 Narrow (r ∷ rs) = (r .width ≤ 9) × Narrow rs
 
-narrow : (rs : List Run) → allSmall (map (λ (r : Run). r .width) rs) ≡ true → Narrow rs
-narrow [] h = tt
-narrow (r ∷ rs) h =
-    let others = allSmall (map (λ (r : Run). r .width) rs) in
-    (leb-true (r .width) 9 (and-left (leb (r .width) 9) others h), narrow rs (and-right (leb (r .width) 9) others h))
+-- so wide, or not carried
+carried-small : (b : Bool) (w : ℕ) → w ≤ 9 → cond b w 0 ≤ 9
+carried-small b w h = by-test b (λ y. rw y h) (λ n. rw n (omega arith))
 
-pub runs-narrow : (f : Format) → known f ≡ true → Narrow (codeRuns f)
+pub runs-narrow : (f : Format) → Narrow (codeRuns f)
+unfolding codeRuns codeFields timeFields seconds minutes hours days tenths hundredthsDigit straightSeconds codeControl codeRange
+runs-narrow f =
+    (carried-small (member (f .letter) (A ∷ B ∷ G ∷ [])) 4 (omega arith), (carried-small (member (f .letter) (A ∷ B ∷ E ∷ G ∷ [])) 3 (omega arith), (carried-small (member (f .letter) (A ∷ B ∷ E ∷ G ∷ H ∷ [])) 4 (omega arith), (carried-small (member (f .letter) (A ∷ B ∷ E ∷ G ∷ H ∷ [])) 3 (omega arith), (omega arith, (omega arith, (omega arith, (omega arith, (omega arith, (carried-small (member (f .letter) (A ∷ G ∷ [])) 4 (omega arith), (carried-small (member (f .letter) (G ∷ [])) 4 (omega arith), (carried-small (hasSeconds f) 9 (omega arith), (carried-small (hasSeconds f) 8 (omega arith), (carried-small (carriesControl f && member 50 (rowOf f .control)) 9 (omega arith), (carried-small (carriesControl f && member 60 (rowOf f .control)) 9 (omega arith), (carried-small (carriesControl f && member 70 (rowOf f .control)) 9 (omega arith), (carried-small (carriesControl f && member 80 (rowOf f .control)) 9 (omega arith), (carried-small (carriesControl f && member 90 (rowOf f .control)) 9 (omega arith), tt))))))))))))))))))
+
+narrow-at : (rs : List Run) → Narrow rs → (j : ℕ) → getD (map (λ (r : Run). r .width) rs) j 0 ≤ 9
+narrow-at [] h j = omega arith
+narrow-at (r ∷ rs) h zero = h .0
+narrow-at (r ∷ rs) h (suc j) = narrow-at rs (h .1) j
+
+pub width-small : (f : Format) (j : ℕ) → getD (widthsOf f) j 0 ≤ 9
 unfolding widthsOf
-runs-narrow f k = narrow (codeRuns f) (of-every (λ f. allSmall (widthsOf f)) widths-small f k)
+width-small f j = narrow-at (codeRuns f) (runs-narrow f) j
 
 pub small-digit : (rs : List Run) (xs : List ℕ) → Narrow rs → Small rs xs → (j : ℕ) → getD xs j 0 < 512
 small-digit [] [] n s j = omega arith
@@ -89,30 +77,48 @@ run-inside f h j k b l =
     rw (start-at f j)
     (covered-inside (size f) (filler f) (codeRuns f) (code-proper f h) (runAt f j .start + k) (covered-at (codeRuns f) noRun j (runAt f j .start + k) (omega (arith, length-runs f)) (place-in (runAt f j) k w)) .0)
 
--- ---- runs that begin before 60 begin by 50: nine bits that are moved there lose none
+-- a row's runs lie in a frame of n elements
+pub record RunsInside (starts widths : List ℕ) (n : ℕ) : Type 0 where
+  pub starts-long : length starts ≡ 18
+  pub widths-long : length widths ≡ 18
+  pub narrow : (j : ℕ) → getD widths j 0 ≤ 9
+  pub inside : (j k : ℕ) → j < 18 → k < getD widths j 0 → getD starts j 0 + k < n
 
-abbrev allNear : ℕ → ℕ → List ℕ → Bool
-allNear last to [] = true
-allNear last to (s ∷ ss) = cond (ltb s to) (leb s last) true && allNear last to ss
+pub runs-inside : (f : Format) → known f ≡ true → RunsInside runStarts (widthsOf f) (size f)
+runs-inside f h =
+    record {
+      starts-long = refl;
+      widths-long = length-widths f;
+      narrow = width-small f;
+      inside = λ j k b l. rw (ap (λ (ss : List ℕ). getD ss j 0) (same-starts f)) at (run-inside f h j k b l);
+    }
 
-near-at : (last to : ℕ) (ss : List ℕ) → allNear last to ss ≡ true → (j : ℕ) → getD ss j 0 < to → getD ss j 0 ≤ last
-near-at last to [] h j l = omega arith
-near-at last to (s ∷ ss) h zero l = leb-true s last (rw (lt-ltb s to l) at (and-left (cond (ltb s to) (leb s last) true) (allNear last to ss) h))
-near-at last to (s ∷ ss) h (suc j) l = near-at last to ss (and-right (cond (ltb s to) (leb s last) true) (allNear last to ss) h) j l
+-- ---- where runs start: nine bits that are moved there lose none
 
-pub head-starts : (f : Format) (j : ℕ) → getD (startsOf f) j 0 < 60 → getD (startsOf f) j 0 ≤ 50
-unfolding startsOf codeRuns codeFields timeFields seconds minutes hours days tenths hundredthsDigit straightSeconds codeControl codeRange
-head-starts f = near-at 50 60 (startsOf f) refl
+-- n runs from one on start from an index on, at most 50 later
+abbrev startsWithin : ℕ → ℕ → ℕ → Bool
+startsWithin from first n = everyBelow n (λ i. leb from (getD runStarts (first + i) 0) && leb (getD runStarts (first + i) 0) (from + 50))
+
+pub starts-within : (from first n : ℕ) → startsWithin from first n ≡ true → (j : ℕ) → first ≤ j → j < first + n → (from ≤ getD runStarts j 0) × (getD runStarts j 0 ≤ from + 50)
+starts-within from first n h j a b =
+    let i : first + (j - first) ≡ j = omega arith in
+    let both = below-every n (λ i. leb from (getD runStarts (first + i) 0) && leb (getD runStarts (first + i) 0) (from + 50)) h (j - first) (omega arith) in
+    let here : (leb from (getD runStarts j 0) && leb (getD runStarts j 0) (from + 50)) ≡ true = rw i at both in
+    (leb-true from (getD runStarts j 0) (and-left (leb from (getD runStarts j 0)) (leb (getD runStarts j 0) (from + 50)) here), leb-true (getD runStarts j 0) (from + 50) (and-right (leb from (getD runStarts j 0)) (leb (getD runStarts j 0) (from + 50)) here))
 
 -- ---- reading, from the first run to the last
 
 -- the digit at run j
-abbrev pub runDigit : Format → List ℕ → ℕ → ℕ
-runDigit f frame j = value (getD (widthsOf f) j 0) (λ b. getD frame (getD (startsOf f) j 0 + b) 0)
+abbrev pub runDigit : List ℕ → List ℕ → List ℕ → ℕ → ℕ
+runDigit starts widths frame j = value (getD widths j 0) (λ b. getD frame (getD starts j 0 + b) 0)
 
-pub decode-tabulate : (f : Format) (frame : List ℕ) → tabulate 18 0 (runDigit f frame) ≡ decode (codeRuns f) frame
-unfolding widthsOf startsOf codeRuns codeFields timeFields seconds minutes hours days tenths hundredthsDigit straightSeconds codeControl
-decode-tabulate f frame = refl
+-- the digits at all runs
+unfoldable pub digitsAt : List ℕ → List ℕ → List ℕ → List ℕ
+digitsAt starts widths frame = tabulate 18 0 (runDigit starts widths frame)
+
+pub digits-at : (f : Format) (frame : List ℕ) → digitsAt runStarts (widthsOf f) frame ≡ decode (codeRuns f) frame
+unfolding digitsAt widthsOf codeRuns codeFields timeFields seconds minutes hours days tenths hundredthsDigit straightSeconds codeControl codeRange
+digits-at f frame = refl
 
 -- ---- the bits of one digit, from the highest to the lowest
 

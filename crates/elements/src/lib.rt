@@ -1,19 +1,19 @@
 // Digits at their runs as the elements of a frame, and back: the layout's own writing and reading, without a time.
-// The calls here are the frame's own; they ask for a known format and for frames as long as the format's, in writing also of 100.
+// The calls here are the frame's own; they ask for a row's places and widths and for frames of 60 or 100.
 ghost use mathlib.Core.Path.{_≡_};
-ghost use mathlib.Core.Bool.{true, false};
 ghost use Prim.Native.Nat.{ℕ, _+_, _*_, _-_, _/_, _%_, _^_, _≤_, _<_};
 ghost use lib.ListN.{getD, length};
-ghost use Rattle.timecode.specs.Formats.{known, size};
-ghost use Rattle.timecode.specs.Layout.{isMark, filler, encode, value, Small, decode};
-ghost use Rattle.timecode.specs.declared.Format.{Format};
-ghost use Rattle.layout.specs.Tables.{startsOf, widthsOf, markPlaces};
-ghost use Rattle.layout.specs.Runs.{codeRuns};
-ghost use Rattle.elements.specs.RunBits.{placedAt, packed};
+ghost use Rattle.timecode.specs.Layout.{value};
+ghost use Rattle.layout.specs.Tables.{runStarts, markPlaces};
+ghost use Rattle.elements.specs.RunBits.{packedRuns, putIn};
+ghost use Rattle.elements.specs.RunLoops.{RunsInside, digitsAt};
 ghost use Rattle.elements.specs.Tens.{fourElements, ten, tens, IsFrame};
+use layout::CONTROL_1;
+use layout::CONTROL_2;
+use layout::RUNS;
+use layout::SECOND;
+use layout::STRAIGHT_LOW;
 use layout::mark_places;
-use layout::run_starts;
-use timecode::Format;
 use timecode::MARK;
 
 // The four elements of each number below 16, a byte each, lowest weight first.
@@ -42,31 +42,24 @@ fn to_usize(x: u8) -> usize
     x as usize
 }
 
-// A digit's low nine bits, where its run begins from one index on and before the other; below 2^59, since no run begins late.
-fn placed(start: u8, digit: u64, from: u8, to: u8) -> u64
-    requires { ⌜ (start < to → start ≤ from + 50) ⌝ }
-    ensures { λ r. ⌜ (r ≡ placedAt from to start digit) × (r < 576460752303423488) ⌝ }
+// A digit's low nine bits where its run starts, counted from an index; below 2^59, since no run starts late.
+fn placed(start: u8, digit: u64, from: u8) -> u64
+    requires { ⌜ (from ≤ start) × (start ≤ from + 50) ⌝ }
+    ensures { λ r. ⌜ (r ≡ digit % 512 * 2 ^ (start - from)) × (r < 576460752303423488) ⌝ }
 {
-    if start < from {
-        return 0;
-    }
-    if to <= start {
-        return 0;
-    }
     (digit % 512) << (start - from)
 }
 
-// The bits of all digits whose runs begin there.
-fn bits_from(digits: &[u64], from: u8, to: u8) -> u64
-    requires { ⌜ (length (now digits) ≡ 18) × ((f : Format) (j : ℕ) → getD (startsOf f) j 0 < to → getD (startsOf f) j 0 ≤ from + 50) ⌝ }
-    ensures { λ r. ⌜ ((f : Format) → r ≡ packed from to (startsOf f) (now (digits .entry))) ⌝ }
+// The bits of the digits from one run on and before the other.
+fn bits_from(starts: &[u8], digits: &[u64], first: usize, last: usize, from: u8) -> u64
+    requires { ⌜ (now starts ≡ runStarts) × (length (now digits) ≡ 18) × (first ≤ last) × (last ≤ 18) × ((j : ℕ) → first ≤ j → j < last → (from ≤ getD runStarts j 0) × (getD runStarts j 0 ≤ from + 50)) ⌝ }
+    ensures { λ r. ⌜ (r ≡ packedRuns from (now (digits .entry)) first (last - first)) × (r ≤ (last - first) * 576460752303423488) ⌝ }
 {
-    let starts = run_starts();
     let mut bits = 0;
-    let mut j = 18;
-    while 0 < j {
+    let mut j = last;
+    while first < j {
         j -= 1;
-        bits += placed(starts[j], digits[j], from, to);
+        bits += placed(starts[j], digits[j], from);
     }
     bits
 }
@@ -111,19 +104,21 @@ fn put_tens(fours: &[u32], places: &[u8], frame: &mut [u8], from: usize, to: usi
     }
 }
 
-// The digits at the format's runs, in a frame of the format or of 100, from the digits and the tables alone: each right where
-// it fits its run, and in any case zeros, ones and marks.
-pub fn put_digits(format: Format, digits: &[u64], frame: &mut [u8])
-    requires { ⌜ (known format ≡ true) × (length (now digits) ≡ 18) × IsFrame (length (now frame)) ⌝ }
-    ensures { λ _. ⌜ (Small (codeRuns format) (now (digits .entry)) → now (frame .exit) ≡ encode (length (now (frame .entry))) (filler format) (codeRuns format) (now (digits .entry))) × ((i : ℕ) → i < length (now (frame .entry)) → isMark i ≡ false → getD (now (frame .exit)) i 0 < 2) × (length (now (frame .exit)) ≡ length (now (frame .entry))) ⌝ }
+// The digits as the elements of a frame, from the digits and the row's places alone: those of the time and the first control
+// range stand below 60, straight binary seconds and the other ranges from 60 on. Any digits give zeros, ones and marks.
+pub fn put_digits(starts: &[u8], digits: &[u64], frame: &mut [u8])
+    requires { ⌜ (now starts ≡ runStarts) × (length (now digits) ≡ 18) × IsFrame (length (now frame)) ⌝ }
+    ensures { λ _. ⌜ now (frame .exit) ≡ putIn (length (now (frame .entry))) (now (digits .entry)) ⌝ }
 {
     let fours = FOURS;
-    let places = mark_places();
-    let head = bits_from(digits, 0, 60);
-    put_tens(&fours, &places, frame, 0, 6, head);
+    let marks = mark_places();
+    let head = bits_from(starts, digits, SECOND, STRAIGHT_LOW, 0)
+        + bits_from(starts, digits, CONTROL_1, CONTROL_2, 0);
+    put_tens(&fours, &marks, frame, 0, 6, head);
     if frame.len() == 100 {
-        let tail = bits_from(digits, 60, 100);
-        put_tens(&fours, &places, frame, 6, 10, tail);
+        let tail = bits_from(starts, digits, STRAIGHT_LOW, CONTROL_1, 60)
+            + bits_from(starts, digits, CONTROL_2, RUNS, 60);
+        put_tens(&fours, &marks, frame, 6, 10, tail);
     }
 }
 
@@ -141,15 +136,14 @@ fn digit_at(frame: &[u8], start: usize, width: usize) -> u64
     digit
 }
 
-// The digits that stand at the format's runs.
-pub fn digits_in(format: Format, widths: &[u8], frame: &[u8]) -> [u64; 18]
-    requires { ⌜ (known format ≡ true) × (now widths ≡ widthsOf format) × (length (now frame) ≡ size format) ⌝ }
-    ensures { λ r. ⌜ r ≡ decode (codeRuns format) (now (frame .entry)) ⌝ }
+// The digits that stand at a row's runs.
+pub fn digits_in(starts: &[u8], widths: &[u8], frame: &[u8]) -> [u64; 18]
+    requires { ⌜ RunsInside (now starts) (now widths) (length (now frame)) ⌝ }
+    ensures { λ r. ⌜ r ≡ digitsAt (now (starts .entry)) (now (widths .entry)) (now (frame .entry)) ⌝ }
 {
-    let starts = run_starts();
-    let mut digits = [0u64; 18];
+    let mut digits = [0u64; RUNS];
     let mut j = 0;
-    while j < 18 {
+    while j < RUNS {
         digits[j] = digit_at(frame, to_usize(starts[j]), to_usize(widths[j]));
         j += 1;
     }

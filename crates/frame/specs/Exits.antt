@@ -1,91 +1,105 @@
 -- Where Write and Read return, and what the calls within them need.
-use mathlib.Core.Path.{_≡_, refl, sym, ap, _∙_}
-use mathlib.Core.Bool.{true, false}
-use mathlib.Core.List.{List}
+use mathlib.Core.Path.{_≡_, refl, sym, ap, ap₂, _∙_}
+use mathlib.Core.Bool.{Bool, true, false, cond, _&&_}
+use mathlib.Core.List.{List, [], _∷_}
 use mathlib.Core.Logic.{inl, inr}
-use Prim.Native.Nat.{ℕ, _+_, _<_}
+use Prim.Native.Nat.{ℕ, suc, _+_, _%_, _<_, _≤_}
 use native.Mathlib.Omega.{arith}
-use borrow.Author.Tests.{eq-eqb, ltb-true, ltb-false}
-use lib.Dec.{ltb}
-use lib.ListN.{getD, length, length-map}
-use lib.Seq.{ext-getD}
-use Rattle.timecode.specs.Formats.{known, size}
-use Rattle.timecode.specs.Frames.{areSymbols, elementFits, readOf}
-use Rattle.timecode.specs.Laws.Runs.{getD-encode, length-encode, Clean, clean-bits, encode-clean, covered-inside, small-decoded, small-length}
-use Rattle.timecode.specs.Laws.Table.{size-range, two-sizes}
-use Rattle.timecode.specs.Laws.Tests.{by-test, clash}
-use Rattle.timecode.specs.Laws.Writing.{symbol-small, symbols-tabulate}
-use Rattle.timecode.specs.Layout.{isMark, filler, encode, Small, decode}
+use borrow.Author.Tests.{eq-eqb, le-leb, ltb-true, ltb-false}
+use lib.Dec.{leb, ltb, eqb}
+use lib.ListN.{getD, length}
+use Rattle.timecode.specs.Formats.{known, size, interval, dayLength, inRange, onFormat, carriesLeap, secondCarried}
+use Rattle.timecode.specs.Frames.{areSymbols, readOf}
+use Rattle.timecode.specs.Laws.Runs.{Clean, clean-bits, small-decoded, small-length}
+use Rattle.timecode.specs.Laws.Table.{size-range, interval-range, two-sizes}
+use Rattle.timecode.specs.Laws.Tests.{by-test}
+use Rattle.timecode.specs.Layout.{isMark, filler, decode}
 use Rattle.timecode.specs.declared.Format.{Format}
 use Rattle.timecode.specs.declared.Refusal.the-variants.{UnknownSymbol}
-use Rattle.layout.specs.Tables.{widthsOf}
+use Rattle.timecode.specs.declared.Time.{Time}
+use Rattle.layout.specs.Tables.{widthsOf, RowOf, IsRow}
 use Rattle.layout.specs.Runs.{codeRuns, code-proper}
+use Rattle.layout.specs.declared.Row.{Row}
 use Rattle.elements.specs.Tens.{IsFrame}
-use Rattle.elements.specs.RunLoops.{runs-narrow, length-runs, length-widths, width-small, small-digit}
+use Rattle.elements.specs.RunBits.{putIn, put-mark, put-binary}
+use Rattle.elements.specs.RunLoops.{runs-narrow, length-runs, length-widths, width-small, small-digit, RunsInside, runs-inside, digitsAt, digits-at}
 use Rattle.digits.specs.Meaning.{meaningOf, meaning-is}
 use Rattle.digits.specs.Splitting.{Widths, Digits}
-use Rattle.frame.specs.Offences.{offenceIn, refusedOr, some-offence, offended-refuses, offended-clean, clean-offended}
+use Rattle.frame.specs.Offences.{offendedOf, offenceIn, refusedOr, same-nothing, some-offence, offended-refuses, offended-clean}
 use Rattle.frame.specs.declared.Offence.the-variants.{Nothing}
 
-pub are-widths : (f : Format) → known f ≡ true → (ws : List ℕ) → ws ≡ widthsOf f → Widths ws
-are-widths f k ws e = rw e (record { long = length-widths f; small = width-small f k })
+-- ---- what a row gives
+
+-- a frame as long as the row's format has it, and the format known
+pub record FrameOf (row : Row) (frame : List ℕ) : Type 0 where
+  pub format : Format
+  pub is-known : known format ≡ true
+  pub row-of : RowOf format row
+  pub long : length frame ≡ size format
+
+pub row-widths : (row : Row) → IsRow row → Widths (row .widths)
+row-widths row (f, r) = rw (r .widths-are) (record { long = length-widths f; small = width-small f })
+
+pub row-interval : (row : Row) → IsRow row → 1 ≤ row .interval
+row-interval row (f, r) = rw (r .interval-is) (interval-range f .0)
 
 pub is-frame : (f : Format) (n : ℕ) → n ≡ size f → IsFrame n
 is-frame f n e = rw e (two-sizes IsFrame (inl refl) (inr refl) f)
 
-module _ (f : Format) (frame : List ℕ) (k : known f ≡ true) (n : length frame ≡ size f) where
-  -- ---- a frame that nothing offends has small digits
+pub row-inside : (row : Row) (frame : List ℕ) → FrameOf row frame → RunsInside (row .starts) (row .widths) (length frame)
+row-inside row frame o = rw (o .row-of .starts-are, o .row-of .widths-are, o .long) (runs-inside (o .format) (o .is-known))
 
+pub row-digits : (f : Format) (row : Row) (frame : List ℕ) → RowOf f row → digitsAt (row .starts) (row .widths) frame ≡ decode (codeRuns f) frame
+row-digits f row frame r = rw (r .starts-are, r .widths-are) (digits-at f frame)
+
+module _ (f : Format) (row : Row) (o : RowOf f row) where
+  pub row-known : (e : ℕ) (r : Bool) → f .expression ≡ e → r ≡ (leb (row .first) e && leb e (row .last)) → known f ≡ r
+  row-known e r q h = sym (o .known-is) ∙ ap (λ (x : ℕ). leb (row .first) x && leb x (row .last)) q ∙ sym h
+
+  pub row-on : (t : Time) (r : Bool) → r ≡ (inRange t && eqb (t .hundredths % row .interval) 0) → onFormat f t ≡ r
+  unfolding onFormat
+  row-on t r h = ap (λ (x : ℕ). inRange t && eqb (t .hundredths % x) 0) (sym (o .interval-is)) ∙ sym h
+
+  pub row-carries : (t : Time) (r : Bool) → r ≡ cond (row .leap) true (ltb (t .hundredths) dayLength) → secondCarried f t ≡ r
+  unfolding secondCarried
+  row-carries t r h = ap (λ (b : Bool). cond b true (ltb (t .hundredths) dayLength)) (sym (o .leap-is)) ∙ sym h
+
+-- ---- the frame written again
+
+pub put-symbol : (n : ℕ) (xs : List ℕ) (k : ℕ) → k < n → getD (putIn n xs) k 0 ≤ 3
+put-symbol n xs k l = by-test (isMark k) (λ y. omega (arith, put-mark n xs k l y)) (λ m. omega (arith, put-binary n xs k l m))
+
+symbols-all : (frame : List ℕ) → ((k : ℕ) → k < length frame → getD frame k 0 ≤ 3) → areSymbols frame ≡ true
+symbols-all [] h = refl
+symbols-all (s ∷ ss) h = rw (le-leb s 3 (h 0 (omega arith))) (symbols-all ss (λ k l. h (suc k) (omega arith)))
+
+-- where it agrees with the frame nothing offends
+pub agree-nothing : (again frame : List ℕ) → length frame ≤ length again → ((k : ℕ) → k < length frame → getD again k 0 ≤ 3) → ((k : ℕ) → k < length frame → getD frame k 0 ≡ getD again k 0) → offenceIn again frame ≡ Nothing
+unfolding offenceIn
+agree-nothing again frame l small same = rw (symbols-all frame (λ k h. rw (same k h) (small k h))) (same-nothing 0 again frame l same)
+
+module _ (f : Format) (frame : List ℕ) (k : known f ≡ true) (n : length frame ≡ size f) where
+  -- a frame that nothing offends has small digits
   pub are-digits : Clean (size f) (filler f) (codeRuns f) frame → Digits (decode (codeRuns f) frame)
   are-digits clean =
       let small = small-decoded frame (codeRuns f) (clean-bits (size f) (filler f) (codeRuns f) frame (code-proper f k) clean) in
-      record { long = small-length (codeRuns f) (decode (codeRuns f) frame) small ∙ length-runs f; small = small-digit (codeRuns f) (decode (codeRuns f) frame) (runs-narrow f k) small }
+      record { long = small-length (codeRuns f) (decode (codeRuns f) frame) small ∙ length-runs f; small = small-digit (codeRuns f) (decode (codeRuns f) frame) (runs-narrow f) small }
 
-  -- ---- Read is what offends, or what the digits say
-
-  pub read-refused-or : readOf f frame ≡ refusedOr (offenceIn f frame) (meaningOf f (decode (codeRuns f) frame))
+  -- Read is what offends, or what the digits say
+  pub read-refused-or : readOf f frame ≡ refusedOr (offenceIn (putIn 100 (decode (codeRuns f) frame)) frame) (meaningOf (carriesLeap f) (widthsOf f) (decode (codeRuns f) frame))
   unfolding readOf offenceIn
   read-refused-or =
       rw (k, eq-eqb (length frame) (size f) n)
       (by-test (areSymbols frame)
-      (λ y. rw (y, meaning-is f frame) (offended-refuses f frame (omega (arith, size-range f)) _))
+      (λ y. rw (y, meaning-is f frame) (offended-refuses f frame k n _))
       (λ m. rw m))
 
-  pub finds-nothing : offenceIn f frame ≡ Nothing → Clean (size f) (filler f) (codeRuns f) frame
+  pub finds-nothing : offenceIn (putIn 100 (decode (codeRuns f) frame)) frame ≡ Nothing → Clean (size f) (filler f) (codeRuns f) frame
   unfolding offenceIn
   finds-nothing h =
       by-test (areSymbols frame)
-      (λ y. offended-clean f frame n (size-range f .1) (rw y at h))
+      (λ y. offended-clean f frame k n (rw y at h))
       (λ m. absurd (some-offence UnknownSymbol (rw m at h)))
-
-  -- ---- a frame that is written again from its digits
-
-  -- off the marks of the other frame stand zeros and ones, so digits that stand in both fit their runs
-  small-digits : (form : List ℕ) → ((i : ℕ) → i < 100 → isMark i ≡ false → getD form i 0 < 2) → ((i : ℕ) → i < length frame → getD frame i 0 ≡ getD form i 0) → Small (codeRuns f) (decode (codeRuns f) frame)
-  unfolding filler
-  small-digits form binary same =
-      small-decoded frame (codeRuns f)
-      (λ i h.
-      let inside = covered-inside (size f) (filler f) (codeRuns f) (code-proper f k) i h in
-      by-test (isMark i)
-      (λ y. clash {b = true} refl (rw y at (inside .1)))
-      (λ m. rw (same i (omega (arith, inside .0))) (binary i (omega (arith, inside .0, size-range f)) m)))
-
-  pub as-written : (form xs : List ℕ) → xs ≡ decode (codeRuns f) frame → (Small (codeRuns f) xs → form ≡ encode 100 (filler f) (codeRuns f) xs) → ((i : ℕ) → i < 100 → isMark i ≡ false → getD form i 0 < 2)
-      → ((i : ℕ) → i < length frame → getD frame i 0 ≡ getD form i 0) → frame ≡ encode (size f) (filler f) (codeRuns f) (decode (codeRuns f) frame)
-  as-written form xs e right binary same =
-      rw (← e)
-      (ext-getD 0 frame (encode (size f) (filler f) (codeRuns f) xs) (n ∙ sym (length-encode (size f) (filler f) (codeRuns f) xs))
-      (λ i l.
-      same i l ∙ ap (λ (ss : List ℕ). getD ss i 0) (right (rw e (small-digits form binary same)))
-      ∙ getD-encode 100 (filler f) (codeRuns f) xs i (omega (arith, size-range f)) ∙ sym (getD-encode (size f) (filler f) (codeRuns f) xs i (omega arith))))
-
-  pub written-nothing : frame ≡ encode (size f) (filler f) (codeRuns f) (decode (codeRuns f) frame) → offenceIn f frame ≡ Nothing
-  unfolding offenceIn encode
-  written-nothing e =
-      let clean : Clean (size f) (filler f) (codeRuns f) frame =
-      λ i l. ap (λ (ss : List ℕ). elementFits (filler f) (codeRuns f) i (getD ss i 0)) e ∙ encode-clean (size f) (filler f) (codeRuns f) (decode (codeRuns f) frame) (length-map (codeRuns f) _) i l in
-      rw (ap areSymbols e ∙ symbols-tabulate (size f) 0 _ (symbol-small f (codeRuns f) (decode (codeRuns f) frame))) (clean-offended f frame n (size-range f .1) clean)
 
 -- two lists that agree below i and at i
 pub agree-turn : (xs ys : List ℕ) (i : ℕ) → ((k : ℕ) → k < i → getD xs k 0 ≡ getD ys k 0) → getD xs i 0 ≡ getD ys i 0 → (k : ℕ) → k < i + 1 → getD xs k 0 ≡ getD ys k 0

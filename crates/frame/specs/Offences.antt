@@ -1,57 +1,47 @@
--- The search for the lowest index that offends, by the format's shape: its frame with every bit a one.
+-- What offends in a frame, found beside the frame that is written again from its digits: the lowest index where the two differ.
 use mathlib.Core.Path.{_≡_, refl, sym, ap, _∙_}
-use mathlib.Core.Bool.{Bool, true, cond, not, _&&_}
-use mathlib.Core.List.{List, [], _∷_, map}
-use Prim.Native.Nat.{ℕ, zero, suc, _+_, _*_, _-_, _/_, _%_, _^_, _<_, _≤_}
-use native.Mathlib.Nat.{add-zero, add-suc, suc-add, zero-add, not-suc-le-zero, one-mul, two-pow-succ}
+use mathlib.Core.Bool.{true, false, cond, not, _&&_}
+use mathlib.Core.List.{List, [], _∷_}
+use Prim.Native.Nat.{ℕ, zero, suc, _+_, _<_, _≤_}
+use native.Mathlib.Nat.{not-suc-le-zero, zero-add}
 use native.Mathlib.Numerals.{add-one}
 use native.Mathlib.Omega.{arith}
-use borrow.Author.Tests.{ne-eqb}
+use borrow.Author.Tests.{eqb-true, eqb-false, eq-eqb, ne-eqb, ltb-true, ltb-false, lt-ltb, le-ltb}
 use lib.Dec.{leb, ltb, eqb}
 use lib.ListN.{getD, length, drop, drop-of-length-le}
-use lib.Pow.{high, ones-lt, ones-split, pow-pos, shl-exact}
 use lib.Seq.{drop-cons}
-use Rattle.timecode.specs.Formats.{size}
+use Rattle.timecode.specs.Formats.{known, size}
 use Rattle.timecode.specs.Frames.{areSymbols, covered, marksAgree, elementFits, checkElements}
-use Rattle.timecode.specs.Laws.Runs.{in-run, Clean, fits-agree, getD-encode, length-encode}
-use Rattle.timecode.specs.Laws.Tests.{by-test}
-use Rattle.timecode.specs.Layout.{Run, seconds, minutes, hours, days, tenths, hundredthsDigit, straightSeconds, timeFields, inRun, bitOf, isMark, filler, runs, symbolAt, tabulate, encode, Small}
+use Rattle.timecode.specs.Laws.Runs.{getD-encode, getD-tabulate, length-tabulate, Clean, fits-agree, clean-bits, encode-decode, covered-inside, small-decoded}
+use Rattle.timecode.specs.Laws.Table.{size-range}
+use Rattle.timecode.specs.Laws.Tests.{by-test, clash}
+use Rattle.timecode.specs.Layout.{Run, isMark, filler, runs, tabulate, decode}
 use Rattle.timecode.specs.declared.Format.{Format}
 use Rattle.timecode.specs.declared.Reading.{Reading}
 use Rattle.timecode.specs.declared.Refusal.{Refusal}
 use Rattle.timecode.specs.declared.Refusal.the-variants.{UnknownSymbol, MisplacedMark, InvalidElement}
-use Rattle.layout.specs.Tables.{widthsOf}
-use Rattle.layout.specs.Runs.{codeControl, codeFields, codeRuns, code-elements}
+use Rattle.layout.specs.Runs.{codeRuns, code-elements, code-proper}
+use Rattle.elements.specs.Carries.{put-low}
+use Rattle.elements.specs.RunBits.{putIn, put-right, put-binary, length-put}
 use Rattle.frame.specs.declared.Offence.{Offence}
 use Rattle.frame.specs.declared.Offence.the-variants.{Nothing, At}
 
--- the digit of each run with every bit a one
-abbrev pub greatestDigits : List Run → List ℕ
-greatestDigits rs = map (λ (r : Run). 2 ^ r .width - 1) rs
+-- symbol s stands where the frame written again has m: 5 where either is a mark, else 6
+unfoldable pub offenceAt : ℕ → ℕ → ℕ → Offence
+offenceAt m s i = cond (eqb m 2) (At (MisplacedMark i)) (cond (eqb s 2) (At (MisplacedMark i)) (At (InvalidElement i)))
 
--- 1 where a digit or bit stands, 2 at a mark, 0 at an index marker
-unfoldable pub shape : Format → List ℕ
-shape f = encode 100 (filler f) (codeRuns f) (greatestDigits (codeRuns f))
-
--- the symbol s is a mark exactly where the shape has one
-unfoldable pub agreesWith : ℕ → ℕ → Bool
-agreesWith m s = cond (eqb m 2) (eqb s 2) (not (eqb s 2))
-
--- the symbol s fits where the shape has m
-unfoldable pub fitsIn : ℕ → ℕ → Bool
-fitsIn m s = cond (eqb m 1) (ltb s 2) (eqb s m)
-
+-- the lowest index where the two differ, counted from i on
 unfoldable pub offendedFrom : ℕ → List ℕ → List ℕ → Offence
 offendedFrom i ms [] = Nothing
 offendedFrom i [] (s ∷ ss) = Nothing
-offendedFrom i (m ∷ ms) (s ∷ ss) = cond (agreesWith m s) (cond (fitsIn m s) (offendedFrom (suc i) ms ss) (At (InvalidElement i))) (At (MisplacedMark i))
+offendedFrom i (m ∷ ms) (s ∷ ss) = cond (eqb s m) (offendedFrom (suc i) ms ss) (offenceAt m s i)
 
 abbrev pub offendedOf : List ℕ → List ℕ → Offence
-offendedOf form frame = offendedFrom 0 form frame
+offendedOf again frame = offendedFrom 0 again frame
 
--- what offends in a frame: a symbol above 3 before all else
-unfoldable pub offenceIn : Format → List ℕ → Offence
-offenceIn f frame = cond (areSymbols frame) (offendedOf (shape f) frame) (At UnknownSymbol)
+-- a symbol above 3 before all else
+unfoldable pub offenceIn : List ℕ → List ℕ → Offence
+offenceIn again frame = cond (areSymbols frame) (offendedOf again frame) (At UnknownSymbol)
 
 -- the answer, where an offence refuses
 abbrev pub refusedOr : Offence → Reading → Reading
@@ -60,15 +50,14 @@ refusedOr (At r) answer = Reading.Refused r
 
 -- ---- turns of the loop
 
-pub offended-turn : (form frame : List ℕ) (i : ℕ) → i < length form → i < length frame
-    → offendedFrom i (drop i form) (drop i frame)
-    ≡ cond (agreesWith (getD form i 0) (getD frame i 0)) (cond (fitsIn (getD form i 0) (getD frame i 0)) (offendedFrom (i + 1) (drop (i + 1) form) (drop (i + 1) frame)) (At (InvalidElement i))) (At (MisplacedMark i))
+pub offended-turn : (again frame : List ℕ) (i : ℕ) → i < length again → i < length frame
+    → offendedFrom i (drop i again) (drop i frame) ≡ cond (eqb (getD frame i 0) (getD again i 0)) (offendedFrom (i + 1) (drop (i + 1) again) (drop (i + 1) frame)) (offenceAt (getD again i 0) (getD frame i 0) i)
 unfolding offendedFrom
-offended-turn form frame i a b = rw (drop-cons form i 0 a, drop-cons frame i 0 b, add-one i)
+offended-turn again frame i a b = rw (drop-cons again i 0 a, drop-cons frame i 0 b, add-one i)
 
-pub offended-end : (form frame : List ℕ) (i : ℕ) → length frame ≤ i → offendedFrom i (drop i form) (drop i frame) ≡ Nothing
+pub offended-end : (again frame : List ℕ) (i : ℕ) → length frame ≤ i → offendedFrom i (drop i again) (drop i frame) ≡ Nothing
 unfolding offendedFrom
-offended-end form frame i h = rw (drop-of-length-le frame {i = i} h)
+offended-end again frame i h = rw (drop-of-length-le frame {i = i} h)
 
 pub symbols-turn : (frame : List ℕ) (i : ℕ) → i < length frame → areSymbols (drop i frame) ≡ (leb (getD frame i 0) 3 && areSymbols (drop (i + 1) frame))
 symbols-turn frame i h = rw (drop-cons frame i 0 h, add-one i)
@@ -76,114 +65,152 @@ symbols-turn frame i h = rw (drop-cons frame i 0 h, add-one i)
 pub symbols-end : (frame : List ℕ) (i : ℕ) → length frame ≤ i → areSymbols (drop i frame) ≡ true
 symbols-end frame i h = rw (drop-of-length-le frame {i = i} h)
 
--- ---- the shape judges as the definition does
+-- ---- two that agree
 
--- every bit of the greatest digit is a one
-full-bit : (w k : ℕ) → k < w → (2 ^ w - 1) / 2 ^ k % 2 ≡ 1
-full-bit w k h =
-    let m = w - k - 1 in
-    let all : suc m + k ≡ w = omega arith in
-    let above : (2 ^ (suc m + k) - 1) / 2 ^ k ≡ 2 ^ suc m - 1 = ap (λ (n : ℕ). n / 2 ^ k) (ones-split (suc m) k) ∙ high (2 ^ suc m - 1) k (ones-lt k) in
-    ap (λ (n : ℕ). (2 ^ n - 1) / 2 ^ k % 2) (sym all) ∙ ap (λ (n : ℕ). n % 2) above ∙ omega (arith, two-pow-succ m, pow-pos m)
-
-ones : (fillers : ℕ → ℕ) (rs : List Run) (i : ℕ) → symbolAt fillers rs (greatestDigits rs) i ≡ cond (covered rs i) 1 (fillers i)
-unfolding symbolAt
-ones fillers [] i = refl
-ones fillers (r ∷ rs) i =
-    by-test (inRun r i)
-    (λ h. rw (h, full-bit (r .width) (bitOf r i) (omega (arith, in-run r i h))))
-    (λ m. rw m (ones fillers rs i))
-
--- a one moved by at most nine bits
-pub one-moved : (w : ℕ) → w ≤ 9 → 1 * 2 ^ w % 18446744073709551616 ≡ 2 ^ w
-one-moved w h = shl-exact {a = 1} 1 w 64 (omega arith) (omega arith) ∙ one-mul (2 ^ w)
-
-pub greatest-small : (rs : List Run) → Small rs (greatestDigits rs)
-greatest-small [] = tt
-greatest-small (r ∷ rs) = (ones-lt (r .width), greatest-small rs)
-
-pub greatest-tabulate : (f : Format) → tabulate 18 0 (λ j. 2 ^ getD (widthsOf f) j 0 - 1) ≡ greatestDigits (codeRuns f)
-unfolding widthsOf codeRuns codeFields timeFields seconds minutes hours days tenths hundredthsDigit straightSeconds codeControl
-greatest-tabulate f = refl
-
-pub length-shape : (f : Format) → length (shape f) ≡ 100
-unfolding shape
-length-shape f = length-encode 100 (filler f) (codeRuns f) (greatestDigits (codeRuns f))
-
-shape-at : (f : Format) (i : ℕ) → i < 100 → getD (shape f) i 0 ≡ cond (covered (codeRuns f) i) 1 (filler f i)
-unfolding shape
-shape-at f i h = getD-encode 100 (filler f) (codeRuns f) (greatestDigits (codeRuns f)) i h ∙ ones (filler f) (codeRuns f) i
-
-filler-not-1 : (f : Format) (i : ℕ) → filler f i ≡ 1 → ⊥
-unfolding filler
-filler-not-1 f i h = by-test (isMark i) (λ y. let z : _≡_ {A = ℕ} 2 1 = rw y at h in omega arith) (λ m. let z : _≡_ {A = ℕ} 0 1 = rw m at h in omega arith)
-
-shape-agrees : (f : Format) (i s : ℕ) → i < 100 → agreesWith (getD (shape f) i 0) s ≡ marksAgree (filler f) (codeRuns f) i s
-unfolding agreesWith marksAgree
-shape-agrees f i s h = rw (shape-at f i h) (by-test (covered (codeRuns f) i) (λ y. rw y) (λ m. rw m))
-
-shape-fits : (f : Format) (i s : ℕ) → i < 100 → fitsIn (getD (shape f) i 0) s ≡ elementFits (filler f) (codeRuns f) i s
-unfolding fitsIn elementFits
-shape-fits f i s h = rw (shape-at f i h) (by-test (covered (codeRuns f) i) (λ y. rw y) (λ m. rw (m, ne-eqb (filler f i) 1 (filler-not-1 f i))))
-
--- ---- what the search finds is what the definition refuses
-
-found-elements : (fillers : ℕ → ℕ) (rs : List Run) (i : ℕ) (form frame : List ℕ) (a : Reading) → length frame ≤ length form
-    → ((k s : ℕ) → k < length frame → (agreesWith (getD form k 0) s ≡ marksAgree fillers rs (i + k) s) × (fitsIn (getD form k 0) s ≡ elementFits fillers rs (i + k) s))
-    → checkElements fillers rs i frame a ≡ refusedOr (offendedFrom i form frame) a
-unfolding checkElements offendedFrom
-found-elements fillers rs i form [] a l same = refl
-found-elements fillers rs i [] (s ∷ ss) a l same = absurd (not-suc-le-zero l)
-found-elements fillers rs i (m ∷ ms) (s ∷ ss) a l same =
-    let later : checkElements fillers rs (suc i) ss a ≡ refusedOr (offendedFrom (suc i) ms ss) a =
-    found-elements fillers rs (suc i) ms ss a (omega arith) (λ k x b. rw (suc-add i k, ← add-suc i k) (same (suc k) x (omega arith))) in
-    let here : (agreesWith m s ≡ marksAgree fillers rs i s) × (fitsIn m s ≡ elementFits fillers rs i s) = rw (add-zero i) at (same 0 s (omega arith)) in
-    rw (← here .0, ← here .1)
-    (by-test (agreesWith m s)
-    (λ y. rw y (by-test (fitsIn m s) (λ z. rw z later) (λ z. rw z)))
-    (λ n. rw n))
-
-pub offended-refuses : (f : Format) (frame : List ℕ) → length frame ≤ 100 → (a : Reading) → checkElements (filler f) (runs f) 0 frame a ≡ refusedOr (offendedOf (shape f) frame) a
-offended-refuses f frame h a =
-    sym (code-elements f 0 frame a)
-    ∙ found-elements (filler f) (codeRuns f) 0 (shape f) frame a (omega (arith, length-shape f)) (λ i s l. rw (zero-add i) (shape-agrees f i s (omega arith), shape-fits f i s (omega arith)))
-
--- ---- where the search finds nothing, the frame is clean
+pub same-nothing : (i : ℕ) (again frame : List ℕ) → length frame ≤ length again → ((k : ℕ) → k < length frame → getD frame k 0 ≡ getD again k 0) → offendedFrom i again frame ≡ Nothing
+unfolding offendedFrom
+same-nothing i again [] l h = refl
+same-nothing i [] (s ∷ ss) l h = absurd (not-suc-le-zero l)
+same-nothing i (m ∷ ms) (s ∷ ss) l h = rw (eq-eqb s m (h 0 (omega arith))) (same-nothing (suc i) ms ss (omega arith) (λ k b. h (suc k) (omega arith)))
 
 pub some-offence : (r : Refusal) → At r ≡ Nothing → ⊥
 some-offence r h = let z : _≡_ {A = ℕ} 0 1 = cc in omega arith
 
-clean-from : (i : ℕ) (form frame : List ℕ) → length frame ≤ length form → offendedFrom i form frame ≡ Nothing → (k : ℕ) → k < length frame → fitsIn (getD form k 0) (getD frame k 0) ≡ true
-unfolding offendedFrom
-clean-from i form [] l h k b = absurd (not-suc-le-zero b)
-clean-from i [] (s ∷ ss) l h k b = absurd (not-suc-le-zero l)
-clean-from i (m ∷ ms) (s ∷ ss) l h k b =
-    by-test (agreesWith m s)
-    (λ y.
-    by-test (fitsIn m s)
-    (λ z. by-index k b z (clean-from (suc i) ms ss (omega arith) (rw (y, z) at h)))
-    (λ z. absurd (some-offence (InvalidElement i) (rw (y, z) at h))))
-    (λ n. absurd (some-offence (MisplacedMark i) (rw n at h)))
-  where
-    by-index : (k : ℕ) → k < suc (length ss) → fitsIn m s ≡ true → ((k : ℕ) → k < length ss → fitsIn (getD ms k 0) (getD ss k 0) ≡ true) → fitsIn (getD (m ∷ ms) k 0) (getD (s ∷ ss) k 0) ≡ true
-    by-index zero b here later = here
-    by-index (suc k) b here later = later k (omega arith)
+offence-some : (m s i : ℕ) → offenceAt m s i ≡ Nothing → ⊥
+unfolding offenceAt
+offence-some m s i h =
+    by-test (eqb m 2)
+    (λ y. some-offence (MisplacedMark i) (rw y at h))
+    (λ n. by-test (eqb s 2) (λ y. some-offence (MisplacedMark i) (rw (n, y) at h)) (λ o. some-offence (InvalidElement i) (rw (n, o) at h)))
 
-pub offended-clean : (f : Format) (frame : List ℕ) → length frame ≡ size f → size f ≤ 100 → offendedOf (shape f) frame ≡ Nothing → Clean (size f) (filler f) (codeRuns f) frame
-offended-clean f frame n small h i l =
-    sym (shape-fits f i (getD frame i 0) (omega arith)) ∙ clean-from 0 (shape f) frame (omega (arith, length-shape f)) h i (omega arith)
+-- ---- the frame written again agrees below the lowest index that offends, and there it does not
 
-nothing-from : (i : ℕ) (form frame : List ℕ) → length frame ≤ length form
-    → ((k : ℕ) → k < length frame → (agreesWith (getD form k 0) (getD frame k 0) ≡ true) × (fitsIn (getD form k 0) (getD frame k 0) ≡ true)) → offendedFrom i form frame ≡ Nothing
-unfolding offendedFrom
-nothing-from i form [] l h = refl
-nothing-from i [] (s ∷ ss) l h = absurd (not-suc-le-zero l)
-nothing-from i (m ∷ ms) (s ∷ ss) l h = rw (h 0 (omega arith) .0, h 0 (omega arith) .1) (nothing-from (suc i) ms ss (omega arith) (λ k b. h (suc k) (omega arith)))
+module _ (f : Format) (frame : List ℕ) (k : known f ≡ true) (n : length frame ≡ size f) where
+  abbrev again : List ℕ
+  again = putIn 100 (decode (codeRuns f) frame)
 
-pub clean-offended : (f : Format) (frame : List ℕ) → length frame ≡ size f → size f ≤ 100 → Clean (size f) (filler f) (codeRuns f) frame → offendedOf (shape f) frame ≡ Nothing
-clean-offended f frame n small c =
-    nothing-from 0 (shape f) frame (omega (arith, length-shape f))
-    (λ i l.
-    let s = getD frame i 0 in
-    let fits = c i (omega arith) in
-    (shape-agrees f i s (omega arith) ∙ fits-agree (size f) (filler f) (codeRuns f) i s fits, shape-fits f i s (omega arith) ∙ fits))
+  -- all elements below i fit
+  abbrev FitBelow : ℕ → Type 0
+  FitBelow i = (j : ℕ) → j < i → elementFits (filler f) (codeRuns f) j (getD frame j 0) ≡ true
+
+  fit-more : (i : ℕ) → FitBelow i → elementFits (filler f) (codeRuns f) i (getD frame i 0) ≡ true → FitBelow (suc i)
+  fit-more i h e j l = by-test (ltb j i) (λ y. h j (ltb-true j i y)) (λ m. let last : j ≡ i = omega (arith, ltb-false j i m) in rw last e)
+
+  -- the frame up to i, and zeros and fillers behind
+  abbrev cutAt : ℕ → ℕ → ℕ
+  cutAt i j = cond (ltb j i) (getD frame j 0) (cond (covered (codeRuns f) j) 0 (filler f j))
+
+  abbrev cut : ℕ → List ℕ
+  cut i = tabulate (size f) 0 (cutAt i)
+
+  cut-at : (i j : ℕ) → j < size f → getD (cut i) j 0 ≡ cutAt i j
+  cut-at i j l = getD-tabulate (size f) 0 (cutAt i) 0 j l ∙ ap (cutAt i) (zero-add j)
+
+  cut-clean : (i : ℕ) → FitBelow i → Clean (size f) (filler f) (codeRuns f) (cut i)
+  unfolding elementFits
+  cut-clean i h j l =
+      rw (cut-at i j l)
+      (by-test (ltb j i)
+      (λ y. rw y (h j (ltb-true j i y)))
+      (λ z. rw z (by-test (covered (codeRuns f) j) (λ y. rw y) (λ m. rw (m, eq-eqb (filler f j) (filler f j) refl)))))
+
+  cut-again : (i : ℕ) → FitBelow i → (j : ℕ) → j < size f → getD (putIn 100 (decode (codeRuns f) (cut i))) j 0 ≡ cutAt i j
+  cut-again i h j l =
+      let rs = codeRuns f in
+      let clean = cut-clean i h in
+      let small = small-decoded (cut i) rs (clean-bits (size f) (filler f) rs (cut i) (code-proper f k) clean) in
+      ap (λ (ss : List ℕ). getD ss j 0) (put-right f k (decode rs (cut i)) small 100 (omega arith))
+      ∙ getD-encode 100 (filler f) rs (decode rs (cut i)) j (omega (arith, size-range f))
+      ∙ sym (getD-encode (size f) (filler f) rs (decode rs (cut i)) j l)
+      ∙ ap (λ (ss : List ℕ). getD ss j 0) (encode-decode (size f) (filler f) rs (cut i) (code-proper f k) (length-tabulate (size f) 0 (cutAt i)) clean)
+      ∙ cut-at i j l
+
+  cut-same : (i j : ℕ) → j < i → j < size f → getD frame j 0 ≡ getD (cut i) j 0
+  cut-same i j l b = sym (cut-at i j b ∙ rw (lt-ltb j i l))
+
+  pub again-below : (i : ℕ) → FitBelow i → (j : ℕ) → j < i → j < size f → getD again j 0 ≡ getD frame j 0
+  again-below i h j l b =
+      put-low f 100 i frame (cut i) (λ m a y. cut-same i m a (covered-inside (size f) (filler f) (codeRuns f) (code-proper f k) m y .0)) j l (omega (arith, size-range f))
+      ∙ cut-again i h j b
+      ∙ rw (lt-ltb j i l)
+
+  again-free : (i : ℕ) → FitBelow i → i < size f → covered (codeRuns f) i ≡ false → getD again i 0 ≡ filler f i
+  again-free i h b m =
+      put-low f 100 (suc i) frame (cut i)
+      (λ j a y.
+      by-test (ltb j i)
+      (λ z. cut-same i j (ltb-true j i z) (covered-inside (size f) (filler f) (codeRuns f) (code-proper f k) j y .0))
+      (λ z. let last : j ≡ i = omega (arith, ltb-false j i z) in let none : covered (codeRuns f) j ≡ false = rw last m in clash y none))
+      i (omega arith) (omega (arith, size-range f))
+      ∙ cut-again i h i b
+      ∙ rw (le-ltb i i (omega arith), m)
+
+  again-covered : (i : ℕ) → covered (codeRuns f) i ≡ true → getD again i 0 < 2
+  unfolding filler
+  again-covered i y =
+      let inside = covered-inside (size f) (filler f) (codeRuns f) (code-proper f k) i y in
+      put-binary 100 (decode (codeRuns f) frame) i (omega (arith, inside .0, size-range f))
+      (by-test (isMark i) (λ z. clash {b = true} refl (rw z at (inside .1))) (λ m. m))
+
+  fits-where-same : (i : ℕ) → FitBelow i → i < size f → getD frame i 0 ≡ getD again i 0 → elementFits (filler f) (codeRuns f) i (getD frame i 0) ≡ true
+  unfolding elementFits
+  fits-where-same i h b e =
+      by-test (covered (codeRuns f) i)
+      (λ y. rw y (lt-ltb (getD frame i 0) 2 (rw e (again-covered i y))))
+      (λ m. rw m (eq-eqb (getD frame i 0) (filler f i) (e ∙ again-free i h b m)))
+
+  fits-not-else : (i : ℕ) → FitBelow i → i < size f → (getD frame i 0 ≡ getD again i 0 → ⊥) → elementFits (filler f) (codeRuns f) i (getD frame i 0) ≡ false
+  fits-not-else i h b o = by-test (elementFits (filler f) (codeRuns f) i (getD frame i 0)) (λ y. absurd (o (sym (again-below (suc i) (fit-more i h y) i (omega arith) b)))) (λ m. m)
+
+  marks-beside : (i : ℕ) → FitBelow i → i < size f → marksAgree (filler f) (codeRuns f) i (getD frame i 0) ≡ cond (eqb (getD again i 0) 2) (eqb (getD frame i 0) 2) (not (eqb (getD frame i 0) 2))
+  unfolding marksAgree
+  marks-beside i h b =
+      by-test (covered (codeRuns f) i)
+      (λ y. rw (y, ne-eqb (getD again i 0) 2 (λ q. omega (arith, again-covered i y))))
+      (λ m. rw (m, again-free i h b m))
+
+  -- ---- what the search finds is what the definition refuses
+
+  refused-at : (i : ℕ) → FitBelow i → i < size f → (getD frame i 0 ≡ getD again i 0 → ⊥) → (ss : List ℕ) (a : Reading)
+      → checkElements (filler f) (codeRuns f) i (getD frame i 0 ∷ ss) a ≡ refusedOr (offenceAt (getD again i 0) (getD frame i 0) i) a
+  unfolding checkElements offenceAt
+  refused-at i h b o ss a =
+      rw (marks-beside i h b, fits-not-else i h b o)
+      (by-test (eqb (getD again i 0) 2)
+      (λ y. rw (y, ne-eqb (getD frame i 0) 2 (λ q. o (q ∙ sym (eqb-true (getD again i 0) 2 y)))))
+      (λ m. by-test (eqb (getD frame i 0) 2) (λ y. rw (m, y)) (λ z. rw (m, z))))
+
+  found-from : (left i : ℕ) → i + left ≡ size f → FitBelow i → (a : Reading) → checkElements (filler f) (codeRuns f) i (drop i frame) a ≡ refusedOr (offendedFrom i (drop i again) (drop i frame)) a
+  unfolding checkElements offendedFrom
+  found-from zero i e h a = rw (drop-of-length-le frame {i = i} (omega arith))
+  found-from (suc left) i e h a =
+      let b : i < size f = omega arith in
+      let long = length-put 100 (decode (codeRuns f) frame) in
+      let range = size-range f in
+      rw (drop-cons frame i 0 (omega arith), drop-cons again i 0 (omega arith))
+      (by-test (eqb (getD frame i 0) (getD again i 0))
+      (λ y.
+      let fits = fits-where-same i h b (eqb-true (getD frame i 0) (getD again i 0) y) in
+      rw (y, fits-agree (size f) (filler f) (codeRuns f) i (getD frame i 0) fits, fits) (found-from left (suc i) (omega arith) (fit-more i h fits) a))
+      (λ z. rw z (refused-at i h b (eqb-false (getD frame i 0) (getD again i 0) z) (drop (suc i) frame) a)))
+
+  pub offended-refuses : (a : Reading) → checkElements (filler f) (runs f) 0 frame a ≡ refusedOr (offendedOf again frame) a
+  offended-refuses a = sym (code-elements f 0 frame a) ∙ found-from (size f) 0 (zero-add (size f)) (λ j l. absurd (not-suc-le-zero l)) a
+
+  -- ---- where the search finds nothing, the frame is clean
+
+  clean-from : (left i : ℕ) → i + left ≡ size f → FitBelow i → offendedFrom i (drop i again) (drop i frame) ≡ Nothing → FitBelow (size f)
+  unfolding offendedFrom
+  clean-from zero i e h q = let all : i ≡ size f = omega arith in λ j l. h j (omega arith)
+  clean-from (suc left) i e h q =
+      let b : i < size f = omega arith in
+      let long = length-put 100 (decode (codeRuns f) frame) in
+      let range = size-range f in
+      let here : cond (eqb (getD frame i 0) (getD again i 0)) (offendedFrom (suc i) (drop (suc i) again) (drop (suc i) frame)) (offenceAt (getD again i 0) (getD frame i 0) i) ≡ Nothing =
+      rw (drop-cons frame i 0 (omega arith), drop-cons again i 0 (omega arith)) at q in
+      by-test (eqb (getD frame i 0) (getD again i 0))
+      (λ y. clean-from left (suc i) (omega arith) (fit-more i h (fits-where-same i h b (eqb-true (getD frame i 0) (getD again i 0) y))) (rw y at here))
+      (λ z. absurd (offence-some (getD again i 0) (getD frame i 0) i (rw z at here)))
+
+  pub offended-clean : offendedOf again frame ≡ Nothing → Clean (size f) (filler f) (codeRuns f) frame
+  offended-clean q = clean-from (size f) 0 (zero-add (size f)) (λ j l. absurd (not-suc-le-zero l)) q

@@ -1,6 +1,6 @@
 // Write and Read: frames of all formats, each call equal to its definition for every input.
-// Write splits the time into digits once; the elements come from the digits alone. Read writes the digits that it finds again
-// and compares; only a frame that differs is searched for what offends.
+// A call looks up the format's row once. Write splits the time into digits once; the elements come from the digits alone. Read
+// writes the digits that it finds again and compares: the lowest index where the two differ is the lowest that offends.
 ghost use mathlib.Core.Path.{_≡_};
 ghost use mathlib.Core.Bool.{true, _&&_};
 ghost use mathlib.Core.List.{List};
@@ -8,24 +8,23 @@ ghost use Prim.Native.Nat.{ℕ, _≤_, _<_};
 ghost use lib.ListN.{getD, length};
 ghost use Rattle.timecode.specs.Formats.{known, size};
 ghost use Rattle.timecode.specs.Frames.{written, writeOf, writeLeaves, areSymbols, readOf, Valid};
-ghost use Rattle.timecode.specs.Layout.{filler, encode, decode};
-ghost use Rattle.layout.specs.Tables.{widthsOf};
-ghost use Rattle.layout.specs.Runs.{codeRuns};
-ghost use Rattle.digits.specs.Splitting.{Widths};
-ghost use Rattle.frame.specs.Offences.{greatestDigits, shape, agreesWith, fitsIn, offendedOf, offenceIn};
-use clock::on_format;
-use clock::second_carried;
+ghost use Rattle.timecode.specs.declared.Format.{Format};
+ghost use Rattle.layout.specs.Tables.{RowOf, IsRow};
+ghost use Rattle.elements.specs.Tens.{IsFrame};
+ghost use Rattle.frame.specs.Offences.{offenceAt, offendedOf, offenceIn};
+ghost use Rattle.frame.specs.Exits.{FrameOf};
+use clock::lies_on;
+use clock::second_allowed;
 use digits::control_fits;
 use digits::digits_of;
 use digits::meaning;
 use elements::digits_in;
 use elements::put_digits;
-use layout::frame_size;
-use layout::is_known;
-use layout::run_widths;
+use layout::Row;
+use layout::row_of;
+use layout::takes;
 use timecode::Format;
 use timecode::MARK;
-use timecode::ONE;
 use timecode::Reading;
 use timecode::Refusal;
 use timecode::SPOILED;
@@ -38,46 +37,49 @@ enum Offence {
     At(Refusal),
 }
 
-// Write's checks, for a frame of that many bytes.
-fn check_write(format: Format, time: Time, control: u64, bytes: usize) -> Written
-    ensures { λ r. ⌜ ((lent : List ℕ) → bytes ≡ length lent → r ≡ writeOf format time control lent) ⌝ }
+// Write's checks by the format's row, for a frame of that many bytes.
+fn check_write(row: Row, expression: u8, time: Time, control: u64, bytes: usize) -> Written
+    requires { ⌜ IsRow row ⌝ }
+    ensures { λ r. ⌜ ((f : Format) (lent : List ℕ) → RowOf f row → f .expression ≡ expression → bytes ≡ length lent → r ≡ writeOf f time control lent) ⌝ }
 {
-    if is_known(format) {
-        if on_format(format, time) {
-            if second_carried(format, time) {
-                let widths = run_widths(format);
-                if control_fits(format, &widths, control) {
-                    if bytes == frame_size(format) {
-                        return Written::Done;
-                    }
-                    return Written::Refused(Refusal::WrongLength);
-                }
-                return Written::Refused(Refusal::ControlTooLong);
-            }
-            return Written::Refused(Refusal::SecondNotCarried);
-        }
+    if !takes(row, expression) {
+        return Written::Refused(Refusal::UnknownFormat);
+    }
+    if !lies_on(row.interval, time) {
         return Written::Refused(Refusal::InvalidTime);
     }
-    Written::Refused(Refusal::UnknownFormat)
+    if !second_allowed(row.leap, time) {
+        return Written::Refused(Refusal::SecondNotCarried);
+    }
+    let widths = row.widths;
+    if !control_fits(&widths, control) {
+        return Written::Refused(Refusal::ControlTooLong);
+    }
+    if bytes != row.elements {
+        return Written::Refused(Refusal::WrongLength);
+    }
+    Written::Done
 }
 
-fn put_frame(format: Format, time: Time, control: u64, frame: &mut [u8])
-    requires { ⌜ Valid format time control × (length (now frame) ≡ size format) ⌝ }
-    ensures { λ _. ⌜ now (frame .exit) ≡ written format time control ⌝ }
+fn put_frame(row: Row, time: Time, control: u64, frame: &mut [u8])
+    requires { ⌜ IsRow row × IsFrame (length (now frame)) ⌝ }
+    ensures { λ _. ⌜ ((f : Format) → RowOf f row → Valid f time control → length (now (frame .entry)) ≡ size f → now (frame .exit) ≡ written f time control) ⌝ }
 {
-    let widths = run_widths(format);
-    let digits = digits_of(format, &widths, time, control);
-    put_digits(format, &digits, frame);
+    let widths = row.widths;
+    let digits = digits_of(&widths, time, control);
+    let starts = row.starts;
+    put_digits(&starts, &digits, frame);
 }
 
 // Writes a time and a control word; every byte is set, or, where it refuses, none.
 pub fn write(format: Format, time: Time, control: u64, frame: &mut [u8]) -> Written
     ensures { λ r. ⌜ (r ≡ writeOf format time control (now (frame .entry))) × (now (frame .exit) ≡ writeLeaves format time control (now (frame .entry))) ⌝ }
 {
-    let answer = check_write(format, time, control, frame.len());
+    let row = row_of(format);
+    let answer = check_write(row, format.expression, time, control, frame.len());
     match answer {
         Written::Done => {
-            put_frame(format, time, control, frame);
+            put_frame(row, time, control, frame);
             Written::Done
         }
         Written::Refused(refusal) => Written::Refused(refusal),
@@ -106,119 +108,76 @@ fn are_symbols(frame: &[u8]) -> bool
     all
 }
 
-// The symbol is a mark exactly where the format's shape has one.
-fn marks_agree(form: u8, symbol: u8) -> bool
-    ensures { λ r. ⌜ r ≡ agreesWith form symbol ⌝ }
+// What offends at an index where the frame and the one written again differ: 5 where either has a mark there, else 6.
+fn offence_at(again: u8, symbol: u8, index: usize) -> Offence
+    ensures { λ r. ⌜ r ≡ offenceAt again symbol index ⌝ }
 {
-    if form == MARK {
-        return symbol == MARK;
+    if again == MARK {
+        return Offence::At(Refusal::MisplacedMark(index));
     }
-    symbol != MARK
+    if symbol == MARK {
+        return Offence::At(Refusal::MisplacedMark(index));
+    }
+    Offence::At(Refusal::InvalidElement(index))
 }
 
-// The symbol fits where the format's shape has this one.
-fn element_fits(form: u8, symbol: u8) -> bool
-    ensures { λ r. ⌜ r ≡ fitsIn form symbol ⌝ }
-{
-    if form == ONE {
-        return symbol < MARK;
-    }
-    symbol == form
-}
-
-// The lowest index that offends, by the format's shape.
-fn lowest_offence(form: &[u8], frame: &[u8]) -> Offence
-    requires { ⌜ length (now frame) ≤ length (now form) ⌝ }
-    ensures { λ r. ⌜ r ≡ offendedOf (now (form .entry)) (now (frame .entry)) ⌝ }
+// What offends at the lowest index where the two differ.
+fn lowest_offence(again: &[u8], frame: &[u8]) -> Offence
+    requires { ⌜ length (now frame) ≤ length (now again) ⌝ }
+    ensures { λ r. ⌜ r ≡ offendedOf (now (again .entry)) (now (frame .entry)) ⌝ }
 {
     let mut index = 0;
     while index < frame.len() {
-        if !marks_agree(form[index], frame[index]) {
-            return Offence::At(Refusal::MisplacedMark(index));
-        }
-        if !element_fits(form[index], frame[index]) {
-            return Offence::At(Refusal::InvalidElement(index));
+        if frame[index] != again[index] {
+            return offence_at(again[index], frame[index], index);
         }
         index += 1;
     }
     Offence::Nothing
 }
 
-// The greatest digit of each run.
-fn greatest_digits(widths: &[u8]) -> [u64; 18]
-    requires { ⌜ Widths (now widths) ⌝ }
-    ensures { λ r. ⌜ ((f : Format) → now (widths .entry) ≡ widthsOf f → r ≡ greatestDigits (codeRuns f)) ⌝ }
-{
-    let mut digits = [0u64; 18];
-    let mut j = 0;
-    while j < 18 {
-        digits[j] = (1 << widths[j]) - 1;
-        j += 1;
-    }
-    digits
-}
-
-// The format's shape: 1 where a digit or bit stands, 2 at a mark, 0 at an index marker.
-fn shape_of(format: Format, widths: &[u8]) -> [u8; 100]
-    requires { ⌜ (known format ≡ true) × (now widths ≡ widthsOf format) ⌝ }
-    ensures { λ r. ⌜ r ≡ shape format ⌝ }
-{
-    let digits = greatest_digits(widths);
-    let mut form = [0u8; 100];
-    put_digits(format, &digits, &mut form);
-    form
-}
-
-// The two agree as far as the frame goes. It promises nothing of a false answer: see is_written.
-fn agree(form: &[u8], frame: &[u8]) -> bool
-    requires { ⌜ length (now frame) ≤ length (now form) ⌝ }
-    ensures { λ r. ⌜ (r ≡ true → (k : ℕ) → k < length (now (frame .entry)) → getD (now (frame .entry)) k 0 ≡ getD (now (form .entry)) k 0) ⌝ }
+// The two agree as far as the frame goes. It promises nothing of a false answer: the frame is then looked through
+// element by element, with the same reading in the end, only later.
+fn agree(again: &[u8], frame: &[u8]) -> bool
+    requires { ⌜ length (now frame) ≤ length (now again) ⌝ }
+    ensures { λ r. ⌜ (r ≡ true → (k : ℕ) → k < length (now (frame .entry)) → getD (now (frame .entry)) k 0 ≡ getD (now (again .entry)) k 0) ⌝ }
 {
     let mut same = true;
     let mut i = 0;
     while i < frame.len() {
-        same = both(same, frame[i] == form[i]);
+        same = both(same, frame[i] == again[i]);
         i += 1;
     }
     same
 }
 
-// The frame is the one in which its digits stand. It promises nothing of a false answer: the frame is then looked through
-// element by element, with the same reading in the end, only later.
-fn is_written(format: Format, digits: &[u64], frame: &[u8]) -> bool
-    requires { ⌜ (known format ≡ true) × (length (now frame) ≡ size format) × (now digits ≡ decode (codeRuns format) (now frame)) ⌝ }
-    ensures { λ r. ⌜ (r ≡ true → now (frame .entry) ≡ encode (size format) (filler format) (codeRuns format) (decode (codeRuns format) (now (frame .entry)))) ⌝ }
+// What offends in the frame, beside the one written again from its digits: a symbol above 3, or the lowest index where they differ.
+fn offence_in(again: &[u8], frame: &[u8]) -> Offence
+    requires { ⌜ (length (now frame) ≤ length (now again)) × ((k : ℕ) → k < length (now frame) → getD (now again) k 0 ≤ 3) ⌝ }
+    ensures { λ r. ⌜ r ≡ offenceIn (now (again .entry)) (now (frame .entry)) ⌝ }
 {
-    let mut form = [0u8; 100];
-    put_digits(format, digits, &mut form);
-    agree(&form, frame)
-}
-
-// What offends in the frame: a symbol above 3, or the element of the lowest index that offends.
-fn offence_in(format: Format, widths: &[u8], digits: &[u64], frame: &[u8]) -> Offence
-    requires { ⌜ (known format ≡ true) × (length (now frame) ≡ size format) × (now widths ≡ widthsOf format) × (now digits ≡ decode (codeRuns format) (now frame)) ⌝ }
-    ensures { λ r. ⌜ r ≡ offenceIn format (now (frame .entry)) ⌝ }
-{
-    if is_written(format, digits, frame) {
+    if agree(again, frame) {
         return Offence::Nothing;
     }
     if are_symbols(frame) {
-        let form = shape_of(format, widths);
-        return lowest_offence(&form, frame);
+        return lowest_offence(again, frame);
     }
     Offence::At(Refusal::UnknownSymbol)
 }
 
-fn read_frame(format: Format, frame: &[u8]) -> Reading
-    requires { ⌜ (known format ≡ true) × (length (now frame) ≡ size format) ⌝ }
-    ensures { λ r. ⌜ r ≡ readOf format (now (frame .entry)) ⌝ }
+fn read_frame(row: Row, frame: &[u8]) -> Reading
+    requires { ⌜ FrameOf row (now frame) ⌝ }
+    ensures { λ r. ⌜ ((f : Format) → known f ≡ true → RowOf f row → length (now (frame .entry)) ≡ size f → r ≡ readOf f (now (frame .entry))) ⌝ }
 {
-    let widths = run_widths(format);
-    let digits = digits_in(format, &widths, frame);
-    let offence = offence_in(format, &widths, &digits, frame);
+    let starts = row.starts;
+    let widths = row.widths;
+    let digits = digits_in(&starts, &widths, frame);
+    let mut again = [0u8; 100];
+    put_digits(&starts, &digits, &mut again);
+    let offence = offence_in(&again, frame);
     match offence {
         Offence::At(refusal) => Reading::Refused(refusal),
-        Offence::Nothing => meaning(format, &widths, &digits),
+        Offence::Nothing => meaning(row.leap, &widths, &digits),
     }
 }
 
@@ -226,9 +185,10 @@ fn read_frame(format: Format, frame: &[u8]) -> Reading
 pub fn read(format: Format, frame: &[u8]) -> Reading
     ensures { λ r. ⌜ r ≡ readOf format (now (frame .entry)) ⌝ }
 {
-    if is_known(format) {
-        if frame.len() == frame_size(format) {
-            return read_frame(format, frame);
+    let row = row_of(format);
+    if takes(row, format.expression) {
+        if frame.len() == row.elements {
+            return read_frame(row, frame);
         }
         return Reading::Refused(Refusal::WrongLength);
     }

@@ -1,17 +1,17 @@
 -- The rows of the six letters are the table's by computation. Here is what computation leaves: expressions in a row, other letters, and what each expression carries.
 use mathlib.Core.Path.{_≡_, refl, sym}
-use mathlib.Core.Bool.{_&&_}
-use mathlib.Core.List.{List, [], _∷_}
+use mathlib.Core.Bool.{false, _&&_}
+use mathlib.Core.List.{[], _∷_}
 use Prim.Native.Nat.{ℕ, zero, suc, _+_}
 use native.Mathlib.Omega.{arith}
 use borrow.Author.Tests.{eqb-true, eqb-false, ne-eqb, leb-true, leb-false, le-leb, lt-leb}
 use lib.Dec.{leb, eqb}
-use lib.ListN.{set}
-use Rattle.timecode.specs.Formats.{member, A, B, D, E, G, H, table, noRow, lookUp, rowOf, carriesControl, carriesSeconds}
+use Rattle.timecode.specs.Formats.{member, carriesLeap, A, B, D, E, G, H, table, noRow, lookUp, rowOf, carriesControl, carriesSeconds}
 use Rattle.timecode.specs.Laws.Tests.{by-test}
 use Rattle.timecode.specs.Layout.{tabulate, seconds, minutes, hours, days, tenths, hundredthsDigit, hasSeconds, straightSeconds, timeFields}
+use Rattle.timecode.specs.declared.Format.{Format}
 use Rattle.layout.specs.Runs.{codeRange, codeControl, codeFields, codeRuns}
-use Rattle.layout.specs.Tables.{widthsOf, with-letter}
+use Rattle.layout.specs.Tables.{startsOf, widthsOf, with-letter, runStarts, clearSeconds, clearControl, carriedIn}
 
 -- e is one of the n numbers from a on, of which last is the last
 pub in-row : (n a last : ℕ) → a + n ≡ suc last → (e : ℕ) → member e (tabulate n a (λ (j : ℕ). j)) ≡ (leb a e && leb e last)
@@ -66,12 +66,6 @@ other-widths l o =
 
 -- ---- what each expression carries, from what expression 0 does
 
-abbrev pub clearSeconds : List ℕ → List ℕ
-clearSeconds ws = set (set ws 11 0) 12 0
-
-abbrev pub clearControl : List ℕ → List ℕ
-clearControl ws = set (set (set (set (set ws 13 0) 14 0) 15 0) 16 0) 17 0
-
 module _ (l : ℕ) where
   pub widths-1 : clearSeconds (widthsOf (with-letter l 0)) ≡ widthsOf (with-letter l 1)
   unfolding widthsOf codeRuns codeFields timeFields seconds minutes hours days tenths hundredthsDigit straightSeconds hasSeconds carriesSeconds codeControl codeRange carriesControl rowOf
@@ -84,3 +78,28 @@ module _ (l : ℕ) where
   pub widths-other : (e : ℕ) → (e ≡ 0 → ⊥) → (e ≡ 1 → ⊥) → (e ≡ 3 → ⊥) → clearControl (clearSeconds (widthsOf (with-letter l 0))) ≡ widthsOf (with-letter l e)
   unfolding widthsOf codeRuns codeFields timeFields seconds minutes hours days tenths hundredthsDigit straightSeconds hasSeconds carriesSeconds codeControl codeRange carriesControl rowOf
   widths-other e a b c = rw (ne-eqb e 0 a, ne-eqb e 1 b, ne-eqb e 3 c)
+
+  pub carried-widths : (e : ℕ) → carriedIn e (widthsOf (with-letter l 0)) ≡ widthsOf (with-letter l e)
+  unfolding carriedIn
+  carried-widths e =
+      by-test (eqb e 0)
+      (λ y. rw (y, eqb-true e 0 y))
+      (λ a.
+      rw a
+      (by-test (eqb e 1)
+      (λ y. rw (y, eqb-true e 1 y) widths-1)
+      (λ b.
+      rw b
+      (by-test (eqb e 3)
+      (λ y. rw (y, eqb-true e 3 y) widths-3)
+      (λ d. rw d (widths-other e (eqb-false e 0 a) (eqb-false e 1 b) (eqb-false e 3 d)))))))
+
+-- a letter that is none of the six carries no leap second
+pub other-leap : (l e : ℕ) → Other l → carriesLeap (with-letter l e) ≡ false
+unfolding carriesLeap
+other-leap l e o = rw (ne-eqb l A (o .not-a), ne-eqb l B (o .not-b), ne-eqb l G (o .not-g))
+
+-- the runs start where the layout says, in every format
+pub same-starts : (f : Format) → startsOf f ≡ runStarts
+unfolding startsOf codeRuns codeFields timeFields seconds minutes hours days tenths hundredthsDigit straightSeconds codeControl codeRange
+same-starts f = refl

@@ -1,10 +1,11 @@
 -- What the code's tables promise: for each letter what document 01's table and layout say.
 use mathlib.Core.Path.{_≡_}
-use mathlib.Core.Bool.{_&&_}
+use mathlib.Core.Bool.{cond, _&&_}
 use mathlib.Core.List.{List, [], _∷_, map}
 use Prim.Native.Nat.{ℕ}
-use lib.Dec.{leb}
-use Rattle.timecode.specs.Formats.{known, size, interval}
+use lib.Dec.{leb, eqb}
+use lib.ListN.{set}
+use Rattle.timecode.specs.Formats.{known, size, interval, carriesLeap}
 use Rattle.timecode.specs.Layout.{Run}
 use Rattle.timecode.specs.declared.Format.{Format}
 use Rattle.layout.specs.Runs.{codeRuns}
@@ -14,6 +15,10 @@ use Rattle.layout.specs.declared.Row.{Row}
 abbrev pub markPlaces : List ℕ
 markPlaces = 0 ∷ 9 ∷ 19 ∷ 29 ∷ 39 ∷ 49 ∷ 59 ∷ 69 ∷ 79 ∷ 89 ∷ 99 ∷ []
 
+-- where the runs start, in every format
+abbrev pub runStarts : List ℕ
+runStarts = 1 ∷ 6 ∷ 10 ∷ 15 ∷ 20 ∷ 25 ∷ 30 ∷ 35 ∷ 40 ∷ 45 ∷ 50 ∷ 80 ∷ 90 ∷ 50 ∷ 60 ∷ 70 ∷ 80 ∷ 90 ∷ []
+
 -- where the runs of a format start, and how wide they are
 unfoldable pub startsOf : Format → List ℕ
 startsOf f = map (λ (r : Run). r .start) (codeRuns f)
@@ -21,12 +26,38 @@ startsOf f = map (λ (r : Run). r .start) (codeRuns f)
 unfoldable pub widthsOf : Format → List ℕ
 widthsOf f = map (λ (r : Run). r .width) (codeRuns f)
 
+-- widths without straight binary seconds, and without control bits
+abbrev pub clearSeconds : List ℕ → List ℕ
+clearSeconds ws = set (set ws 11 0) 12 0
+
+abbrev pub clearControl : List ℕ → List ℕ
+clearControl ws = set (set (set (set (set ws 13 0) 14 0) 15 0) 16 0) 17 0
+
+-- what of a letter's widths an expression carries. 0 = BCD, CF, SBS; 1 = BCD, CF; 2 = BCD; 3 = BCD, SBS
+unfoldable pub carriedIn : ℕ → List ℕ → List ℕ
+carriedIn e ws = cond (eqb e 0) ws (cond (eqb e 1) (clearSeconds ws) (cond (eqb e 3) (clearControl ws) (clearControl (clearSeconds ws))))
+
 abbrev pub with-letter : ℕ → ℕ → Format
 with-letter l e = record { letter = l; expression = e }
 
--- the row of a letter says what document 01's table says of it
+-- the row of a letter says what document 01's table and layout say of it; its widths are those of expression 0
 pub record RowFor (l : ℕ) (r : Row) : Type 0 where
   pub elements-are : (e : ℕ) → size (with-letter l e) ≡ r .elements
   pub interval-is : (e : ℕ) → interval (with-letter l e) ≡ r .interval
   pub expressions-are : (e : ℕ) → known (with-letter l e) ≡ (leb (r .first) e && leb e (r .last))
+  pub leap-is : (e : ℕ) → carriesLeap (with-letter l e) ≡ r .leap
+  pub starts-are : r .starts ≡ runStarts
   pub widths-are : widthsOf (with-letter l 0) ≡ r .widths
+
+-- the row of a format
+pub record RowOf (f : Format) (r : Row) : Type 0 where
+  pub elements-are : r .elements ≡ size f
+  pub interval-is : r .interval ≡ interval f
+  pub known-is : (leb (r .first) (f .expression) && leb (f .expression) (r .last)) ≡ known f
+  pub leap-is : r .leap ≡ carriesLeap f
+  pub starts-are : r .starts ≡ runStarts
+  pub widths-are : r .widths ≡ widthsOf f
+
+-- the row of some format
+abbrev pub IsRow : Row → Type 0
+IsRow r = (f : Format) × RowOf f r

@@ -1,20 +1,23 @@
-// The layout as constant tables, a row for each of the letters A, B, D, E, G, H, read by writer and reader alike.
+// The layout as constant rows, one for each of the letters A, B, D, E, G, H, lent to writer and reader alike.
 // Each function gives what document 01's table gives, for every format; a letter that is none of the six has a row of its own.
 ghost use mathlib.Core.Path.{_≡_};
+ghost use mathlib.Core.Bool.{_&&_};
 ghost use Prim.Native.Nat.{_≤_};
+ghost use lib.Dec.{leb};
 ghost use lib.ListN.{set};
 ghost use Rattle.timecode.specs.Formats.{known, size, interval, carriesLeap};
-ghost use Rattle.timecode.specs.declared.Format.{Format};
-ghost use Rattle.layout.specs.Tables.{RowFor, startsOf, widthsOf, markPlaces};
+ghost use Rattle.layout.specs.Tables.{RowFor, RowOf, markPlaces, carriedIn};
 use timecode::Format;
 
-// A letter's row: n, S, the expressions that it takes (first to last), and how many elements each run has
-// in expression 0, which carries everything (0 where the letter does not carry the run).
-struct Row {
+// A row: n, S, the expressions that the letter takes (first to last), whether it carries the leap second, where each run of
+// elements starts, and how many elements it has (0 where it is not carried).
+pub struct Row {
     pub elements: usize,
     pub interval: u32,
     pub first: u8,
     pub last: u8,
+    pub leap: bool,
+    pub starts: [u8; 18],
     pub widths: [u8; 18],
 }
 
@@ -54,7 +57,9 @@ pub const CONTROL_4: usize = 16;
 
 pub const CONTROL_5: usize = 17;
 
-// The first index of each run, in that order.
+pub const RUNS: usize = 18;
+
+// Where the runs start, in that order: the same in every letter that carries them.
 const STARTS: [u8; 18] = [
     1,
     6,
@@ -76,7 +81,7 @@ const STARTS: [u8; 18] = [
     90,
 ];
 
-// Where marks stand in a frame of 100; a frame of 60 has the first seven.
+// Where marks stand in every row: in a frame of 100 all, in one of 60 the first seven.
 const MARKS: [u8; 11] = [0, 9, 19, 29, 39, 49, 59, 69, 79, 89, 99];
 
 const A: Row = Row {
@@ -84,6 +89,8 @@ const A: Row = Row {
     interval: 10,
     first: 0,
     last: 3,
+    leap: true,
+    starts: STARTS,
     widths: [4, 3, 4, 3, 4, 2, 4, 4, 2, 4, 0, 9, 8, 9, 9, 9, 0, 0],
 };
 
@@ -92,6 +99,8 @@ const B: Row = Row {
     interval: 100,
     first: 0,
     last: 3,
+    leap: true,
+    starts: STARTS,
     widths: [4, 3, 4, 3, 4, 2, 4, 4, 2, 0, 0, 9, 8, 9, 9, 9, 0, 0],
 };
 
@@ -100,6 +109,8 @@ const D: Row = Row {
     interval: 360_000,
     first: 1,
     last: 2,
+    leap: false,
+    starts: STARTS,
     widths: [0, 0, 0, 0, 4, 2, 4, 4, 2, 0, 0, 0, 0, 9, 0, 0, 0, 0],
 };
 
@@ -108,6 +119,8 @@ const E: Row = Row {
     interval: 1_000,
     first: 1,
     last: 2,
+    leap: false,
+    starts: STARTS,
     widths: [0, 3, 4, 3, 4, 2, 4, 4, 2, 0, 0, 0, 0, 9, 9, 9, 9, 9],
 };
 
@@ -116,6 +129,8 @@ const G: Row = Row {
     interval: 1,
     first: 1,
     last: 2,
+    leap: true,
+    starts: STARTS,
     widths: [4, 3, 4, 3, 4, 2, 4, 4, 2, 4, 4, 0, 0, 0, 9, 9, 9, 9],
 };
 
@@ -124,6 +139,8 @@ const H: Row = Row {
     interval: 6_000,
     first: 1,
     last: 2,
+    leap: false,
+    starts: STARTS,
     widths: [0, 0, 4, 3, 4, 2, 4, 4, 2, 0, 0, 0, 0, 9, 0, 0, 0, 0],
 };
 
@@ -133,10 +150,13 @@ const OTHER: Row = Row {
     interval: 1,
     first: 1,
     last: 0,
+    leap: false,
+    starts: STARTS,
     widths: [0, 0, 0, 0, 4, 2, 4, 4, 2, 0, 0, 0, 0, 0, 0, 0, 0, 0],
 };
 
-fn row_of(letter: u8) -> Row
+// A letter's row in expression 0, which carries everything.
+fn letter_row(letter: u8) -> Row
     ensures { λ r. ⌜ RowFor letter r ⌝ }
 {
     if letter == b'A' {
@@ -160,53 +180,47 @@ fn row_of(letter: u8) -> Row
     OTHER
 }
 
+// The row's letter takes the expression.
+pub fn takes(row: Row, expression: u8) -> bool
+    ensures { λ r. ⌜ r ≡ (leb (row .first) expression && leb expression (row .last)) ⌝ }
+{
+    if row.first <= expression {
+        return expression <= row.last;
+    }
+    false
+}
+
 pub fn is_known(format: Format) -> bool
     ensures { λ r. ⌜ r ≡ known format ⌝ }
 {
-    let row = row_of(format.letter);
-    if row.first <= format.expression {
-        return format.expression <= row.last;
-    }
-    false
+    takes(letter_row(format.letter), format.expression)
 }
 
 pub fn frame_size(format: Format) -> usize
     ensures { λ r. ⌜ (r ≡ size format) × (60 ≤ r) × (r ≤ 100) ⌝ }
 {
-    let row = row_of(format.letter);
+    let row = letter_row(format.letter);
     row.elements
 }
 
 pub fn frame_interval(format: Format) -> u32
     ensures { λ r. ⌜ (r ≡ interval format) × (1 ≤ r) × (r ≤ 360000) ⌝ }
 {
-    let row = row_of(format.letter);
+    let row = letter_row(format.letter);
     row.interval
 }
 
-// A, B and G carry an added or taken second.
 pub fn carries_leap(format: Format) -> bool
     ensures { λ r. ⌜ r ≡ carriesLeap format ⌝ }
 {
-    if format.letter == b'A' {
-        return true;
-    }
-    if format.letter == b'B' {
-        return true;
-    }
-    format.letter == b'G'
+    let row = letter_row(format.letter);
+    row.leap
 }
 
 pub fn mark_places() -> [u8; 11]
     ensures { λ r. ⌜ r ≡ markPlaces ⌝ }
 {
     MARKS
-}
-
-pub fn run_starts() -> [u8; 18]
-    ensures { λ r. ⌜ ((f : Format) → r ≡ startsOf f) ⌝ }
-{
-    STARTS
 }
 
 fn without_seconds(mut widths: [u8; 18]) -> [u8; 18]
@@ -228,13 +242,10 @@ fn without_control(mut widths: [u8; 18]) -> [u8; 18]
     widths
 }
 
-// How many elements each run has in the format. 0 = BCD, CF, SBS; 1 = BCD, CF; 2 = BCD; 3 = BCD, SBS.
-pub fn run_widths(format: Format) -> [u8; 18]
-    ensures { λ r. ⌜ r ≡ widthsOf format ⌝ }
+// What of a letter's widths an expression carries. 0 = BCD, CF, SBS; 1 = BCD, CF; 2 = BCD; 3 = BCD, SBS.
+fn widths_in(expression: u8, widths: [u8; 18]) -> [u8; 18]
+    ensures { λ r. ⌜ r ≡ carriedIn expression widths ⌝ }
 {
-    let row = row_of(format.letter);
-    let widths = row.widths;
-    let expression = format.expression;
     if expression == 0 {
         return widths;
     }
@@ -245,4 +256,15 @@ pub fn run_widths(format: Format) -> [u8; 18]
         return without_control(widths);
     }
     without_control(without_seconds(widths))
+}
+
+// The row of a format: its letter's, with what its expression carries.
+pub fn row_of(format: Format) -> Row
+    ensures { λ r. ⌜ RowOf format r ⌝ }
+{
+    let mut row = letter_row(format.letter);
+    let all = row.widths;
+    let widths = widths_in(format.expression, all);
+    row.widths = widths;
+    row
 }

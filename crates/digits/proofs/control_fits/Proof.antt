@@ -42,9 +42,8 @@ shr-result c = search needs
 returns : tie.Need-returns
 unfolding controlFits
 returns c =
-    let f = c .before .before .before .before .before .before .args .format in
+    λ f same.
     let w = c .before .before .before .before .before .before .args .control in
-    let same = c .before .before .before .before .before .before .pre .1 in
     let bits : totalWidth (control f) ≡ c .before .before .before .before .width .result + c .before .before .before .width2 .result + c .before .before .width3 .result + c .before .width4 .result + c .width5 .result =
     total-control f ∙ rw (← same, c .before .before .before .before .width .ensures .0, c .before .before .before .width2 .ensures .0, c .before .before .width3 .ensures .0, c .before .width4 .ensures .0, c .width5 .ensures .0) refl in
     fits-shift w (c .before .before .before .before .width .result + c .before .before .before .width2 .result + c .before .before .width3 .result + c .before .width4 .result + c .width5 .result) ∙ ap (λ (n : ℕ). ltb w (2 ^ n)) (sym bits)

@@ -41,13 +41,12 @@ returns : tie.Need-returns
 unfolding splitDigits
 returns c =
     let a = c .before .before .before .before .before .before .args in
-    let given = c .before .before .before .before .before .before .pre in
-    let f = a .format in
     let w = a .control in
-    let width : c .width .result ≡ getD (widthsOf f) 13 0 = c .width .ensures .0 ∙ ap (λ ws. getD ws 13 0) (given .1) in
-    split-digits f (a .time) w (c .before .carried .result) _ (given .2)
-    (c .before .carried .ensures ∙ ap (λ ws. cond (eqb (getD ws 11 0) 0) 0 (a .time .hundredths / 100)) (given .1))
-    (moved-fits f w (c .width .result) (subst Widths (given .1) (given .0)) (given .2 .room) (c .width .ensures .1) ∙ ap (λ n. w * 2 ^ (9 - n)) width)
+    λ f same valid.
+    let width : c .width .result ≡ getD (widthsOf f) 13 0 = c .width .ensures .0 ∙ ap (λ ws. getD ws 13 0) same in
+    split-digits f (a .time) w (c .before .carried .result) _ valid
+    (c .before .carried .ensures ∙ ap (λ ws. cond (eqb (getD ws 11 0) 0) 0 (a .time .hundredths / 100)) same)
+    (moved-fits f w (c .width .result) (subst Widths same (c .before .before .before .before .before .before .pre)) (valid .room) (c .width .ensures .1) ∙ ap (λ n. w * 2 ^ (9 - n)) width)
 
 pub digits-of-spec : {M : Type 1} → statement M
 digits-of-spec =

@@ -1,9 +1,10 @@
--- `seconds_agree` meets its contract: the run of straight binary seconds is 9 wide where they are carried.
+-- `seconds_agree` meets its contract: straight binary seconds are carried where their run has elements.
 use borrow.Author.Needs.{needs}
 use native.Mathlib.Omega.{arith}
-use mathlib.Core.Path.{ap, _∙_}
+use borrow.Author.Tests.{ne-eqb}
+use mathlib.Core.Path.{ap}
 use Prim.Native.Nat.{_+_, _*_, _/_}
-use Rattle.digits.specs.Meaning.{agreeOf, no-width, some-width}
+use Rattle.digits.specs.Meaning.{agreeOf}
 use lib.Dec.{eqb}
 use lib.ListN.{getD}
 use Rattle.timecode.specs.declared.Time.{Time}
@@ -15,10 +16,7 @@ width-requires c κs = search needs
 
 returns : tie.Need-returns
 unfolding agreeOf
-returns c =
-    let f = c .before .before .before .before .args .format in
-    let none = no-width f (c .before .width .result) (c .before .width .ensures .0 ∙ ap (λ ws. getD ws 11 0) (c .before .before .before .before .pre .1)) (c .if1 .taken) in
-    rw none
+returns c = rw (← c .before .width .ensures .0, c .if1 .taken)
 
 shared-slice-read-result : tie.Need-shared-slice-read-result
 shared-slice-read-result c = search needs
@@ -27,10 +25,10 @@ shared-slice-read-result-2 : tie.Need-shared-slice-read-result-2
 shared-slice-read-result-2 c = search needs
 
 mul-result : tie.Need-mul-result
-mul-result c = omega (arith, c .before .before .before .before .before .before .before .pre .2 .small 12)
+mul-result c = omega (arith, c .before .before .before .before .before .before .before .pre .1 .small 12)
 
 add-result : tie.Need-add-result
-add-result c = omega (arith, c .before .before .before .before .before .before .before .pre .2 .small 11, c .before .before .before .before .before .before .before .pre .2 .small 12)
+add-result c = omega (arith, c .before .before .before .before .before .before .before .pre .1 .small 11, c .before .before .before .before .before .before .before .pre .1 .small 12)
 
 cast-result : tie.Need-cast-result
 cast-result c = search needs
@@ -38,10 +36,8 @@ cast-result c = search needs
 returns-2 : tie.Need-returns-2
 unfolding agreeOf
 returns-2 c =
-    let f = c .before .before .before .before .before .before .before .args .format in
     let ds = c .before .before .before .before .before .before .before .args .digits .now in
-    let some = some-width f (c .before .before .before .before .width .result) (c .before .before .before .before .width .ensures .0 ∙ ap (λ ws. getD ws 11 0) (c .before .before .before .before .before .before .before .pre .1)) (c .before .before .before .if1 .left) in
-    rw some (ap (λ (t : Time). eqb (getD ds 11 0 + 512 * getD ds 12 0) (t .hundredths / 100)) (c .before .before .before .before .before .before .before .pre .3))
+    rw (← c .before .before .before .before .width .ensures .0, ne-eqb _ 0 (c .before .before .before .if1 .left)) (ap (λ (t : Time). eqb (getD ds 11 0 + 512 * getD ds 12 0) (t .hundredths / 100)) (c .before .before .before .before .before .before .before .pre .2))
 
 pub seconds-agree-spec : {M : Type 1} → statement M
 seconds-agree-spec =

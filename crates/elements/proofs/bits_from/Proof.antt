@@ -1,66 +1,55 @@
 -- `bits_from` meets its contract: the bits of the runs from j on. At most 18 numbers below 2^59 are added up.
-use borrow.Author.Needs.{needs}
-use mathlib.Core.Path.{_≡_, ap, ap₂, _∙_}
-use Prim.Native.Nat.{_+_, _*_, _-_, _≤_}
 use native.Mathlib.Omega.{arith}
-use lib.ListN.{getD, drop}
-use Rattle.timecode.specs.declared.Format.{Format}
-use Rattle.timecode.specs.Formats.{A}
-use Rattle.layout.specs.Tables.{startsOf, with-letter}
-use Rattle.elements.specs.RunBits.{placedAt, packed, packed-start, packed-turn}
-use Rattle.elements.specs.RunLoops.{length-starts}
+use mathlib.Core.Path.{_≡_, refl, ap, ap₂, _∙_}
+use Prim.Native.Nat.{_+_, _*_, _-_, _%_, _^_, _≤_}
+use lib.ListN.{getD, length}
+use Rattle.elements.specs.RunBits.{packedRuns, packed-start, packed-turn}
 use Rattle.elements.proofs.bits_from.Statement.{statement}
 use Rattle.elements.proofs.bits_from.Tie as tie
 
 abbrev Inv-loop : tie.InvT-loop
-Inv-loop digits from to starts bits₀ j₀ bits j = (j ≤ 18) × ((f : Format) → bits ≡ packed from to (drop j (startsOf f)) (drop j digits)) × (bits ≤ (18 - j) * 576460752303423488)
+Inv-loop starts digits first last from bits₀ j₀ bits j = (first ≤ j) × (j ≤ last) × (bits ≡ packedRuns from digits j (last - j)) × (bits ≤ (last - j) * 576460752303423488)
 
 abbrev μ-loop : tie.MeasureT-loop
-μ-loop digits from to starts bits₀ j₀ bits j = j
-
-run-starts-requires : tie.Need-run-starts-requires Inv-loop μ-loop
-run-starts-requires c κs = search needs
+μ-loop starts digits first last from bits₀ j₀ bits j = j
 
 loop-holds : tie.Need-loop-holds Inv-loop μ-loop
-loop-holds c = (omega arith, (λ f. packed-start (c .before .before .args .from) (c .before .before .args .to) (startsOf f) (c .before .before .args .digits .now) (length-starts f)), omega arith)
+loop-holds c = (c .before .before .pre .2, omega arith, packed-start (c .before .before .args .from) (c .before .before .args .digits .now) (c .before .before .args .last), omega arith)
 
 sub-j : tie.Need-sub-j Inv-loop μ-loop
 sub-j c = omega arith
 
-array-read-placed : tie.Need-array-read-placed Inv-loop μ-loop
-array-read-placed c = omega arith
+shared-slice-read-placed : tie.Need-shared-slice-read-placed Inv-loop μ-loop
+shared-slice-read-placed c = let n : length (c .before .before .before .before .before .args .starts .now) ≡ 18 = rw (c .before .before .before .before .before .pre .0) refl in omega arith
 
 mul-placed : tie.Need-mul-placed Inv-loop μ-loop
 mul-placed c = omega arith
 
-shared-slice-read-placed : tie.Need-shared-slice-read-placed Inv-loop μ-loop
-shared-slice-read-placed c = omega arith
+shared-slice-read-placed-2 : tie.Need-shared-slice-read-placed-2 Inv-loop μ-loop
+shared-slice-read-placed-2 c = omega arith
 
 placed-requires : tie.Need-placed-requires Inv-loop μ-loop
-placed-requires c κs =
-    let starts = c .before .before .before .run-starts .ensures (with-letter A 0) in
-    let j = c .before .before .loop .j in
-    λ h. rw starts (c .before .before .before .before .before .pre .1 (with-letter A 0) (j - 1) (rw starts at h))
+placed-requires c κs = rw (c .before .before .before .before .before .before .pre .0) (c .before .before .before .before .before .before .pre .4 (c .before .before .before .loop .j - 1) (omega arith) (omega arith))
 
 add-bits : tie.Need-add-bits Inv-loop μ-loop
-add-bits c = omega (arith, c .placed .ensures .1)
+add-bits c = omega (arith, c .placed .ensures .1, c .before .before .before .before .loop .inv .3)
 
 loop-less : tie.Need-loop-less Inv-loop μ-loop
 loop-less c = omega arith
 
 loop-again : tie.Need-loop-again Inv-loop μ-loop
 loop-again c =
-    let a = c .before .before .before .before .before .before .args in
-    let j = c .before .before .before .loop .j in (
+    let a = c .before .before .before .before .before .before .before .args in
+    let j = c .before .before .before .before .loop .j in (
       omega arith,
-      λ f.
-          ap₂ (λ x y. x + y) (c .before .before .before .loop .inv .1 f) (c .placed .ensures .0 ∙ ap (λ ss. placedAt (a .from) (a .to) (getD ss (j - 1) 0) (getD (a .digits .now) (j - 1) 0)) (c .before .before .before .before .run-starts .ensures f))
-          ∙ packed-turn (a .from) (a .to) (startsOf f) (a .digits .now) j (length-starts f) (c .before .before .before .before .before .before .pre .0) (omega arith) (omega arith),
-      omega (arith, c .placed .ensures .1),
+      omega arith,
+      ap₂ (λ x y. x + y) (c .before .before .before .before .loop .inv .2) (c .placed .ensures .0 ∙ ap (λ ss. getD (a .digits .now) (j - 1) 0 % 512 * 2 ^ (getD ss (j - 1) 0 - a .from)) (c .before .before .before .before .before .before .before .pre .0))
+          ∙ packed-turn (a .from) (a .digits .now) (a .first) j (a .last) (omega arith) (omega arith),
+      omega (arith, c .placed .ensures .1, c .before .before .before .before .loop .inv .3),
     )
 
 returns : tie.Need-returns Inv-loop μ-loop
-returns c = λ f. let z : c .before .loop .j ≡ 0 = omega arith in rw z at (c .before .loop .inv .1 f)
+returns c = let z : c .before .loop .j ≡ c .before .before .before .before .args .first = omega arith in (rw z at (c .before .loop .inv .2), rw z at (c .before .loop .inv .3))
 
 pub bits-from-spec : {M : Type 1} → statement M
 bits-from-spec =
@@ -68,12 +57,11 @@ bits-from-spec =
     (tie.spec
     Inv-loop
     μ-loop
-    run-starts-requires
     loop-holds
     sub-j
-    array-read-placed
-    mul-placed
     shared-slice-read-placed
+    mul-placed
+    shared-slice-read-placed-2
     placed-requires
     add-bits
     loop-less

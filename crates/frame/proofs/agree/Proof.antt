@@ -14,10 +14,10 @@ use Rattle.frame.proofs.agree.Statement.{statement}
 use Rattle.frame.proofs.agree.Tie as tie
 
 abbrev Inv-loop : tie.InvT-loop
-Inv-loop form frame same₀ i₀ same i = (i ≤ length frame) × (same ≡ true → (k : ℕ) → k < i → getD frame k 0 ≡ getD form k 0)
+Inv-loop again frame same₀ i₀ same i = (i ≤ length frame) × (same ≡ true → (k : ℕ) → k < i → getD frame k 0 ≡ getD again k 0)
 
 abbrev μ-loop : tie.MeasureT-loop
-μ-loop form frame same₀ i₀ same i = length frame - i
+μ-loop again frame same₀ i₀ same i = length frame - i
 
 loop-holds : tie.Need-loop-holds Inv-loop μ-loop
 loop-holds c = (omega arith, λ h k l. absurd (not-suc-le-zero l))
@@ -42,11 +42,11 @@ loop-again c =
     let a = c .before .before .before .before .before .before .before .args in
     let i = c .before .before .before .before .loop .i in
     let same = c .before .before .before .before .loop .same in
-    let here = eqb (getD (a .frame .now) i 0) (getD (a .form .now) i 0) in (
+    let here = eqb (getD (a .frame .now) i 0) (getD (a .again .now) i 0) in (
       omega arith,
       λ h.
           let yes = sym (c .both .ensures) ∙ h in
-          agree-turn (a .frame .now) (a .form .now) i (c .before .before .before .before .loop .inv .1 (and-left same here yes)) (eqb-true (getD (a .frame .now) i 0) (getD (a .form .now) i 0) (and-right same here yes)),
+          agree-turn (a .frame .now) (a .again .now) i (c .before .before .before .before .loop .inv .1 (and-left same here yes)) (eqb-true (getD (a .frame .now) i 0) (getD (a .again .now) i 0) (and-right same here yes)),
     )
 
 returns : tie.Need-returns Inv-loop μ-loop

@@ -1,71 +1,101 @@
--- `check_write` meets its contract: each way out is the definition's.
+-- `check_write` meets its contract: each way out is the definition's, by what the row gives.
 use borrow.Author.Needs.{needs}
 use mathlib.Core.Path.{sym, _∙_}
-use borrow.Author.Tests.{eq-eqb, ne-eqb}
-use Rattle.frame.specs.Exits.{are-widths}
+use borrow.Author.Tests.{not-true, not-false, eq-eqb, ne-eqb}
+use lib.ListN.{length}
+use Rattle.timecode.specs.Formats.{size}
 use Rattle.timecode.specs.Frames.{writeOf}
+use Rattle.frame.specs.Exits.{row-widths, row-interval, row-known, row-on, row-carries}
 use Rattle.frame.proofs.check_write.Statement.{statement}
 use Rattle.frame.proofs.check_write.Tie as tie
 
-is-known-requires : tie.Need-is-known-requires
-is-known-requires c κs = search needs
+takes-requires : tie.Need-takes-requires
+takes-requires c κs = search needs
 
-on-format-requires : tie.Need-on-format-requires
-on-format-requires c κs = search needs
+returns : tie.Need-returns
+unfolding writeOf
+returns c =
+    λ f lent o e b.
+    rw (row-known f (c .before .before .args .row) o (c .before .before .args .expression) (c .before .takes .result) e (c .before .takes .ensures) ∙ not-true (c .before .takes .result) (c .if1 .taken))
 
-second-carried-requires : tie.Need-second-carried-requires
-second-carried-requires c κs = search needs
+lies-on-requires : tie.Need-lies-on-requires
+lies-on-requires c κs = row-interval (c .before .before .args .row) (c .before .before .pre)
 
-run-widths-requires : tie.Need-run-widths-requires
-run-widths-requires c κs = search needs
+returns-2 : tie.Need-returns-2
+unfolding writeOf
+returns-2 c =
+    λ f lent o e b.
+    rw (
+      row-known f (c .before .before .before .before .args .row) o (c .before .before .before .before .args .expression) (c .before .before .before .takes .result) e (c .before .before .before .takes .ensures) ∙ not-false (c .before .before .before .takes .result) (c .before .before .if1 .left),
+      row-on f (c .before .before .before .before .args .row) o (c .before .before .before .before .args .time) (c .before .lies-on .result) (c .before .lies-on .ensures) ∙ not-true (c .before .lies-on .result) (c .if2 .taken),
+    )
+
+second-allowed-requires : tie.Need-second-allowed-requires
+second-allowed-requires c κs = search needs
+
+returns-3 : tie.Need-returns-3
+unfolding writeOf
+returns-3 c =
+    λ f lent o e b.
+    rw (
+      row-known f (c .before .before .before .before .before .before .args .row) o (c .before .before .before .before .before .before .args .expression) (c .before .before .before .before .before .takes .result) e (c .before .before .before .before .before .takes .ensures) ∙ not-false (c .before .before .before .before .before .takes .result) (c .before .before .before .before .if1 .left),
+      row-on f (c .before .before .before .before .before .before .args .row) o (c .before .before .before .before .before .before .args .time) (c .before .before .before .lies-on .result) (c .before .before .before .lies-on .ensures) ∙ not-false (c .before .before .before .lies-on .result) (c .before .before .if2 .left),
+      row-carries f (c .before .before .before .before .before .before .args .row) o (c .before .before .before .before .before .before .args .time) (c .before .second-allowed .result) (c .before .second-allowed .ensures) ∙ not-true (c .before .second-allowed .result) (c .if3 .taken),
+    )
 
 slice-aggregate-control-fits : tie.Need-slice-aggregate-control-fits
 slice-aggregate-control-fits c = search needs
 
 control-fits-requires : tie.Need-control-fits-requires
-control-fits-requires c κs = (are-widths (c .before .before .before .before .before .before .before .before .args .format) (sym (c .before .before .before .before .before .before .before .is-known .ensures) ∙ c .before .before .before .before .before .before .if1 .taken) (c .before .run-widths .result) (c .before .run-widths .ensures), c .before .run-widths .ensures)
-
-frame-size-requires : tie.Need-frame-size-requires
-frame-size-requires c κs = search needs
-
-returns : tie.Need-returns
-unfolding writeOf
-returns c = λ lent n. rw (← c .before .before .before .before .before .before .before .before .before .before .before .is-known .ensures, c .before .before .before .before .before .before .before .before .before .before .if1 .taken, ← c .before .before .before .before .before .before .before .before .before .on-format .ensures, c .before .before .before .before .before .before .before .before .if2 .taken, ← c .before .before .before .before .before .before .before .second-carried .ensures, c .before .before .before .before .before .before .if3 .taken, ← c .before .before .before .control-fits .ensures, c .before .before .if4 .taken, ← n, ← c .before .frame-size .ensures .0, eq-eqb _ _ (c .if5 .taken))
-
-returns-2 : tie.Need-returns-2
-unfolding writeOf
-returns-2 c = λ lent n. rw (← c .before .before .before .before .before .before .before .before .before .before .before .is-known .ensures, c .before .before .before .before .before .before .before .before .before .before .if1 .taken, ← c .before .before .before .before .before .before .before .before .before .on-format .ensures, c .before .before .before .before .before .before .before .before .if2 .taken, ← c .before .before .before .before .before .before .before .second-carried .ensures, c .before .before .before .before .before .before .if3 .taken, ← c .before .before .before .control-fits .ensures, c .before .before .if4 .taken, ← n, ← c .before .frame-size .ensures .0, ne-eqb _ _ (c .if5 .left))
-
-returns-3 : tie.Need-returns-3
-unfolding writeOf
-returns-3 c = λ lent n. rw (← c .before .before .before .before .before .before .before .before .before .is-known .ensures, c .before .before .before .before .before .before .before .before .if1 .taken, ← c .before .before .before .before .before .before .before .on-format .ensures, c .before .before .before .before .before .before .if2 .taken, ← c .before .before .before .before .before .second-carried .ensures, c .before .before .before .before .if3 .taken, ← c .before .control-fits .ensures, c .if4 .left)
+control-fits-requires c κs = row-widths (c .before .before .before .before .before .before .before .before .args .row) (c .before .before .before .before .before .before .before .before .pre)
 
 returns-4 : tie.Need-returns-4
 unfolding writeOf
-returns-4 c = λ lent n. rw (← c .before .before .before .before .before .is-known .ensures, c .before .before .before .before .if1 .taken, ← c .before .before .before .on-format .ensures, c .before .before .if2 .taken, ← c .before .second-carried .ensures, c .if3 .left)
+returns-4 c =
+    λ f lent o e b.
+    rw (
+      row-known f (c .before .before .before .before .before .before .before .before .before .before .args .row) o (c .before .before .before .before .before .before .before .before .before .before .args .expression) (c .before .before .before .before .before .before .before .before .before .takes .result) e (c .before .before .before .before .before .before .before .before .before .takes .ensures) ∙ not-false (c .before .before .before .before .before .before .before .before .before .takes .result) (c .before .before .before .before .before .before .before .before .if1 .left),
+      row-on f (c .before .before .before .before .before .before .before .before .before .before .args .row) o (c .before .before .before .before .before .before .before .before .before .before .args .time) (c .before .before .before .before .before .before .before .lies-on .result) (c .before .before .before .before .before .before .before .lies-on .ensures) ∙ not-false (c .before .before .before .before .before .before .before .lies-on .result) (c .before .before .before .before .before .before .if2 .left),
+      row-carries f (c .before .before .before .before .before .before .before .before .before .before .args .row) o (c .before .before .before .before .before .before .before .before .before .before .args .time) (c .before .before .before .before .before .second-allowed .result) (c .before .before .before .before .before .second-allowed .ensures) ∙ not-false (c .before .before .before .before .before .second-allowed .result) (c .before .before .before .before .if3 .left),
+      sym (c .before .control-fits .ensures f (o .widths-are)) ∙ not-true (c .before .control-fits .result) (c .if4 .taken),
+    )
 
 returns-5 : tie.Need-returns-5
 unfolding writeOf
-returns-5 c = λ lent n. rw (← c .before .before .before .is-known .ensures, c .before .before .if1 .taken, ← c .before .on-format .ensures, c .if2 .left)
+returns-5 c =
+    λ f lent o e b.
+    rw (
+      row-known f (c .before .before .before .before .before .before .before .before .before .before .before .before .args .row) o (c .before .before .before .before .before .before .before .before .before .before .before .before .args .expression) (c .before .before .before .before .before .before .before .before .before .before .before .takes .result) e (c .before .before .before .before .before .before .before .before .before .before .before .takes .ensures) ∙ not-false (c .before .before .before .before .before .before .before .before .before .before .before .takes .result) (c .before .before .before .before .before .before .before .before .before .before .if1 .left),
+      row-on f (c .before .before .before .before .before .before .before .before .before .before .before .before .args .row) o (c .before .before .before .before .before .before .before .before .before .before .before .before .args .time) (c .before .before .before .before .before .before .before .before .before .lies-on .result) (c .before .before .before .before .before .before .before .before .before .lies-on .ensures) ∙ not-false (c .before .before .before .before .before .before .before .before .before .lies-on .result) (c .before .before .before .before .before .before .before .before .if2 .left),
+      row-carries f (c .before .before .before .before .before .before .before .before .before .before .before .before .args .row) o (c .before .before .before .before .before .before .before .before .before .before .before .before .args .time) (c .before .before .before .before .before .before .before .second-allowed .result) (c .before .before .before .before .before .before .before .second-allowed .ensures) ∙ not-false (c .before .before .before .before .before .before .before .second-allowed .result) (c .before .before .before .before .before .before .if3 .left),
+      sym (c .before .before .before .control-fits .ensures f (o .widths-are)) ∙ not-false (c .before .before .before .control-fits .result) (c .before .before .if4 .left),
+      ne-eqb (length lent) (size f) (λ q. c .if5 .taken (b ∙ q ∙ sym (o .elements-are))),
+    )
 
 returns-6 : tie.Need-returns-6
 unfolding writeOf
-returns-6 c = λ lent n. rw (← c .before .is-known .ensures, c .if1 .left)
+returns-6 c =
+    λ f lent o e b.
+    rw (
+      row-known f (c .before .before .before .before .before .before .before .before .before .before .before .before .args .row) o (c .before .before .before .before .before .before .before .before .before .before .before .before .args .expression) (c .before .before .before .before .before .before .before .before .before .before .before .takes .result) e (c .before .before .before .before .before .before .before .before .before .before .before .takes .ensures) ∙ not-false (c .before .before .before .before .before .before .before .before .before .before .before .takes .result) (c .before .before .before .before .before .before .before .before .before .before .if1 .left),
+      row-on f (c .before .before .before .before .before .before .before .before .before .before .before .before .args .row) o (c .before .before .before .before .before .before .before .before .before .before .before .before .args .time) (c .before .before .before .before .before .before .before .before .before .lies-on .result) (c .before .before .before .before .before .before .before .before .before .lies-on .ensures) ∙ not-false (c .before .before .before .before .before .before .before .before .before .lies-on .result) (c .before .before .before .before .before .before .before .before .if2 .left),
+      row-carries f (c .before .before .before .before .before .before .before .before .before .before .before .before .args .row) o (c .before .before .before .before .before .before .before .before .before .before .before .before .args .time) (c .before .before .before .before .before .before .before .second-allowed .result) (c .before .before .before .before .before .before .before .second-allowed .ensures) ∙ not-false (c .before .before .before .before .before .before .before .second-allowed .result) (c .before .before .before .before .before .before .if3 .left),
+      sym (c .before .before .before .control-fits .ensures f (o .widths-are)) ∙ not-false (c .before .before .before .control-fits .result) (c .before .before .if4 .left),
+      eq-eqb (length lent) (size f) (sym b ∙ c .if5 .left ∙ o .elements-are),
+    )
 
 pub check-write-spec : {M : Type 1} → statement M
 check-write-spec =
     tie.close
     (tie.spec
-    is-known-requires
-    on-format-requires
-    second-carried-requires
-    run-widths-requires
+    takes-requires
+    returns
+    lies-on-requires
+    returns-2
+    second-allowed-requires
+    returns-3
     slice-aggregate-control-fits
     control-fits-requires
-    frame-size-requires
-    returns
-    returns-2
-    returns-3
     returns-4
     returns-5
     returns-6)

@@ -1,37 +1,59 @@
--- `read` meets its contract: each way out is the definition's.
+-- `read` meets its contract: each way out is the definition's, by what the row gives.
 use borrow.Author.Needs.{needs}
-use mathlib.Core.Path.{sym, _∙_}
+use mathlib.Core.Path.{refl, sym, _∙_}
 use borrow.Author.Tests.{ne-eqb}
+use lib.ListN.{length}
+use Rattle.timecode.specs.Formats.{size}
 use Rattle.timecode.specs.Frames.{readOf}
+use Rattle.frame.specs.Exits.{row-known}
 use Rattle.frame.proofs.read.Statement.{statement}
 use Rattle.frame.proofs.read.Tie as tie
 
-is-known-requires : tie.Need-is-known-requires
-is-known-requires c κs = search needs
+row-of-requires : tie.Need-row-of-requires
+row-of-requires c κs = search needs
 
-frame-size-requires : tie.Need-frame-size-requires
-frame-size-requires c κs = search needs
+takes-requires : tie.Need-takes-requires
+takes-requires c κs = search needs
 
 read-frame-requires : tie.Need-read-frame-requires
-read-frame-requires c κs = (sym (c .before .before .before .is-known .ensures) ∙ c .before .before .if1 .taken, c .if2 .taken ∙ c .before .frame-size .ensures .0)
+read-frame-requires c κs =
+    let f = c .before .before .before .before .before .before .args .format in
+    let o = c .before .before .before .before .row-of .ensures in
+    record {
+      format = f;
+      is-known = row-known f (c .before .before .before .before .row-of .result) o (f .expression) (c .before .before .before .takes .result) refl (c .before .before .before .takes .ensures) ∙ c .before .before .if1 .taken;
+      row-of = o;
+      long = c .if2 .taken ∙ o .elements-are;
+    }
 
 returns : tie.Need-returns
-returns c = search needs
+returns c =
+    let f = c .before .before .before .before .before .before .before .args .format in
+    let o = c .before .before .before .before .before .row-of .ensures in
+    c .read-frame .ensures f (row-known f (c .before .before .before .before .before .row-of .result) o (f .expression) (c .before .before .before .before .takes .result) refl (c .before .before .before .before .takes .ensures) ∙ c .before .before .before .if1 .taken) o (c .before .if2 .taken ∙ o .elements-are)
 
 returns-2 : tie.Need-returns-2
 unfolding readOf
-returns-2 c = rw (← c .before .before .before .is-known .ensures, c .before .before .if1 .taken, ← c .before .frame-size .ensures .0, ne-eqb _ _ (c .if2 .left))
+returns-2 c =
+    let f = c .before .before .before .before .before .before .args .format in
+    let o = c .before .before .before .before .row-of .ensures in
+    rw (
+      row-known f (c .before .before .before .before .row-of .result) o (f .expression) (c .before .before .before .takes .result) refl (c .before .before .before .takes .ensures) ∙ c .before .before .if1 .taken,
+      ne-eqb (length (c .before .before .before .before .before .before .args .frame .now)) (size f) (λ q. c .if2 .left (q ∙ sym (o .elements-are))),
+    )
 
 returns-3 : tie.Need-returns-3
 unfolding readOf
-returns-3 c = rw (← c .before .is-known .ensures, c .if1 .left)
+returns-3 c =
+    let f = c .before .before .before .before .args .format in
+    rw (row-known f (c .before .before .row-of .result) (c .before .before .row-of .ensures) (f .expression) (c .before .takes .result) refl (c .before .takes .ensures) ∙ c .if1 .left)
 
 pub read-spec : {M : Type 1} → statement M
 read-spec =
     tie.close
     (tie.spec
-    is-known-requires
-    frame-size-requires
+    row-of-requires
+    takes-requires
     read-frame-requires
     returns
     returns-2

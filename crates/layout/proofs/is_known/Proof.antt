@@ -1,23 +1,17 @@
--- `is_known` meets its contract: the expression is from the row's first to its last.
+-- `is_known` meets its contract: the row's letter takes the expression.
 use borrow.Author.Needs.{needs}
-use borrow.Author.Tests.{le-leb, lt-leb}
+use mathlib.Core.Path.{sym, _∙_}
 use Rattle.layout.proofs.is_known.Statement.{statement}
 use Rattle.layout.proofs.is_known.Tie as tie
 
-row-of-requires : tie.Need-row-of-requires
-row-of-requires c κs = search needs
+letter-row-requires : tie.Need-letter-row-requires
+letter-row-requires c κs = search needs
+
+takes-requires : tie.Need-takes-requires
+takes-requires c κs = search needs
 
 returns : tie.Need-returns
-returns c =
-    let f = c .before .before .before .before .before .before .args .format in
-    let row = c .before .before .before .before .before .row-of in
-    rw (row .ensures .expressions-are (f .expression), le-leb (row .result .first) (f .expression) (c .before .before .if1 .taken))
-
-returns-2 : tie.Need-returns-2
-returns-2 c =
-    let f = c .before .before .before .before .args .format in
-    let row = c .before .before .before .row-of in
-    rw (row .ensures .expressions-are (f .expression), lt-leb (row .result .first) (f .expression) (c .if1 .left))
+returns c = c .takes .ensures ∙ sym (c .before .letter-row .ensures .expressions-are (c .before .before .args .format .expression))
 
 pub is-known-spec : {M : Type 1} → statement M
-is-known-spec = tie.close (tie.spec row-of-requires returns returns-2)
+is-known-spec = tie.close (tie.spec letter-row-requires takes-requires returns)

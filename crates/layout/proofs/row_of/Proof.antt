@@ -1,58 +1,29 @@
--- `row_of` gives each letter the row of document 01's table: by computation for the six, and for any other letter by what is left of the table.
-use mathlib.Core.Path.{refl, ap}
-use Rattle.timecode.specs.Formats.{Row, table, lookUp, rowOf, known, size, interval, carriesControl, carriesSeconds}
-use Rattle.timecode.specs.Layout.{seconds, minutes, hours, days, tenths, hundredthsDigit, hasSeconds, straightSeconds, timeFields}
-use Rattle.layout.specs.Runs.{codeRange, codeControl, codeFields, codeRuns}
-use Rattle.layout.specs.Tables.{widthsOf}
-use Rattle.layout.specs.Letters.{in-row, Other, other-row, other-widths}
+-- `row_of` meets its contract: the letter's row, with what the expression carries.
+use borrow.Author.Needs.{needs}
+use mathlib.Core.Path.{sym, ap, _∙_}
+use Rattle.layout.specs.Letters.{carried-widths}
+use Rattle.layout.specs.Tables.{carriedIn}
 use Rattle.layout.proofs.row_of.Statement.{statement}
 use Rattle.layout.proofs.row_of.Tie as tie
 
+letter-row-requires : tie.Need-letter-row-requires
+letter-row-requires c κs = search needs
+
+widths-in-requires : tie.Need-widths-in-requires
+widths-in-requires c κs = search needs
+
 returns : tie.Need-returns
-unfolding known size interval rowOf lookUp table widthsOf codeRuns codeFields timeFields seconds minutes hours days tenths hundredthsDigit straightSeconds hasSeconds carriesSeconds codeControl codeRange carriesControl
-returns c = rw (c .if1 .taken) (record { elements-are = λ e. refl; interval-is = λ e. refl; expressions-are = in-row 4 0 3 refl; widths-are = refl })
-
-returns-2 : tie.Need-returns-2
-unfolding known size interval rowOf lookUp table widthsOf codeRuns codeFields timeFields seconds minutes hours days tenths hundredthsDigit straightSeconds hasSeconds carriesSeconds codeControl codeRange carriesControl
-returns-2 c = rw (c .if2 .taken) (record { elements-are = λ e. refl; interval-is = λ e. refl; expressions-are = in-row 4 0 3 refl; widths-are = refl })
-
-returns-3 : tie.Need-returns-3
-unfolding known size interval rowOf lookUp table widthsOf codeRuns codeFields timeFields seconds minutes hours days tenths hundredthsDigit straightSeconds hasSeconds carriesSeconds codeControl codeRange carriesControl
-returns-3 c = rw (c .if3 .taken) (record { elements-are = λ e. refl; interval-is = λ e. refl; expressions-are = in-row 2 1 2 refl; widths-are = refl })
-
-returns-4 : tie.Need-returns-4
-unfolding known size interval rowOf lookUp table widthsOf codeRuns codeFields timeFields seconds minutes hours days tenths hundredthsDigit straightSeconds hasSeconds carriesSeconds codeControl codeRange carriesControl
-returns-4 c = rw (c .if4 .taken) (record { elements-are = λ e. refl; interval-is = λ e. refl; expressions-are = in-row 2 1 2 refl; widths-are = refl })
-
-returns-5 : tie.Need-returns-5
-unfolding known size interval rowOf lookUp table widthsOf codeRuns codeFields timeFields seconds minutes hours days tenths hundredthsDigit straightSeconds hasSeconds carriesSeconds codeControl codeRange carriesControl
-returns-5 c = rw (c .if5 .taken) (record { elements-are = λ e. refl; interval-is = λ e. refl; expressions-are = in-row 2 1 2 refl; widths-are = refl })
-
-returns-6 : tie.Need-returns-6
-unfolding known size interval rowOf lookUp table widthsOf codeRuns codeFields timeFields seconds minutes hours days tenths hundredthsDigit straightSeconds hasSeconds carriesSeconds codeControl codeRange carriesControl
-returns-6 c = rw (c .if6 .taken) (record { elements-are = λ e. refl; interval-is = λ e. refl; expressions-are = in-row 2 1 2 refl; widths-are = refl })
-
-returns-7 : tie.Need-returns-7
-unfolding known size interval rowOf
-returns-7 c =
-    let l = c .before .before .before .before .before .before .args .letter in
-    let o : Other (c .before .before .before .before .before .before .args .letter) =
+returns c =
+    let f = c .before .before .before .args .format in
+    let row = c .before .before .letter-row .ensures in
     record {
-      not-a = c .before .before .before .before .before .if1 .left;
-      not-b = c .before .before .before .before .if2 .left;
-      not-d = c .before .before .before .if3 .left;
-      not-e = c .before .before .if4 .left;
-      not-g = c .before .if5 .left;
-      not-h = c .if6 .left;
-    } in
-    let none = other-row l o in
-    record {
-      elements-are = λ e. ap (λ (r : Row). r .elements) none;
-      interval-is = λ e. ap (λ (r : Row). r .interval) none;
-      expressions-are = λ e. rw none (in-row 0 1 0 refl e);
-      widths-are = other-widths l o;
+      elements-are = sym (row .elements-are (f .expression));
+      interval-is = sym (row .interval-is (f .expression));
+      known-is = sym (row .expressions-are (f .expression));
+      leap-is = sym (row .leap-is (f .expression));
+      starts-are = row .starts-are;
+      widths-are = c .widths-in .ensures ∙ ap (carriedIn (f .expression)) (sym (row .widths-are)) ∙ carried-widths (f .letter) (f .expression);
     }
 
 pub row-of-spec : {M : Type 1} → statement M
-row-of-spec =
-    tie.close (tie.spec returns returns-2 returns-3 returns-4 returns-5 returns-6 returns-7)
+row-of-spec = tie.close (tie.spec letter-row-requires widths-in-requires returns)
