@@ -1,4 +1,4 @@
--- Document 01, "Numbers a call refuses with": the number and the values of each case of each answer. 14, 15 and 26 are document 02's.
+-- Document 01, "Numbers a call refuses with": the number and the values of each case of each answer. From 14 on they are document 02's.
 use mathlib.Core.Bool.{Bool, true, false}
 use mathlib.Core.List.{List, [], _∷_}
 use Prim.Native.Nat.{ℕ}
@@ -26,6 +26,8 @@ use Rattle.timecode.specs.declared.Refusal.the-variants.{
   InvalidReader,
   SecondNotCarried,
   InvalidKind,
+  InvalidYear,
+  YearPlaceTaken,
   InvalidSetting,
 }
 use Rattle.timecode.specs.declared.Scanned.{Scanned}
@@ -34,6 +36,7 @@ use Rattle.timecode.specs.declared.Stepped.{Stepped}
 use Rattle.timecode.specs.declared.Stepped.the-variants.{To}
 use Rattle.timecode.specs.declared.Subtracted.{Subtracted}
 use Rattle.timecode.specs.declared.Subtracted.the-variants.{Hundredths}
+use Rattle.timecode.specs.declared.Time.{Time}
 use Rattle.timecode.specs.declared.Written.{Written}
 use Rattle.timecode.specs.declared.Written.the-variants.{Done}
 
@@ -54,6 +57,8 @@ refusalNumber StartPastEnd = 12
 refusalNumber InvalidReader = 13
 refusalNumber SecondNotCarried = 14
 refusalNumber InvalidKind = 15
+refusalNumber InvalidYear = 17
+refusalNumber YearPlaceTaken = 18
 refusalNumber InvalidSetting = 26
 
 -- One check of a call: the answer goes on where it passes, and is that refusal where it fails.
@@ -83,6 +88,8 @@ index StartPastEnd = []
 index InvalidReader = []
 index SecondNotCarried = []
 index InvalidKind = []
+index InvalidYear = []
+index YearPlaceTaken = []
 index InvalidSetting = []
 
 -- a refusal carries its number, with 5 and 6 the index, and no value beside
@@ -92,16 +99,20 @@ refusalResult r = record { number = refusalNumber r; values = index r }
 abbrev pub success : List ℤ → Result
 success vs = record { number = 0; values = vs }
 
+-- the values of a time, before others
+abbrev pub timeValues : Time → List ℤ → List ℤ
+timeValues t vs = pos (t .year) ∷ pos (t .day) ∷ pos (t .hundredths) ∷ vs
+
 abbrev pub writtenResult : Written → Result
 writtenResult Done = success []
 writtenResult (Written.Refused r) = refusalResult r
 
 abbrev pub readingResult : Reading → Result
-readingResult (Accepted t w) = success (pos (t .day) ∷ pos (t .hundredths) ∷ pos w ∷ [])
+readingResult (Accepted t w) = success (timeValues t (pos w ∷ []))
 readingResult (Reading.Refused r) = refusalResult r
 
 abbrev pub steppedResult : Stepped → Result
-steppedResult (To t) = success (pos (t .day) ∷ pos (t .hundredths) ∷ [])
+steppedResult (To t) = success (timeValues t [])
 steppedResult (Stepped.Refused r) = refusalResult r
 
 abbrev pub subtractedResult : Subtracted → Result
@@ -113,11 +124,11 @@ classifiedResult (Symbol s) = success (pos s ∷ [])
 classifiedResult (Classified.Refused r) = refusalResult r
 
 abbrev pub scannedResult : Scanned → Result
-scannedResult (Found a t w) = success (pos a ∷ pos (t .day) ∷ pos (t .hundredths) ∷ pos w ∷ [])
+scannedResult (Found a t w) = success (pos a ∷ timeValues t (pos w ∷ []))
 scannedResult None = success []
 scannedResult (Scanned.Refused r) = refusalResult r
 
 abbrev pub answerResult : Answer → Result
 answerResult Quiet = success []
-answerResult (Report t w) = success (pos (t .day) ∷ pos (t .hundredths) ∷ pos w ∷ [])
+answerResult (Report t w) = success (timeValues t (pos w ∷ []))
 answerResult (Answer.Refused r) = refusalResult r

@@ -7,7 +7,7 @@ use lib.Dec.{leb, eqb}
 use lib.IntN.{pos, _+ℤ_, _-ℤ_, _*ℤ_}
 use lib.ListN.{getD, length, take, drop}
 use Rattle.timecode.specs.Answers.{check}
-use Rattle.timecode.specs.Formats.{known, size, dayLength, inRange}
+use Rattle.timecode.specs.Formats.{known, size, lastDay, dayLength, inRange}
 use Rattle.timecode.specs.Frames.{left, readOf}
 use Rattle.timecode.specs.declared.Classified.{Classified}
 use Rattle.timecode.specs.declared.Classified.the-variants.{Symbol}
@@ -61,11 +61,11 @@ classifyListOf T widths periods lent =
 unfoldable pub classifyListLeaves : ℕ → List ℕ → List ℕ → List ℕ → List ℕ
 classifyListLeaves T widths periods lent = left (classifyListOf T widths periods lent) (symbolsOf T widths periods) lent
 
--- ---- Difference: 8,640,000 times the days' difference, plus the c's; number 2 for a range, never for a grid
+-- ---- Difference: 8,640,000 times the days' difference, plus the c's; number 2 for a range, never for a grid. It passes over the years.
 
 unfoldable pub differenceOf : Time → Time → Subtracted
 differenceOf t u =
-    check Subtracted.Refused InvalidTime (inRange t && inRange u)  -- 2
+    check Subtracted.Refused InvalidTime (inRange lastDay t && inRange lastDay u)  -- 2
     (Hundredths (pos dayLength *ℤ (pos (t .day) -ℤ pos (u .day)) +ℤ (pos (t .hundredths) -ℤ pos (u .hundredths))))
 
 -- ---- Scan

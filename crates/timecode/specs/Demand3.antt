@@ -227,6 +227,15 @@ module _ (f : Format) (k : ℕ) (two : 2 ≤ k) (ss : List ℕ) (answers : List 
       let window = take (windowLength f k) (drop start (elements f sent)) in
       holds .no-false-time sent gen i e before (set window p x) (p ∷ []) start h (one-replaced window p x) (omega arith) is t w r
 
+  -- no false year either
+  pub no-false-year-with-one-replaced : (i : ℕ) → IsElement ss i → (before : List ℕ) (start p x : ℕ) → start + windowLength f k ≤ length (elements f sent)
+      → elementsUpTo ss i ≡ before ++ set (take (windowLength f k) (drop start (elements f sent))) p x
+      → (t : Time) (w : ℕ) → getD answers i none ≡ Report t w
+      → (j : ℕ) × (j < length sent) × (start + windowLength f k ≡ size f * suc j) × (t .year ≡ sentAt sent j .time .year)
+  no-false-year-with-one-replaced i e before start p x h is t w r =
+      let ends = no-false-time-with-one-replaced i e before start p x h is t w r in
+      (ends .frame, ends .inside, ends .whole, ap (λ (u : Time). u .year) (ends .time))
+
   pub no-false-time-in-stream-with-one-replaced : (start p x : ℕ) → x ≤ 3 → ss ≡ set (drop start (elements f sent)) p x
       → (i : ℕ) → i < length ss → (t : Time) (w : ℕ) → getD answers i none ≡ Report t w → EndsFrame f sent (start + suc i) t
   no-false-time-in-stream-with-one-replaced start p x small is i b t w r =

@@ -10,14 +10,14 @@ use native.Mathlib.Nat.{zero-mod}
 use native.Mathlib.Omega.{arith}
 use Rattle.timecode.specs.Answers.{refusalNumber}
 use Rattle.timecode.specs.Calls.{classifyListOf, classifyListLeaves}
-use Rattle.timecode.specs.Formats.{member, known, size, interval, lastHundredth, dayLength, onFormat, carriesLeap, secondCarried}
-use Rattle.timecode.specs.Frames.{newYear, yearLengths, usual, kinds, dayEnd, sameDay, nextDay, stepOf, Follows, nextAfter, stepBackOf, Precedes, writeOf, writeLeaves, readOf, Sent, Generator, sentAt, dayBefore, following, preceding, onDay, areSymbols, isTime, timeIn, secondsAgree}
-use Rattle.timecode.specs.Laws.Back.{step-back, back-step, back-on-format, follows-precedes, precedes-follows}
+use Rattle.timecode.specs.Formats.{member, known, size, interval, carriesYear, lastHundredth, dayLength, yearCarried, onFormat, carriesLeap, secondCarried}
+use Rattle.timecode.specs.Frames.{newYear, yearLengths, lengthIn, usual, kinds, dayEnd, sameDay, nextDay, stepOf, Follows, nextAfter, stepBackOf, Precedes, writeOf, writeLeaves, readOf, Sent, Generator, sentAt, dayBefore, yearOfTimeBefore, following, preceding, onDay, areSymbols, isTime, timeIn, secondsAgree}
+use Rattle.timecode.specs.Laws.Back.{step-back, lengthBefore, checks-alike, back-step, back-on-format, follows-precedes, precedes-follows, any-length-back}
 use Rattle.timecode.specs.Laws.Checks.{accepted, by-reading, refused-up-to}
 use Rattle.timecode.specs.Laws.Existence.{frames, length-frames, control-at, first-time, generator, goes-on}
 use Rattle.timecode.specs.Laws.Reading.{accepted-was-written, elements-up-to}
-use Rattle.timecode.specs.Laws.Stepping.{step-on-format, next-follows, follows-next, usual-end, step-answers, year-range, day-end-range, refuses-alike, Went, went, Lands, lands, year-is}
-use Rattle.timecode.specs.Laws.Times.{is-on-format, is-carried, none-added, one-added}
+use Rattle.timecode.specs.Laws.Stepping.{step-on-format, next-follows, follows-next, usual-end, step-answers, year-range, day-end-range, refuses-alike, lengthFor, length-in, any-length, Went, went, Lands, lands, year-is}
+use Rattle.timecode.specs.Laws.Times.{last-range, is-on-format, is-carried, none-added, one-added}
 use Rattle.timecode.specs.Laws.Writing.{written-is-accepted, taken, takes, leaves}
 use Rattle.timecode.specs.Layout.{second, minute, hour, filler, runs, control, numberIn}
 use Rattle.timecode.specs.declared.Format.{Format}
@@ -114,68 +114,87 @@ generators-go-on f sent s = goes-on sent s f
 
 -- ---- Step, for every kind of day: a step is a time that Write takes; next after is some step; the times that follow one, and how they differ.
 
-pub step-stays-on-format : (f : Format) (t u : Time) → Follows f t u → (onFormat f u ≡ true) × (secondCarried f u ≡ true)
-step-stays-on-format f t u s = let o = step-on-format f t u s in (is-on-format f u o, is-carried f u o)
+pub step-stays-on-format : (f : Format) (t u : Time) → Follows f t u → (onFormat f u ≡ true) × (secondCarried f u ≡ true) × (yearCarried f (u .year) ≡ true)
+step-stays-on-format f t u s = let o = step-on-format f t u s in (is-on-format f u o, is-carried f u o, o .year-is)
 
 -- D, E and H step as usual for every kind.
-pub step-as-usual-without-leap : (f : Format) (t : Time) (length kind : ℕ) → carriesLeap f ≡ false → member kind kinds ≡ true → stepOf f t length kind ≡ stepOf f t length usual
+pub step-as-usual-without-leap : (f : Format) (t : Time) (given kind : ℕ) → carriesLeap f ≡ false → member kind kinds ≡ true → stepOf f t given kind ≡ stepOf f t given usual
 unfolding stepOf onDay following
-step-as-usual-without-leap f t length kind m h = rw (h, usual-end f kind m, usual-end f usual m)
+step-as-usual-without-leap f t given kind m h = rw (h, usual-end f kind m, usual-end f usual m)
 
 pub next-after-exactly-when-some-step : (f : Format) (t u : Time) → (nextAfter f t u ≡ true) ↔ Follows f t u
 next-after-exactly-when-some-step f t u = (next-follows f t u, follows-next f t u)
 
 -- Up to three times follow one: the next frame of its day, and the first of the day after in a year of 365 or 366 days.
-pub three-may-follow : (f : Format) (t u : Time) → Follows f t u → (u ≡ sameDay f t) ⊎ ((u ≡ nextDay t 365) ⊎ (u ≡ nextDay t 366))
-three-may-follow f t u s = go (lands f t (s .0) (s .1) u w) (year-is (s .0) (w .length-is))
+pub three-may-follow : (f : Format) (t u : Time) → Follows f t u → (u ≡ sameDay f t) ⊎ ((u ≡ nextDay f t 365) ⊎ (u ≡ nextDay f t 366))
+three-may-follow f t u s = go (lands f t length (s .1) u w) (year-is length (w .length-is))
   where
-    w : Went f t (s .0) (s .1) (following f t (s .0) (s .1)) u
+    length : ℕ
+    length = lengthFor f t (s .0)
+
+    w : Went f t length (s .1) (following f t length (s .1)) u
     w = went f t (s .0) (s .1) u (s .2)
 
-    go : Lands f t (s .0) (s .1) u → (s .0 ≡ 365) ⊎ (s .0 ≡ 366) → (u ≡ sameDay f t) ⊎ ((u ≡ nextDay t 365) ⊎ (u ≡ nextDay t 366))
+    go : Lands f t length (s .1) u → (length ≡ 365) ⊎ (length ≡ 366) → (u ≡ sameDay f t) ⊎ ((u ≡ nextDay f t 365) ⊎ (u ≡ nextDay f t 366))
     go (inl p) y = inl (sym (p .0))
-    go (inr p) (inl y) = inr (inl (sym (p .0) ∙ ap (nextDay t) y))
-    go (inr p) (inr y) = inr (inr (sym (p .0) ∙ ap (nextDay t) y))
+    go (inr p) (inl y) = inr (inl (sym (p .0) ∙ ap (nextDay f t) y))
+    go (inr p) (inr y) = inr (inr (sym (p .0) ∙ ap (nextDay f t) y))
 
 -- Two of them: two-that-follow and two-that-follow-are-apart, above.
 
 -- ---- Step back, for every format, time, year length and kind of day that the first call takes: a step and then a step back returns the time, and so does the other order.
 
-pub step-then-back : (f : Format) (t u : Time) (length kind : ℕ) → stepOf f t length kind ≡ To u → stepBackOf f u length kind ≡ To t
-step-then-back f t u length kind = step-back f t length kind u
+pub step-then-back : (f : Format) (t u : Time) (given kind : ℕ) → stepOf f t given kind ≡ To u → stepBackOf f u given kind ≡ To t
+step-then-back f t u given kind = step-back f t given kind u
 
-pub back-then-step : (f : Format) (t u : Time) (length kind : ℕ) → stepBackOf f u length kind ≡ To t → stepOf f t length kind ≡ To u
-back-then-step f t u length kind = back-step f u length kind t
+pub back-then-step : (f : Format) (t u : Time) (given kind : ℕ) → stepBackOf f u given kind ≡ To t → stepOf f t given kind ≡ To u
+back-then-step f t u given kind = back-step f u given kind t
 
 -- The checks are the step's: both refuse the same, with the same number.
-pub back-refuses-as-step : (f : Format) (t : Time) (length kind : ℕ) (r : Refusal) → (stepBackOf f t length kind ≡ Stepped.Refused r) ↔ (stepOf f t length kind ≡ Stepped.Refused r)
+pub back-refuses-as-step : (f : Format) (t : Time) (given kind : ℕ) (r : Refusal) → (stepBackOf f t given kind ≡ Stepped.Refused r) ↔ (stepOf f t given kind ≡ Stepped.Refused r)
 unfolding stepOf stepBackOf
-back-refuses-as-step f t length kind r = (
-  λ h. refuses-alike f t length kind (preceding f t length kind) r h (To (following f t length kind)),
-  λ h. refuses-alike f t length kind (following f t length kind) r h (To (preceding f t length kind)),
+back-refuses-as-step f t given kind r = (
+  λ h. refuses-alike f t after kind (preceding f t before kind) r (sym (checks-alike f t given kind (To (preceding f t before kind))) ∙ h) (To (following f t after kind)),
+  λ h. checks-alike f t given kind (To (preceding f t before kind)) ∙ refuses-alike f t after kind (following f t after kind) r h (To (preceding f t before kind)),
 )
+  where
+    before : ℕ
+    before = lengthBefore f t given
 
--- Day 1, c 0 goes to that year's last frame.
-pub first-frame-back-to-last : (f : Format) (length kind : ℕ) → known f ≡ true → member length yearLengths ≡ true → member kind kinds ≡ true
-    → stepBackOf f newYear length kind ≡ To (record { day = length; hundredths = dayEnd f kind - interval f })
+    after : ℕ
+    after = lengthFor f t given
+
+-- Day 1, c 0 goes to the last frame of the year before, whose length is the one given, or where the format carries the year its own.
+pub first-frame-back-to-last : (f : Format) (year given kind : ℕ) → known f ≡ true → yearCarried f year ≡ true → member given yearLengths ≡ true → member kind kinds ≡ true
+    → stepBackOf f (newYear year) given kind
+    ≡ To (record { year = yearOfTimeBefore f (newYear year); day = lengthIn f (yearOfTimeBefore f (newYear year)) given; hundredths = dayEnd f kind - interval f })
 unfolding stepBackOf preceding dayBefore
-first-frame-back-to-last f length kind k l m =
-    step-answers f newYear length kind k (record { first = omega arith; last = omega arith; below = omega arith; grid = zero-mod (interval f); carried = λ n. omega arith }) l
-    (year-range length l .0) m (omega (arith, day-end-range f kind)) (To (record { day = length; hundredths = dayEnd f kind - interval f }))
+first-frame-back-to-last f year given kind k y l m =
+    let length = length-in f (yearOfTimeBefore f (newYear year)) given l in
+    step-answers f (newYear year) (lengthBefore f (newYear year) given) kind k
+    (record { year-is = y; first = omega arith; in-year = omega (arith, last-range f year); last = omega arith; below = omega arith; grid = zero-mod (interval f); carried = λ n. omega arith })
+    length (year-range (lengthBefore f (newYear year) given) length .0) m (omega (arith, day-end-range f kind))
+    (To (record { year = yearOfTimeBefore f (newYear year); day = lengthBefore f (newYear year) given; hundredths = dayEnd f kind - interval f }))
 
 -- Next after, read backwards, is some step back.
 pub next-after-backwards : (f : Format) (t u : Time) → (nextAfter f t u ≡ true) ↔ Precedes f t u
 next-after-backwards f t u = (λ h. follows-precedes f t u (next-follows f t u h), λ h. follows-next f t u (precedes-follows f t u h))
 
 -- A step back is a time that Write takes.
-pub back-stays-on-format : (f : Format) (t u : Time) → Precedes f t u → (onFormat f t ≡ true) × (secondCarried f t ≡ true)
-back-stays-on-format f t u s = let o = back-on-format f t u s in (is-on-format f t o, is-carried f t o)
+pub back-stays-on-format : (f : Format) (t u : Time) → Precedes f t u → (onFormat f t ≡ true) × (secondCarried f t ≡ true) × (yearCarried f (t .year) ≡ true)
+back-stays-on-format f t u s = let o = back-on-format f t u s in (is-on-format f t o, is-carried f t o, o .year-is)
 
 -- D, E and H step back as usual for every kind.
-pub back-as-usual-without-leap : (f : Format) (t : Time) (length kind : ℕ) → carriesLeap f ≡ false → member kind kinds ≡ true → stepBackOf f t length kind ≡ stepBackOf f t length usual
+pub back-as-usual-without-leap : (f : Format) (t : Time) (given kind : ℕ) → carriesLeap f ≡ false → member kind kinds ≡ true → stepBackOf f t given kind ≡ stepBackOf f t given usual
 unfolding stepBackOf onDay preceding
-back-as-usual-without-leap f t length kind m h = rw (h, usual-end f kind m, usual-end f usual m)
+back-as-usual-without-leap f t given kind m h = rw (h, usual-end f kind m, usual-end f usual m)
 
 -- A generator received in reverse: each frame's time is a step back of the one that was sent after it.
 pub generators-run-backwards : (f : Format) (sent : List Sent) → Generator f sent → (j : ℕ) → suc j < length sent → Precedes f (sentAt sent j .time) (sentAt sent (suc j) .time)
 generators-run-backwards f sent g j h = follows-precedes f (sentAt sent j .time) (sentAt sent (suc j) .time) (g .steps j h)
+
+-- ---- The year. Demand 2, demand 3 and the theorems on both steps hold for every format, so for those with the year too.
+
+-- Where the format carries the year, both steps take the year's own length and ignore one given.
+pub given-length-ignored : (f : Format) (t : Time) (a b kind : ℕ) → carriesYear f ≡ true → (stepOf f t a kind ≡ stepOf f t b kind) × (stepBackOf f t a kind ≡ stepBackOf f t b kind)
+given-length-ignored f t a b kind y = (any-length f t a b kind y, any-length-back f t a b kind y)

@@ -1,5 +1,6 @@
 -- Document 01, "Elements and formats": the formats, their table, and the times that lie on them.
 -- Document 02, "Leap second": a second may be added to a day or taken from it; A, B and G carry that.
+-- Document 02, "The year on the wire": A and B carry the year in expressions 4 to 7.
 use mathlib.Core.Path.{_≡_}
 use mathlib.Core.Bool.{Bool, true, false, cond, _&&_, _||_}
 use mathlib.Core.List.{List, [], _∷_}
@@ -36,7 +37,7 @@ G = 71
 abbrev pub H : ℕ
 H = 72
 
--- A line of the table: the letter, the expressions that it takes, n, S, and where each nine control bits begin.
+-- A line of the table: the letter, the expressions that it takes, n, S, and where each nine control bits begin in an expression without the year.
 pub record Row : Type 0 where
   pub letter : ℕ
   pub expressions : List ℕ
@@ -46,8 +47,8 @@ pub record Row : Type 0 where
 
 unfoldable pub table : List Row
 table =
-    record { letter = A; expressions = 0 ∷ 1 ∷ 2 ∷ 3 ∷ []; elements = 100; interval = 10; control = 50 ∷ 60 ∷ 70 ∷ [] }
-    ∷ record { letter = B; expressions = 0 ∷ 1 ∷ 2 ∷ 3 ∷ []; elements = 100; interval = 100; control = 50 ∷ 60 ∷ 70 ∷ [] }
+    record { letter = A; expressions = 0 ∷ 1 ∷ 2 ∷ 3 ∷ 4 ∷ 5 ∷ 6 ∷ 7 ∷ []; elements = 100; interval = 10; control = 50 ∷ 60 ∷ 70 ∷ [] }
+    ∷ record { letter = B; expressions = 0 ∷ 1 ∷ 2 ∷ 3 ∷ 4 ∷ 5 ∷ 6 ∷ 7 ∷ []; elements = 100; interval = 100; control = 50 ∷ 60 ∷ 70 ∷ [] }
     ∷ record { letter = D; expressions = 1 ∷ 2 ∷ []; elements = 60; interval = 360000; control = 50 ∷ [] }
     ∷ record { letter = E; expressions = 1 ∷ 2 ∷ []; elements = 100; interval = 1000; control = 50 ∷ 60 ∷ 70 ∷ 80 ∷ 90 ∷ [] }
     ∷ record { letter = G; expressions = 1 ∷ 2 ∷ []; elements = 100; interval = 1; control = 60 ∷ 70 ∷ 80 ∷ 90 ∷ [] }
@@ -77,14 +78,21 @@ size f = rowOf f .elements
 unfoldable pub interval : Format → ℕ
 interval f = rowOf f .interval
 
--- 0 = BCD, CF, SBS; 1 = BCD, CF; 2 = BCD; 3 = BCD, SBS
+-- 0 = BCD, CF, SBS; 1 = BCD, CF; 2 = BCD; 3 = BCD, SBS; 4 to 7 are 0 to 3 with the year
 unfoldable pub carriesControl : Format → Bool
-carriesControl f = member (f .expression) (0 ∷ 1 ∷ [])
+carriesControl f = member (f .expression) (0 ∷ 1 ∷ 4 ∷ 5 ∷ [])
 
 unfoldable pub carriesSeconds : Format → Bool
-carriesSeconds f = member (f .expression) (0 ∷ 3 ∷ [])
+carriesSeconds f = member (f .expression) (0 ∷ 3 ∷ 4 ∷ 7 ∷ [])
 
--- A time is a day (1 to 366) and c, hundredths of a second since midnight (0 to 8,640,099: a day may have a second added).
+unfoldable pub carriesYear : Format → Bool
+carriesYear f = member (f .expression) (4 ∷ 5 ∷ 6 ∷ 7 ∷ []) && member (f .letter) (A ∷ B ∷ [])
+
+-- where each nine control bits begin: with the year they are left at 60-68 and 70-78
+unfoldable pub controlPlaces : Format → List ℕ
+controlPlaces f = cond (carriesYear f) (60 ∷ 70 ∷ []) (rowOf f .control)
+
+-- A time is a year, a day (1 to 366) and c, hundredths of a second since midnight (0 to 8,640,099: a day may have a second added).
 abbrev pub lastDay : ℕ
 lastDay = 366
 
@@ -95,12 +103,28 @@ lastHundredth = 8640099
 abbrev pub dayLength : ℕ
 dayLength = 8640000
 
-unfoldable pub inRange : Time → Bool
-inRange t = leb 1 (t .day) && (leb (t .day) lastDay && leb (t .hundredths) lastHundredth)
+-- Years mean 2000 to 2099, and every fourth from 2000 has 366 days.
+abbrev pub lastYear : ℕ
+lastYear = 99
+
+unfoldable pub daysIn : ℕ → ℕ
+daysIn year = cond (eqb (year % 4) 0) 366 365
+
+-- number 17: the year is at most 99, and 0 in a format without one
+unfoldable pub yearCarried : Format → ℕ → Bool
+yearCarried f year = cond (carriesYear f) (leb year lastYear) (eqb year 0)
+
+-- the last day of a year: where the format carries the year, that year's own
+unfoldable pub lastDayIn : Format → ℕ → ℕ
+lastDayIn f year = cond (carriesYear f) (daysIn year) lastDay
+
+-- day and c are in range, the day up to that last one
+unfoldable pub inRange : ℕ → Time → Bool
+inRange last t = leb 1 (t .day) && (leb (t .day) last && leb (t .hundredths) lastHundredth)
 
 -- number 2: day and c are in range, and S divides c
 unfoldable pub onFormat : Format → Time → Bool
-onFormat f t = inRange t && eqb (t .hundredths % interval f) 0
+onFormat f t = inRange (lastDayIn f (t .year)) t && eqb (t .hundredths % interval f) 0
 
 -- A, B and G carry an added or taken second; D, E and H do not.
 unfoldable pub carriesLeap : Format → Bool
@@ -110,9 +134,11 @@ carriesLeap f = member (f .letter) (A ∷ B ∷ G ∷ [])
 unfoldable pub secondCarried : Format → Time → Bool
 secondCarried f t = cond (carriesLeap f) true (ltb (t .hundredths) dayLength)
 
--- a time that passes numbers 2 and 14, part by part
+-- a time that passes numbers 17, 2 and 14, part by part; the year's last day is at most 366
 pub record OnFormat (f : Format) (t : Time) : Type 0 where
+  pub year-is : yearCarried f (t .year) ≡ true
   pub first : 1 ≤ t .day
+  pub in-year : t .day ≤ lastDayIn f (t .year)
   pub last : t .day ≤ lastDay
   pub below : t .hundredths ≤ lastHundredth
   pub grid : t .hundredths % interval f ≡ 0

@@ -1,5 +1,5 @@
 -- Document 01, "Stepping, writing, reading": Step and next after, Write, Read, and the generator.
--- Document 02: the step back; both steps are given the kind of the earlier time's day, and 23:59:60 is read where it is carried.
+-- Document 02: the step back; both steps are given the kind of the earlier time's day, and 23:59:60 is read where it is carried. Where the format carries the year, it gives the year's length.
 use mathlib.Core.Path.{_≡_}
 use mathlib.Core.Bool.{Bool, true, false, cond, not, _&&_, _||_}
 use mathlib.Core.List.{List, [], _∷_, _++_}
@@ -8,12 +8,12 @@ use Prim.Native.Nat.{ℕ, suc, _+_, _-_, _*_, _/_, _^_, _<_}
 use lib.Dec.{leb, ltb, eqb}
 use lib.ListN.{getD, length}
 use Rattle.timecode.specs.Answers.{check}
-use Rattle.timecode.specs.Formats.{member, isSymbol, known, size, interval, lastDay, dayLength, onFormat, carriesLeap, secondCarried, OnFormat}
-use Rattle.timecode.specs.Layout.{Run, Field, seconds, minutes, hours, days, tenths, hundredthsDigit, hasSeconds, straightSeconds, control, timeFields, fields, flatten, runs, numbers, allDigits, inRun, filler, encode, digitIn, numberIn}
+use Rattle.timecode.specs.Formats.{member, isSymbol, known, size, interval, carriesYear, dayLength, lastYear, daysIn, yearCarried, lastDayIn, onFormat, carriesLeap, secondCarried, OnFormat}
+use Rattle.timecode.specs.Layout.{Run, Field, seconds, minutes, hours, days, tenths, hundredthsDigit, hasSeconds, straightSeconds, control, years, timeFields, fields, flatten, runs, numbers, allDigits, inRun, filler, encode, digitIn, numberIn}
 use Rattle.timecode.specs.declared.Format.{Format}
 use Rattle.timecode.specs.declared.Reading.{Reading}
 use Rattle.timecode.specs.declared.Reading.the-variants.{Accepted}
-use Rattle.timecode.specs.declared.Refusal.the-variants.{UnknownFormat, InvalidTime, WrongLength, UnknownSymbol, MisplacedMark, InvalidElement, InvalidDigit, SecondsDiffer, ControlTooLong, InvalidYearLength, SecondNotCarried, InvalidKind}
+use Rattle.timecode.specs.declared.Refusal.the-variants.{UnknownFormat, InvalidTime, WrongLength, UnknownSymbol, MisplacedMark, InvalidElement, InvalidDigit, SecondsDiffer, ControlTooLong, InvalidYearLength, SecondNotCarried, InvalidKind, InvalidYear}
 use Rattle.timecode.specs.declared.Stepped.{Stepped}
 use Rattle.timecode.specs.declared.Stepped.the-variants.{To}
 use Rattle.timecode.specs.declared.Time.{Time}
@@ -24,23 +24,27 @@ use Rattle.timecode.specs.declared.Written.the-variants.{Done}
 
 -- stands for the time of a frame that there is not, which nothing asks for
 abbrev pub noTime : Time
-noTime = record { day = 0; hundredths = 0 }
+noTime = record { year = 0; day = 0; hundredths = 0 }
 
 -- the same day at c
 abbrev pub sameDayAt : Time → ℕ → Time
-sameDayAt t c = record { day = t .day; hundredths = c }
+sameDayAt t c = record { year = t .year; day = t .day; hundredths = c }
 
 -- the first frame of a year
-abbrev pub newYear : Time
-newYear = record { day = 1; hundredths = 0 }
+abbrev pub newYear : ℕ → Time
+newYear year = record { year = year; day = 1; hundredths = 0 }
 
 abbrev pub sameTime : Time → Time → Bool
-sameTime t u = eqb (t .day) (u .day) && eqb (t .hundredths) (u .hundredths)
+sameTime t u = eqb (t .year) (u .year) && (eqb (t .day) (u .day) && eqb (t .hundredths) (u .hundredths))
 
 -- ---- Step
 
 abbrev pub yearLengths : List ℕ
 yearLengths = 365 ∷ 366 ∷ []
+
+-- The length of a year: where the format carries the year, that year's own, and else the one that is given.
+unfoldable pub lengthIn : Format → ℕ → ℕ → ℕ
+lengthIn f year given = cond (carriesYear f) (daysIn year) given
 
 -- number 11: the year's length is 365 or 366, and the day is not beyond it
 unfoldable pub inYear : Time → ℕ → Bool
@@ -49,6 +53,14 @@ inYear t length = member length yearLengths && leb (t .day) length
 -- day + 1, and after the year's last day day 1
 unfoldable pub dayAfter : ℕ → ℕ → ℕ
 dayAfter day length = cond (eqb day length) 1 (day + 1)
+
+-- Year 99 is followed by 0.
+unfoldable pub yearAfter : ℕ → ℕ
+yearAfter year = cond (eqb year lastYear) 0 (year + 1)
+
+-- the year of the day after: where the format carries it, the next one after the year's last day
+unfoldable pub yearOfDayAfter : Format → Time → ℕ → ℕ
+yearOfDayAfter f t length = cond (carriesYear f && eqb (t .day) length) (yearAfter (t .year)) (t .year)
 
 -- The kind of a day: usual, a second added, a second taken.
 abbrev pub usual : ℕ
@@ -80,30 +92,31 @@ abbrev pub sameDay : Format → Time → Time
 sameDay f t = sameDayAt t (t .hundredths + interval f)
 
 -- the first frame of the day after
-abbrev pub nextDay : Time → ℕ → Time
-nextDay t length = record { day = dayAfter (t .day) length; hundredths = 0 }
+abbrev pub nextDay : Format → Time → ℕ → Time
+nextDay f t length = record { year = yearOfDayAfter f t length; day = dayAfter (t .day) length; hundredths = 0 }
 
 -- c + S, or at the day's end the day after and c = 0
 unfoldable pub following : Format → Time → ℕ → ℕ → Time
-following f t length kind = cond (eqb (t .hundredths + interval f) (dayEnd f kind)) (nextDay t length) (sameDay f t)
+following f t length kind = cond (eqb (t .hundredths + interval f) (dayEnd f kind)) (nextDay f t length) (sameDay f t)
 
--- Both steps check the time that is given with 1, 2, 14, 11, 15. The kind is that of the earlier time's day.
+-- Both steps check the time that is given with 1, 17, 2, 14, 11, 15. The kind is that of the earlier time's day.
 abbrev pub checkStep : Format → Time → ℕ → ℕ → Stepped → Stepped
 checkStep f t length kind answer =
     check Stepped.Refused UnknownFormat (known f)  -- 1
+    (check Stepped.Refused InvalidYear (yearCarried f (t .year))  -- 17
     (check Stepped.Refused InvalidTime (onFormat f t)  -- 2
     (check Stepped.Refused SecondNotCarried (secondCarried f t)  -- 14
     (check Stepped.Refused InvalidYearLength (inYear t length)  -- 11
     (check Stepped.Refused InvalidKind (onDay f t kind)  -- 15
-    answer))))
+    answer)))))
 
 -- Step in a year of that length
 abbrev pub stepBy : Format → Time → ℕ → ℕ → Stepped
 stepBy f t length kind = checkStep f t length kind (To (following f t length kind))
 
--- the length is the one that is given
+-- The length is that of the time's year.
 unfoldable pub stepOf : Format → Time → ℕ → ℕ → Stepped
-stepOf f t given kind = stepBy f t given kind
+stepOf f t given kind = stepBy f t (lengthIn f (t .year) given) kind
 
 -- u is the step of t for a year length and a kind that Step takes
 abbrev pub Follows : Format → Time → Time → Type 0
@@ -143,24 +156,32 @@ Turn f u v = YearTurn u v ⊎ LeapTurn f u v
 unfoldable pub dayBefore : ℕ → ℕ → ℕ
 dayBefore day length = cond (eqb day 1) length (day - 1)
 
+-- Before year 0 comes 99.
+unfoldable pub yearBefore : ℕ → ℕ
+yearBefore year = cond (eqb year 0) lastYear (year - 1)
+
+-- the year of the time before: where the format carries it, the one before at day 1, c = 0
+unfoldable pub yearOfTimeBefore : Format → Time → ℕ
+yearOfTimeBefore f t = cond (carriesYear f && (eqb (t .day) 1 && eqb (t .hundredths) 0)) (yearBefore (t .year)) (t .year)
+
 -- the frame before on the same day
 abbrev pub sameDayBefore : Format → Time → Time
 sameDayBefore f t = sameDayAt t (t .hundredths - interval f)
 
 -- the last frame of the day before, which is of that kind
 abbrev pub lastBefore : Format → Time → ℕ → ℕ → Time
-lastBefore f t length kind = record { day = dayBefore (t .day) length; hundredths = dayEnd f kind - interval f }
+lastBefore f t length kind = record { year = yearOfTimeBefore f t; day = dayBefore (t .day) length; hundredths = dayEnd f kind - interval f }
 
 -- c - S, or at c = 0 the last frame of the day before
 unfoldable pub preceding : Format → Time → ℕ → ℕ → Time
 preceding f t length kind = cond (eqb (t .hundredths) 0) (lastBefore f t length kind) (sameDayBefore f t)
 
--- The year and the kind are those of the time before; the checks are Step's.
+-- The length and the kind are those of the time before; the checks are Step's.
 abbrev pub stepBackBy : Format → Time → ℕ → ℕ → Stepped
 stepBackBy f t length kind = checkStep f t length kind (To (preceding f t length kind))
 
 unfoldable pub stepBackOf : Format → Time → ℕ → ℕ → Stepped
-stepBackOf f t given kind = stepBackBy f t given kind
+stepBackOf f t given kind = stepBackBy f t (lengthIn f (yearOfTimeBefore f t) given) kind
 
 -- t is the step back of u for a year length and a kind that it takes
 abbrev pub Precedes : Format → Time → Time → Type 0
@@ -187,15 +208,16 @@ pub record Valid (f : Format) (t : Time) (w : ℕ) : Type 0 where
   pub time : OnFormat f t
   pub room : w < 2 ^ totalWidth (control f)
 
--- Write checks 1, 2, 14, 9, 3.
+-- Write checks 1, 17, 2, 14, 9, 3.
 unfoldable pub writeOf : Format → Time → ℕ → List ℕ → Written
 writeOf f t w lent =
     check Written.Refused UnknownFormat (known f)  -- 1
+    (check Written.Refused InvalidYear (yearCarried f (t .year))  -- 17
     (check Written.Refused InvalidTime (onFormat f t)  -- 2
     (check Written.Refused SecondNotCarried (secondCarried f t)  -- 14
     (check Written.Refused ControlTooLong (controlFits f w)  -- 9
     (check Written.Refused WrongLength (eqb (length lent) (size f))  -- 3
-    Done))))
+    Done)))))
 
 -- lent memory after a call: new contents where it was done, and the old where it was refused
 abbrev pub left : Written → List ℕ → List ℕ → List ℕ
@@ -252,19 +274,20 @@ areDigits frame (r ∷ rs) = leb (digitIn frame r) 9 && areDigits frame rs
 unfoldable pub lastSecond : Format → ℕ → ℕ → ℕ
 lastSecond f hour minute = cond (carriesLeap f && (eqb hour 23 && eqb minute 59)) 60 59
 
--- number 7: no digit over 9, hours over 23, minutes over 59, seconds over the minute's last, day 0 or over 366
+-- number 7: no digit over 9, hours over 23, minutes over 59, seconds over the minute's last, day 0 or over 366, or over the last of a year that the format carries
 unfoldable pub isTime : Format → List ℕ → Bool
 isTime f frame =
-    areDigits frame (flatten (timeFields f))
+    areDigits frame (flatten (timeFields f) ++ years f)
     && (leb (numberIn frame (hours f)) 23
     && (leb (numberIn frame (minutes f)) 59
     && (leb (numberIn frame (seconds f)) (lastSecond f (numberIn frame (hours f)) (numberIn frame (minutes f)))
-    && (leb 1 (numberIn frame (days f)) && leb (numberIn frame (days f)) lastDay))))
+    && (leb 1 (numberIn frame (days f)) && leb (numberIn frame (days f)) (lastDayIn f (numberIn frame (years f)))))))
 
 -- the time that the digits say
 unfoldable pub timeIn : Format → List ℕ → Time
 timeIn f frame =
     record {
+      year = numberIn frame (years f);
       day = numberIn frame (days f);
       hundredths = ((numberIn frame (hours f) * 60 + numberIn frame (minutes f)) * 60 + numberIn frame (seconds f)) * 100 + numberIn frame (tenths f) * 10 + numberIn frame (hundredthsDigit f);
     }

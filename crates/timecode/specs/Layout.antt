@@ -1,10 +1,10 @@
--- Document 01, "Where each element stands": the runs of elements that carry digits and bits, and the symbol at each index of a frame.
+-- Document 01, "Where each element stands", with document 02's year: the runs of elements that carry digits and bits, and the symbol at each index of a frame.
 use mathlib.Core.Bool.{Bool, cond, _&&_, _||_}
 use mathlib.Core.List.{List, [], _∷_, _++_, map}
 use Prim.Native.Nat.{ℕ, zero, suc, _+_, _*_, _-_, _/_, _%_, _^_, _<_}
 use lib.Dec.{leb, ltb, eqb}
 use lib.ListN.{getD}
-use Rattle.timecode.specs.Formats.{A, B, E, G, H, member, rowOf, carriesControl, carriesSeconds, dayLength}
+use Rattle.timecode.specs.Formats.{A, B, E, G, H, member, carriesControl, carriesSeconds, carriesYear, controlPlaces, dayLength}
 use Rattle.timecode.specs.declared.Format.{Format}
 use Rattle.timecode.specs.declared.Time.{Time}
 
@@ -24,9 +24,13 @@ Field = List Run
 abbrev pub decimalRun : ℕ → ℕ → Run
 decimalRun start width = record { start = start; width = width; radix = 10 }
 
+-- the same, where it is carried
+abbrev pub decimalIf : Bool → ℕ → ℕ → Run
+decimalIf carried start width = decimalRun start (cond carried width 0)
+
 -- the same, carried by these letters
 abbrev pub decimalIn : List ℕ → Format → ℕ → ℕ → Run
-decimalIn letters f start width = decimalRun start (cond (member (f .letter) letters) width 0)
+decimalIn letters f start width = decimalIf (member (f .letter) letters) start width
 
 -- bits of a binary number, where they are carried
 abbrev pub binaryIf : Bool → ℕ → ℕ → Run
@@ -63,15 +67,19 @@ hasSeconds f = carriesSeconds f && member (f .letter) (A ∷ B ∷ [])
 unfoldable pub straightSeconds : Format → Field
 straightSeconds f = binaryIf (hasSeconds f) 80 9 ∷ binaryIf (hasSeconds f) 90 8 ∷ []
 
--- Control bit 1, the lowest, takes the first place of the ranges of nine that the table lists; the rest follow in rising index.
+-- Control bit 1, the lowest, takes the first place of the format's ranges of nine; the rest follow in rising index.
 unfoldable pub control : Format → Field
-control f = map (λ (start : ℕ). binaryIf (carriesControl f) start 9) (rowOf f .control)
+control f = map (λ (start : ℕ). binaryIf (carriesControl f) start 9) (controlPlaces f)
+
+-- the year: units 50-53, tens 55-58 (A, B, expressions 4 to 7)
+unfoldable pub years : Format → Field
+years f = decimalIf (carriesYear f) 50 4 ∷ decimalIf (carriesYear f) 55 4 ∷ []
 
 unfoldable pub timeFields : Format → List Field
 timeFields f = seconds f ∷ minutes f ∷ hours f ∷ days f ∷ tenths f ∷ hundredthsDigit f ∷ []
 
 unfoldable pub fields : Format → List Field
-fields f = timeFields f ++ (straightSeconds f ∷ control f ∷ [])
+fields f = timeFields f ++ (straightSeconds f ∷ control f ∷ years f ∷ [])
 
 abbrev pub flatten : List Field → List Run
 flatten [] = []
@@ -101,7 +109,7 @@ timeNumbers t = second (t .hundredths) ∷ minute (t .hundredths) ∷ hour (t .h
 
 -- SBS is the whole seconds c / 100, 86,400 in the added second
 unfoldable pub numbers : Time → ℕ → List ℕ
-numbers t w = timeNumbers t ++ (t .hundredths / 100 ∷ w ∷ [])
+numbers t w = timeNumbers t ++ (t .hundredths / 100 ∷ w ∷ t .year ∷ [])
 
 -- the digits of a number in a field, lowest first
 abbrev pub fieldDigits : Field → ℕ → List ℕ

@@ -8,9 +8,9 @@ use lib.IntN.{ℤ, pos, negsuc}
 use lib.ListN.{length, drop, set, replicate}
 use Rattle.timecode.specs.Answers.{Result, writtenResult, readingResult, steppedResult, subtractedResult, classifiedResult, scannedResult, answerResult}
 use Rattle.timecode.specs.Calls.{symbolOf, isInterval, classifyOf, symbolsOf, classifyListOf, classifyListLeaves, differenceOf, partAt, lowestOf, scanOf}
-use Rattle.timecode.specs.Formats.{A, B, D, E, G, H, table, lookUp, rowOf, known, size, interval, carriesControl, carriesSeconds, inRange, onFormat, carriesLeap, secondCarried}
-use Rattle.timecode.specs.Frames.{newYear, inYear, dayAfter, usual, secondAdded, secondTaken, dayLengthOf, dayEnd, onDay, following, stepOf, nextAfter, written, controlFits, writeOf, writeLeaves, marksAgree, elementFits, checkElements, lastSecond, isTime, timeIn, secondsAgree, readOf}
-use Rattle.timecode.specs.Layout.{seconds, minutes, hours, days, tenths, hundredthsDigit, hasSeconds, straightSeconds, control, timeFields, fields, runs, timeNumbers, numbers, isMark, filler, symbolAt, encode, value}
+use Rattle.timecode.specs.Formats.{A, B, D, E, G, H, table, lookUp, rowOf, known, size, interval, carriesControl, carriesSeconds, carriesYear, controlPlaces, daysIn, yearCarried, lastDayIn, inRange, onFormat, carriesLeap, secondCarried}
+use Rattle.timecode.specs.Frames.{newYear, lengthIn, inYear, dayAfter, yearAfter, yearOfDayAfter, usual, secondAdded, secondTaken, dayLengthOf, dayEnd, onDay, following, stepOf, nextAfter, written, controlFits, writeOf, writeLeaves, marksAgree, elementFits, checkElements, lastSecond, isTime, timeIn, secondsAgree, readOf}
+use Rattle.timecode.specs.Layout.{seconds, minutes, hours, days, tenths, hundredthsDigit, hasSeconds, straightSeconds, control, years, timeFields, fields, runs, timeNumbers, numbers, isMark, filler, symbolAt, encode, value}
 use Rattle.timecode.specs.Stream.{twoFrames, windowLength, frameIn, nextInRow, inRow, windowAnswer, lastOf, plainAnswer}
 use Rattle.timecode.specs.declared.Format.{Format}
 use Rattle.timecode.specs.declared.Time.{Time}
@@ -41,18 +41,18 @@ lent f = replicate (size f) 0
 abbrev format : ℕ → ℕ → Format
 format letter expression = record { letter = letter; expression = expression }
 
--- the expressions below 8, from e on, with which Write takes the letter at day 1, c 0, each after the letter
+-- the expressions below 9, from e on, with which Write takes the letter at day 1, c 0, each after the letter
 abbrev expressionsFrom : ℕ → ℕ → ℕ → List ℤ
 expressionsFrom letter zero e = []
 expressionsFrom letter (suc k) e =
-    cond (eqb (writtenResult (writeOf (format letter e) newYear 0 (lent (format letter e))) .number) 0)
+    cond (eqb (writtenResult (writeOf (format letter e) (newYear 0) 0 (lent (format letter e))) .number) 0)
     (pos letter ∷ (pos e ∷ expressionsFrom letter k (suc e)))
     (expressionsFrom letter k (suc e))
 
 -- the same for k letters, from that one on
 abbrev formatsFrom : ℕ → ℕ → List ℤ
 formatsFrom letter zero = []
-formatsFrom letter (suc k) = expressionsFrom letter 8 0 ++ formatsFrom (suc letter) k
+formatsFrom letter (suc k) = expressionsFrom letter 9 0 ++ formatsFrom (suc letter) k
 
 abbrev pub resultOf : Call → Result
 resultOf (step f t year kind) = steppedResult (stepOf f t year kind)
@@ -85,7 +85,10 @@ abbrev _refused_at_ : Call → ℕ → ℕ → Line
 c refused k at i = record { call = c; result = record { number = k; values = pos i ∷ [] } }
 
 abbrev time : ℕ → ℕ → Time
-time day hundredths = record { day = day; hundredths = hundredths }
+time day hundredths = record { year = 0; day = day; hundredths = hundredths }
+
+abbrev dated : ℕ → ℕ → ℕ → Time
+dated year day hundredths = record { year = year; day = day; hundredths = hundredths }
 
 abbrev indices : List ℕ → List ℤ
 indices is = map pos is
@@ -100,8 +103,8 @@ lines =
     -- B0 at 14:08:32: SBS 50,912
     ∷ (ones 80 (format B 0) (time 191 5091200) 0 gives indices (85 ∷ 86 ∷ 87 ∷ 90 ∷ 91 ∷ 95 ∷ 96 ∷ []))
     -- the end of the year
-    ∷ (step (format B 0) (time 365 8639900) 365 usual gives indices (1 ∷ 0 ∷ []))
-    ∷ (step (format B 0) (time 365 8639900) 366 usual gives indices (366 ∷ 0 ∷ []))
+    ∷ (step (format B 0) (time 365 8639900) 365 usual gives indices (0 ∷ 1 ∷ 0 ∷ []))
+    ∷ (step (format B 0) (time 365 8639900) 366 usual gives indices (0 ∷ 366 ∷ 0 ∷ []))
     -- control words
     ∷ (ones 50 (format H 1) (time 191 5088000) 511 gives indices (50 ∷ 51 ∷ 52 ∷ 53 ∷ 54 ∷ 55 ∷ 56 ∷ 57 ∷ 58 ∷ []))
     ∷ (write (format H 1) (time 191 5088000) 512 refused 9)
@@ -119,7 +122,7 @@ lines =
     ∷ (classify 1000 149 1000 gives indices (3 ∷ []))
     ∷ (classify 1000 251 1000 gives indices (3 ∷ []))
     -- which letters, in ASCII, take which expressions
-    ∷ (formats gives indices (65 ∷ 0 ∷ 65 ∷ 1 ∷ 65 ∷ 2 ∷ 65 ∷ 3 ∷ 66 ∷ 0 ∷ 66 ∷ 1 ∷ 66 ∷ 2 ∷ 66 ∷ 3 ∷ 68 ∷ 1 ∷ 68 ∷ 2 ∷ 69 ∷ 1 ∷ 69 ∷ 2 ∷ 71 ∷ 1 ∷ 71 ∷ 2 ∷ 72 ∷ 1 ∷ 72 ∷ 2 ∷ []))
+    ∷ (formats gives indices (65 ∷ 0 ∷ 65 ∷ 1 ∷ 65 ∷ 2 ∷ 65 ∷ 3 ∷ 65 ∷ 4 ∷ 65 ∷ 5 ∷ 65 ∷ 6 ∷ 65 ∷ 7 ∷ 66 ∷ 0 ∷ 66 ∷ 1 ∷ 66 ∷ 2 ∷ 66 ∷ 3 ∷ 66 ∷ 4 ∷ 66 ∷ 5 ∷ 66 ∷ 6 ∷ 66 ∷ 7 ∷ 68 ∷ 1 ∷ 68 ∷ 2 ∷ 69 ∷ 1 ∷ 69 ∷ 2 ∷ 71 ∷ 1 ∷ 71 ∷ 2 ∷ 72 ∷ 1 ∷ 72 ∷ 2 ∷ []))
     -- expression 3 carries no control bits, expression 1 no SBS
     ∷ (write (format A 3) (time 1 0) 1 refused 9)
     ∷ (ones 80 (format B 1) (time 191 5091200) 0 gives [])
@@ -145,15 +148,23 @@ lines =
     -- Difference asks both times
     ∷ (difference (time 1 0) (time 0 0) refused 2)
     -- the listing's two frames behind a mark: the second is reported
-    ∷ (feed (format H 1) (2 ∷ (written (format H 1) (time 191 5088000) 0 ++ written (format H 1) (time 191 5094000) 9)) gives indices (191 ∷ 5094000 ∷ 9 ∷ []))
-    -- Write asks 1, 2, 14, 9, 3
+    ∷ (feed (format H 1) (2 ∷ (written (format H 1) (time 191 5088000) 0 ++ written (format H 1) (time 191 5094000) 9)) gives indices (0 ∷ 191 ∷ 5094000 ∷ 9 ∷ []))
+    -- Write asks 1, 17, 2, 14, 9, 3
     ∷ (write (format D 0) (time 0 0) 512 refused 1)
+    ∷ (write (format D 0) (dated 1 0 0) 512 refused 1)
+    ∷ (write (format B 3) (dated 1 367 0) 1 refused 17)
+    ∷ (write (format B 4) (dated 100 366 0) 262144 refused 17)
+    ∷ (write (format B 4) (dated 1 366 0) 262144 refused 2)
     ∷ (write (format E 1) (time 181 8640010) 0 refused 2)
     ∷ (write (format H 1) (time 181 8640000) 512 refused 14)
     ∷ (writeInto 59 (format H 1) (time 181 0) 512 refused 9)
     ∷ (writeInto 59 (format H 1) (time 181 0) 511 refused 3)
-    -- Step asks 1, 2, 14, 11, 15
-    ∷ (step (format B 4) (time 0 8640000) 364 3 refused 1)
+    -- Step asks 1, 17, 2, 14, 11, 15
+    ∷ (step (format B 8) (time 0 8640000) 364 3 refused 1)
+    ∷ (step (format B 0) (dated 1 367 0) 364 3 refused 17)
+    ∷ (step (format B 4) (dated 100 366 0) 364 3 refused 17)
+    ∷ (step (format B 4) (dated 23 366 0) 366 3 refused 2)
+    ∷ (step (format B 4) (dated 24 366 0) 364 3 refused 15)
     ∷ (step (format E 1) (time 0 8640000) 364 3 refused 2)
     ∷ (step (format H 1) (time 181 8640000) 364 3 refused 14)
     ∷ (step (format B 0) (time 181 8640000) 364 3 refused 11)
@@ -171,22 +182,45 @@ lines =
     ∷ (read (format B 0) (set (written (format B 0) (time 367 100) 0) 80 0) refused 7)
     ∷ (read (format B 0) (set (written (format B 0) (time 1 100) 0) 80 0) refused 8)
     -- Scan asks 1, 12
-    ∷ (scan (format B 4) (replicate 4 2) 5 refused 1)
+    ∷ (scan (format B 8) (replicate 4 2) 5 refused 1)
     ∷ (scan (format B 0) (replicate 4 2) 5 refused 12)
     -- what Read and Scan give: one mark and one frame are enough for Scan
-    ∷ (read (format B 0) (written (format B 0) (time 181 8640000) 5) gives indices (181 ∷ 8640000 ∷ 5 ∷ []))
-    ∷ (scan (format H 1) (3 ∷ 2 ∷ written (format H 1) (time 191 5088000) 7) 0 gives indices (2 ∷ 191 ∷ 5088000 ∷ 7 ∷ []))
+    ∷ (read (format B 0) (written (format B 0) (time 181 8640000) 5) gives indices (0 ∷ 181 ∷ 8640000 ∷ 5 ∷ []))
+    ∷ (scan (format H 1) (3 ∷ 2 ∷ written (format H 1) (time 191 5088000) 7) 0 gives indices (2 ∷ 0 ∷ 191 ∷ 5088000 ∷ 7 ∷ []))
     -- a day with a second added, a day with one taken, the end of a year of 366 days
-    ∷ (step (format B 0) (time 181 8639900) 365 secondAdded gives indices (181 ∷ 8640000 ∷ []))
-    ∷ (step (format A 0) (time 181 8639990) 365 secondAdded gives indices (181 ∷ 8640000 ∷ []))
-    ∷ (step (format G 1) (time 181 8640099) 365 secondAdded gives indices (182 ∷ 0 ∷ []))
-    ∷ (step (format B 0) (time 181 8639800) 365 secondTaken gives indices (182 ∷ 0 ∷ []))
-    ∷ (step (format D 2) (time 366 8280000) 366 usual gives indices (1 ∷ 0 ∷ []))
+    ∷ (step (format B 0) (time 181 8639900) 365 secondAdded gives indices (0 ∷ 181 ∷ 8640000 ∷ []))
+    ∷ (step (format A 0) (time 181 8639990) 365 secondAdded gives indices (0 ∷ 181 ∷ 8640000 ∷ []))
+    ∷ (step (format G 1) (time 181 8640099) 365 secondAdded gives indices (0 ∷ 182 ∷ 0 ∷ []))
+    ∷ (step (format B 0) (time 181 8639800) 365 secondTaken gives indices (0 ∷ 182 ∷ 0 ∷ []))
+    ∷ (step (format D 2) (time 366 8280000) 366 usual gives indices (0 ∷ 1 ∷ 0 ∷ []))
     -- the last hundredth of a day with a second added; Difference counts 8,640,000 a day as before
     ∷ (write (format G 1) (time 181 8640100) 0 refused 2)
     ∷ (difference (time 1 8640099) (time 2 0) gives (pos 99 ∷ []))
+    -- the year: with these every place of its digits and of the 18 control bits has a one; expressions 6 and 7 carry no control bits
+    ∷ (ones 50 (format A 4) (dated 99 1 0) 262143 gives indices (50 ∷ 53 ∷ 55 ∷ 58 ∷ 60 ∷ 61 ∷ 62 ∷ 63 ∷ 64 ∷ 65 ∷ 66 ∷ 67 ∷ 68 ∷ 70 ∷ 71 ∷ 72 ∷ 73 ∷ 74 ∷ 75 ∷ 76 ∷ 77 ∷ 78 ∷ []))
+    ∷ (ones 50 (format B 5) (dated 76 1 100) 513 gives indices (51 ∷ 52 ∷ 55 ∷ 56 ∷ 57 ∷ 60 ∷ 70 ∷ []))
+    ∷ (ones 50 (format B 7) (dated 8 1 100) 0 gives indices (53 ∷ 80 ∷ []))
+    ∷ (ones 50 (format A 6) (dated 10 1 10) 0 gives indices (55 ∷ []))
+    ∷ (write (format A 6) (dated 10 1 10) 1 refused 9)
+    -- every fourth year from 2000 has 366 days
+    ∷ (write (format B 4) (dated 0 366 0) 0 gives [])
+    ∷ (write (format B 4) (dated 2 366 0) 0 refused 2)
+    ∷ (write (format B 4) (dated 4 366 0) 0 gives [])
+    ∷ (write (format B 4) (dated 99 366 0) 0 refused 2)
+    ∷ (step (format B 4) (dated 23 365 8639900) 366 usual gives indices (24 ∷ 1 ∷ 0 ∷ []))
+    ∷ (step (format B 4) (dated 24 365 8639900) 365 usual gives indices (24 ∷ 366 ∷ 0 ∷ []))
+    ∷ (step (format B 4) (dated 24 366 8639900) 9 usual gives indices (25 ∷ 1 ∷ 0 ∷ []))
+    -- year 99 is followed by 0
+    ∷ (step (format B 4) (dated 99 365 8639900) 7 usual gives indices (0 ∷ 1 ∷ 0 ∷ []))
+    -- read with the year: day 366 in another year and a tens digit of 10 are 7, a one at the index marker 54 is 6
+    ∷ (read (format B 4) (written (format B 4) (dated 96 366 8640000) 5) gives indices (96 ∷ 366 ∷ 8640000 ∷ 5 ∷ []))
+    ∷ (read (format B 4) (written (format B 4) (dated 97 366 0) 0) refused 7)
+    ∷ (read (format B 4) (set (set (written (format B 4) (dated 0 1 0) 0) 56 1) 58 1) refused 7)
+    ∷ (read (format B 4) (set (written (format B 4) (dated 0 1 0) 0) 54 1) refused 6 at 54)
+    -- Difference passes over the years
+    ∷ (difference (dated 99 2 0) (dated 200 1 8639999) gives (pos 1 ∷ []))
     ∷ []
 
 pub all-lines : map (λ l. resultOf (l .call)) lines ≡ map (λ l. l .result) lines
-unfolding lines readOf checkElements marksAgree elementFits lastSecond isTime timeIn secondsAgree value scanOf lowestOf partAt stepOf nextAfter known rowOf lookUp table size interval carriesControl carriesSeconds inRange onFormat carriesLeap secondCarried inYear dayAfter dayLengthOf dayEnd onDay following writeOf writeLeaves written controlFits encode symbolAt filler isMark runs fields timeFields numbers timeNumbers seconds minutes hours days tenths hundredthsDigit straightSeconds hasSeconds control differenceOf classifyOf isInterval symbolOf symbolsOf classifyListOf classifyListLeaves windowLength frameIn nextInRow inRow windowAnswer lastOf plainAnswer
+unfolding lines readOf checkElements marksAgree elementFits lastSecond isTime timeIn secondsAgree value scanOf lowestOf partAt stepOf nextAfter known rowOf lookUp table size interval carriesControl carriesSeconds carriesYear controlPlaces daysIn yearCarried lastDayIn inRange onFormat carriesLeap secondCarried lengthIn inYear dayAfter yearAfter yearOfDayAfter dayLengthOf dayEnd onDay following writeOf writeLeaves written controlFits encode symbolAt filler isMark runs fields timeFields numbers timeNumbers seconds minutes hours days tenths hundredthsDigit straightSeconds hasSeconds control years differenceOf classifyOf isInterval symbolOf symbolsOf classifyListOf classifyListLeaves windowLength frameIn nextInRow inRow windowAnswer lastOf plainAnswer
 all-lines = refl

@@ -1,5 +1,5 @@
 // What the calls of the time code engine take and what they answer: types only, no function. A format and a time are C's structs too.
-// Document 01 and of document 02 the step back, the leap second and the setting k as definitions, and the theorems over them, stand in specs/.
+// Document 01 and of document 02 the step back, the leap second, the year and the setting k as definitions, and the theorems over them, stand in specs/.
 
 // A rate letter, in capital ASCII, and a coded expression.
 #[repr(C)]
@@ -17,14 +17,17 @@ pub const MARK: u8 = 2;
 
 pub const SPOILED: u8 = 3;
 
-// The day of the year, and document 01's c: hundredths of a second since midnight.
+// The year, 0 to 99 for 2000 to 2099 and 0 in a format without one; the day of the year; and document 01's c: hundredths of a second since midnight.
 #[repr(C)]
 pub struct Time {
+    pub year: u8,
     pub day: u16,
     pub hundredths: u32,
 }
 
 impl Time {
+    pub const LAST_YEAR: u8 = 99;
+
     pub const FIRST_DAY: u16 = 1;
 
     pub const LAST_DAY: u16 = 366;
@@ -45,7 +48,7 @@ impl Time {
     pub const SECOND_TAKEN: u8 = 2;
 }
 
-// Document 01's thirteen numbers and document 02's 14, 15 and 26, in their order. With 5 and 6 goes the index of the element.
+// Document 01's thirteen numbers and document 02's 14, 15, 17, 18 and 26, in their order. With 5 and 6 goes the index of the element.
 pub enum Refusal {
     UnknownFormat,
     InvalidTime,
@@ -62,10 +65,12 @@ pub enum Refusal {
     InvalidReader,
     SecondNotCarried,
     InvalidKind,
+    InvalidYear,
+    YearPlaceTaken,
     InvalidSetting,
 }
 
-// Write, and the classifier over lists: whether the lent memory was written.
+// Write, the converters, and the classifier over lists: whether the lent memory was written.
 pub enum Written {
     Done,
     Refused(Refusal),

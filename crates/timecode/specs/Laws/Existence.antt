@@ -10,16 +10,16 @@ use lib.ListN.{getD, length, length-append, List·getD-append}
 use lib.Seq.{getD-append-add}
 use Rattle.timecode.specs.Formats.{known, size, OnFormat}
 use Rattle.timecode.specs.Frames.{secondAdded, following, Follows, writeOf, Sent, noFrame, Generator, Valid}
-use Rattle.timecode.specs.Laws.Stepping.{goes, step-on-format}
+use Rattle.timecode.specs.Laws.Stepping.{lengthFor, goes, step-on-format}
 use Rattle.timecode.specs.Laws.Writing.{takes}
 use Rattle.timecode.specs.declared.Format.{Format}
 use Rattle.timecode.specs.declared.Stepped.the-variants.{To}
 use Rattle.timecode.specs.declared.Time.{Time}
 use Rattle.timecode.specs.declared.Written.the-variants.{Done}
 
--- the step in a year of 366 days on a day with a second added, which takes every time
+-- the step with 366 given, on a day with a second added, which takes every time
 abbrev after : Format → Time → Time
-after f t = following f t 366 secondAdded
+after f t = following f t (lengthFor f t 366) secondAdded
 
 -- frames from t on, with these control words, stepping so
 unfoldable pub frames : Format → Time → List ℕ → List Sent

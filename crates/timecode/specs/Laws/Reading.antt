@@ -10,7 +10,7 @@ use borrow.Author.Tests.{leb-true, leb-false, eqb-true}
 use lib.Dec.{leb, eqb}
 use lib.ListN.{getD, length}
 use Rattle.timecode.specs.Answers.{refusalNumber}
-use Rattle.timecode.specs.Formats.{known, size, lastDay, lastHundredth, dayLength, rowOf, carriesControl, carriesLeap, OnFormat}
+use Rattle.timecode.specs.Formats.{known, size, carriesYear, controlPlaces, lastYear, yearCarried, lastDayIn, lastHundredth, dayLength, carriesControl, carriesLeap, OnFormat}
 use Rattle.timecode.specs.Frames.{written, areSymbols, marksAgree, elementFits, checkElements, areDigits, lastSecond, isTime, timeIn, secondsAgree, readOf, Valid}
 use Rattle.timecode.specs.Laws.Checks.{passed, accepted, refused-up-to}
 use Rattle.timecode.specs.Laws.Digits.{Below, capacity, joined, joined-lt, digits-agree, number-joined}
@@ -18,8 +18,8 @@ use Rattle.timecode.specs.Laws.Fields.{fields-together, digits-back, Are
 use Rattle.timecode.specs.Laws.Runs.{Clean, fits-agree, clean-bits, encode-decode, small-decoded, small-front, small-back}
 use Rattle.timecode.specs.Laws.Table.{layout-proper}
 use Rattle.timecode.specs.Laws.Tests.{by-test, clash, and-left, and-right}
-use Rattle.timecode.specs.Laws.Times.{none-added, one-added, time-grid}
-use Rattle.timecode.specs.Layout.{Run, binaryIf, seconds, minutes, hours, days, tenths, hundredthsDigit, hasSeconds, straightSeconds, control, timeFields, fields, flatten, runs, second, minute, hour, timeNumbers, numbers, fieldDigits, allDigits, filler, encode, numberIn, Small, decode}
+use Rattle.timecode.specs.Laws.Times.{last-range, year-carried, none-added, one-added, time-grid}
+use Rattle.timecode.specs.Layout.{Run, binaryIf, seconds, minutes, hours, days, tenths, hundredthsDigit, hasSeconds, straightSeconds, control, years, timeFields, fields, flatten, runs, second, minute, hour, timeNumbers, numbers, fieldDigits, allDigits, filler, encode, value, numberIn, Small, decode}
 use Rattle.timecode.specs.declared.Format.{Format}
 use Rattle.timecode.specs.declared.Reading.{Reading}
 use Rattle.timecode.specs.declared.Reading.the-variants.{Accepted}
@@ -79,12 +79,12 @@ module _ (f : Format) (h m s t u c : ℕ) (a : h ≤ 23) (b : m ≤ 59) (d : t �
   in-day (inr p) = (omega arith, λ n. clash (p .0) n)
 
 pub record IsTime (f : Format) (frame : List ℕ) : Type 0 where
-  pub digits : AreDigits (decode (flatten (timeFields f)) frame)
+  pub digits : AreDigits (decode (flatten (timeFields f) ++ years f) frame)
   pub hour-is : numberIn frame (hours f) ≤ 23
   pub minute-is : numberIn frame (minutes f) ≤ 59
   pub second-is : InMinute f (numberIn frame (hours f)) (numberIn frame (minutes f)) (numberIn frame (seconds f))
   pub first : 1 ≤ numberIn frame (days f)
-  pub last : numberIn frame (days f) ≤ lastDay
+  pub last : numberIn frame (days f) ≤ lastDayIn f (numberIn frame (years f))
 
 pub is-time : (f : Format) (frame : List ℕ) → isTime f frame ≡ true → IsTime f frame
 unfolding isTime
@@ -93,18 +93,18 @@ is-time f frame h =
     let M = leb (numberIn frame (minutes f)) 59 in
     let S = leb (numberIn frame (seconds f)) (lastSecond f (numberIn frame (hours f)) (numberIn frame (minutes f))) in
     let F = leb 1 (numberIn frame (days f)) in
-    let L = leb (numberIn frame (days f)) lastDay in
-    let a = and-right (areDigits frame (flatten (timeFields f))) (H && (M && (S && (F && L)))) h in
+    let L = leb (numberIn frame (days f)) (lastDayIn f (numberIn frame (years f))) in
+    let a = and-right (areDigits frame (flatten (timeFields f) ++ years f)) (H && (M && (S && (F && L)))) h in
     let b = and-right H (M && (S && (F && L))) a in
     let c = and-right M (S && (F && L)) b in
     let d = and-right S (F && L) c in
     record {
-      digits = are-digits frame (flatten (timeFields f)) (and-left (areDigits frame (flatten (timeFields f))) (H && (M && (S && (F && L)))) h);
+      digits = are-digits frame (flatten (timeFields f) ++ years f) (and-left (areDigits frame (flatten (timeFields f) ++ years f)) (H && (M && (S && (F && L)))) h);
       hour-is = leb-true (numberIn frame (hours f)) 23 (and-left H (M && (S && (F && L))) a);
       minute-is = leb-true (numberIn frame (minutes f)) 59 (and-left M (S && (F && L)) b);
       second-is = in-minute f (numberIn frame (hours f)) (numberIn frame (minutes f)) (numberIn frame (seconds f)) (and-left S (F && L) c);
       first = leb-true 1 (numberIn frame (days f)) (and-left F L d);
-      last = leb-true (numberIn frame (days f)) lastDay (and-right F L d);
+      last = leb-true (numberIn frame (days f)) (lastDayIn f (numberIn frame (years f))) (and-right F L d);
     }
 
 pub straight-binary : (f : Format) → Binary (straightSeconds f)
@@ -117,7 +117,7 @@ nines-binary b (start ∷ starts) = (refl, nines-binary b starts)
 
 pub control-binary : (f : Format) → Binary (control f)
 unfolding control
-control-binary f = nines-binary (carriesControl f) (rowOf f .control)
+control-binary f = nines-binary (carriesControl f) (controlPlaces f)
 
 pub straight-wide : (f : Format) → hasSeconds f ≡ true → capacity (straightSeconds f) ≡ 131072
 unfolding straightSeconds
@@ -131,25 +131,29 @@ seconds-agree : (f : Format) (frame : List ℕ) → secondsAgree f frame ≡ tru
 unfolding secondsAgree
 seconds-agree f frame h y = eqb-true (numberIn frame (straightSeconds f)) (timeIn f frame .hundredths / 100) (rw y at h)
 
+years-absent : (f : Format) (frame : List ℕ) → carriesYear f ≡ false → numberIn frame (years f) ≡ 0
+unfolding years value
+years-absent f frame m = rw m
+
 module _ (f : Format) (frame : List ℕ) (k : known f ≡ true) (n : length frame ≡ size f) (clean : Clean (size f) (filler f) (runs f) frame) (time : IsTime f frame) (agree : secondsAgree f frame ≡ true) where
   small : Small (runs f) (decode (runs f) frame)
   small = small-decoded frame (runs f) (clean-bits (size f) (filler f) (runs f) frame (layout-proper f k) clean)
 
   time-part : Small (flatten (timeFields f)) (decode (flatten (timeFields f)) frame)
   unfolding runs fields timeFields seconds minutes hours days tenths hundredthsDigit
-  time-part = small-front frame (flatten (timeFields f)) (straightSeconds f ++ (control f ++ [])) small
+  time-part = small-front frame (flatten (timeFields f)) (straightSeconds f ++ (control f ++ (years f ++ []))) small
 
-  other-part : Small (straightSeconds f ++ (control f ++ [])) (decode (straightSeconds f ++ (control f ++ [])) frame)
+  other-part : Small (straightSeconds f ++ (control f ++ (years f ++ []))) (decode (straightSeconds f ++ (control f ++ (years f ++ []))) frame)
   unfolding runs fields timeFields seconds minutes hours days tenths hundredthsDigit
-  other-part = small-back frame (flatten (timeFields f)) (straightSeconds f ++ (control f ++ [])) small
+  other-part = small-back frame (flatten (timeFields f)) (straightSeconds f ++ (control f ++ (years f ++ []))) small
 
   straight-below : Below (straightSeconds f) (decode (straightSeconds f) frame)
-  straight-below = binary-below (straightSeconds f) (decode (straightSeconds f) frame) (straight-binary f) (small-front frame (straightSeconds f) (control f ++ []) other-part)
+  straight-below = binary-below (straightSeconds f) (decode (straightSeconds f) frame) (straight-binary f) (small-front frame (straightSeconds f) (control f ++ (years f ++ [])) other-part)
 
   control-below : Below (control f) (decode (control f) frame)
   control-below =
       binary-below (control f) (decode (control f) frame) (control-binary f)
-      (small-front frame (control f) [] (small-back frame (straightSeconds f) (control f ++ []) other-part))
+      (small-front frame (control f) (years f ++ []) (small-back frame (straightSeconds f) (control f ++ (years f ++ [])) other-part))
 
   -- SBS holds the seconds of the time, as far as it is carried
   straight-agrees : joined (straightSeconds f) (decode (straightSeconds f) frame) ≡ timeIn f frame .hundredths / 100 % capacity (straightSeconds f)
@@ -171,7 +175,7 @@ module _ (f : Format) (frame : List ℕ) (k : known f ≡ true) (n : length fram
   read-control = numberIn frame (control f)
 
   digits-same : allDigits (fields f) (numbers read-time read-control) ≡ decode (runs f) frame
-  unfolding runs fields timeFields numbers timeNumbers timeIn seconds minutes hours days tenths hundredthsDigit
+  unfolding runs fields timeFields numbers timeNumbers timeIn seconds minutes hours days tenths hundredthsDigit years
   digits-same =
       let c =
       clock f (numberIn frame (hours f)) (numberIn frame (minutes f)) (numberIn frame (seconds f)) (numberIn frame (tenths f)) (numberIn frame (hundredthsDigit f)) (read-time .hundredths) (time .hour-is) (time .minute-is) (omega (arith, time .digits)) (omega (arith, time .digits)) refl (time .second-is) in
@@ -189,7 +193,7 @@ module _ (f : Format) (frame : List ℕ) (k : known f ≡ true) (n : length fram
                   ap (fieldDigits (hundredthsDigit f)) (c .4) ∙ digits-back frame (hundredthsDigit f) (omega (arith, time .digits)),
                   (
                     digits-agree (straightSeconds f) (decode (straightSeconds f) frame) (read-time .hundredths / 100) (binary-positive (straightSeconds f) (straight-binary f)) straight-below straight-agrees,
-                    (digits-back frame (control f) control-below, tt),
+                    (digits-back frame (control f) control-below, (digits-back frame (years f) (omega (arith, time .digits)), tt)),
                   ),
                 ),
               ),
@@ -198,12 +202,17 @@ module _ (f : Format) (frame : List ℕ) (k : known f ≡ true) (n : length fram
         ),
       )
 
+  -- the year's digits say at most 99, and 0 where the format does not carry them
+  read-year : yearCarried f (numberIn frame (years f)) ≡ true
+  unfolding timeFields tenths hundredthsDigit seconds minutes hours days years
+  read-year = year-carried f (numberIn frame (years f)) (λ y. omega (arith, time .digits)) (years-absent f frame)
+
   read-on-format : OnFormat f read-time
-  unfolding timeIn timeFields tenths hundredthsDigit seconds minutes hours days
+  unfolding timeIn timeFields tenths hundredthsDigit seconds minutes hours days years
   read-on-format =
       let d =
       in-day f (numberIn frame (hours f)) (numberIn frame (minutes f)) (numberIn frame (seconds f)) (numberIn frame (tenths f)) (numberIn frame (hundredthsDigit f)) (read-time .hundredths) (time .hour-is) (time .minute-is) (omega (arith, time .digits)) (omega (arith, time .digits)) refl (time .second-is) in
-      record { first = time .first; last = time .last; below = d .0; grid = time-grid f frame k time-part; carried = d .1 }
+      record { year-is = read-year; first = time .first; in-year = time .last; last = omega (arith, time .last, last-range f (numberIn frame (years f))); below = d .0; grid = time-grid f frame k time-part; carried = d .1 }
 
   read-valid : Valid f read-time read-control
   read-valid =

@@ -8,14 +8,14 @@ use native.Mathlib.Nat.{add-mod-right, zero-mod, div-add-mod, lt-of-mul-lt-mul-l
 use native.Mathlib.Omega.{arith}
 use borrow.Author.Tests.{leb-true, ltb-true, eqb-true, eqb-false, le-leb, lt-ltb, eq-eqb, ne-eqb}
 use lib.Dec.{leb, ltb, eqb}
-use Rattle.timecode.specs.Formats.{member, table, lookUp, rowOf, known, interval, lastDay, dayLength, onFormat, carriesLeap, secondCarried, OnFormat}
-use Rattle.timecode.specs.Frames.{yearLengths, inYear, dayAfter, secondAdded, secondTaken, kinds, dayLengthOf, dayEnd, onDay, sameDay, nextDay, following, checkStep, stepBy, stepOf, Follows, stepsTo, any, nextAfter, LeapTurn, Turn}
+use Rattle.timecode.specs.Formats.{member, table, lookUp, rowOf, known, interval, carriesYear, lastDay, dayLength, lastYear, daysIn, yearCarried, lastDayIn, onFormat, carriesLeap, secondCarried, OnFormat}
+use Rattle.timecode.specs.Frames.{yearLengths, lengthIn, inYear, dayAfter, yearAfter, yearOfDayAfter, secondAdded, secondTaken, kinds, dayLengthOf, dayEnd, onDay, sameDay, nextDay, following, checkStep, stepBy, stepOf, Follows, stepsTo, any, nextAfter, LeapTurn, Turn}
 use Rattle.timecode.specs.Laws.Checks.{passed, same-check, next}
 use Rattle.timecode.specs.Laws.Table.{everyFormat, of-every}
 use Rattle.timecode.specs.Laws.Tests.{by-test, clash, and-left, and-right, or-other, or-first, or-second}
-use Rattle.timecode.specs.Laws.Times.{same-is, same-self, on-format, is-on-format, is-carried}
+use Rattle.timecode.specs.Laws.Times.{same-is, same-self, last-range, on-format, is-on-format, is-carried, year-small, year-none, year-carried, last-known, last-unknown}
 use Rattle.timecode.specs.declared.Format.{Format}
-use Rattle.timecode.specs.declared.Refusal.the-variants.{UnknownFormat, InvalidTime, InvalidYearLength, SecondNotCarried, InvalidKind}
+use Rattle.timecode.specs.declared.Refusal.the-variants.{UnknownFormat, InvalidTime, InvalidYearLength, SecondNotCarried, InvalidKind, InvalidYear}
 use Rattle.timecode.specs.declared.Refusal.{Refusal}
 use Rattle.timecode.specs.declared.Stepped.{Stepped}
 use Rattle.timecode.specs.declared.Stepped.the-variants.{To}
@@ -37,14 +37,15 @@ pub went-to : (f : Format) (t : Time) (length kind : ℕ) (v u : Time) → check
 unfolding inYear onDay
 went-to f t length kind v u h =
     let a = passed Stepped.Refused UnknownFormat (known f) _ (To u) (next u) h in
-    let b = passed Stepped.Refused InvalidTime (onFormat f t) _ (To u) (next u) (a .1) in
+    let y = passed Stepped.Refused InvalidYear (yearCarried f (t .year)) _ (To u) (next u) (a .1) in
+    let b = passed Stepped.Refused InvalidTime (onFormat f t) _ (To u) (next u) (y .1) in
     let s = passed Stepped.Refused SecondNotCarried (secondCarried f t) _ (To u) (next u) (b .1) in
     let c = passed Stepped.Refused InvalidYearLength (member length yearLengths && leb (t .day) length) _ (To u) (next u) (s .1) in
     let d = passed Stepped.Refused InvalidKind (member kind kinds && ltb (t .hundredths) (dayEnd f kind)) _ (To u) (next u) (c .1) in
     let last = d .1 in
     record {
       format = a .0;
-      from = on-format f t (b .0) (s .0);
+      from = on-format f t (y .0) (b .0) (s .0);
       length-is = and-left (member length yearLengths) (leb (t .day) length) (c .0);
       inside = leb-true (t .day) length (and-right (member length yearLengths) (leb (t .day) length) (c .0));
       kind-is = and-left (member kind kinds) (ltb (t .hundredths) (dayEnd f kind)) (d .0);
@@ -56,7 +57,7 @@ went-to f t length kind v u h =
 pub step-answers : (f : Format) (t : Time) (length kind : ℕ) → known f ≡ true → OnFormat f t → member length yearLengths ≡ true → t .day ≤ length → member kind kinds ≡ true → t .hundredths < dayEnd f kind
     → (answer : Stepped) → checkStep f t length kind answer ≡ answer
 unfolding inYear onDay
-step-answers f t length kind k o l i m b answer = rw (k, is-on-format f t o, is-carried f t o, l, le-leb (t .day) length i, m, lt-ltb (t .hundredths) (dayEnd f kind) b)
+step-answers f t length kind k o l i m b answer = rw (k, o .year-is, is-on-format f t o, is-carried f t o, l, le-leb (t .day) length i, m, lt-ltb (t .hundredths) (dayEnd f kind) b)
 
 pub answers-alike : (f : Format) (t : Time) (length kind : ℕ) (v u : Time) → checkStep f t length kind (To v) ≡ To u → (answer : Stepped) → checkStep f t length kind answer ≡ answer
 answers-alike f t length kind v u h answer =
@@ -67,15 +68,47 @@ answers-alike f t length kind v u h answer =
 pub refuses-alike : (f : Format) (t : Time) (length kind : ℕ) (v : Time) (r : Refusal) → checkStep f t length kind (To v) ≡ Stepped.Refused r → (answer : Stepped) → checkStep f t length kind answer ≡ Stepped.Refused r
 refuses-alike f t length kind v r h answer =
     same-check Stepped.Refused UnknownFormat (known f) _ _ (Stepped.Refused r)
+    (same-check Stepped.Refused InvalidYear (yearCarried f (t .year)) _ _ (Stepped.Refused r)
     (same-check Stepped.Refused InvalidTime (onFormat f t) _ _ (Stepped.Refused r)
     (same-check Stepped.Refused SecondNotCarried (secondCarried f t) _ _ (Stepped.Refused r)
     (same-check Stepped.Refused InvalidYearLength (inYear t length) _ _ (Stepped.Refused r)
-    (same-check Stepped.Refused InvalidKind (onDay f t kind) (To v) answer (Stepped.Refused r) (λ e. absurd (next v r (sym e)))))))
+    (same-check Stepped.Refused InvalidKind (onDay f t kind) (To v) answer (Stepped.Refused r) (λ e. absurd (next v r (sym e))))))))
     h
 
-pub went : (f : Format) (t : Time) (length kind : ℕ) (u : Time) → stepOf f t length kind ≡ To u → Went f t length kind (following f t length kind) u
+-- ---- the length of the year
+
+-- the length that a step of t takes
+abbrev pub lengthFor : Format → Time → ℕ → ℕ
+lengthFor f t given = lengthIn f (t .year) given
+
+-- where the format carries the year, the length is that year's
+abbrev pub OfYear : Format → ℕ → ℕ → Type 0
+OfYear f year length = carriesYear f ≡ true → length ≡ daysIn year
+
+pub of-year : (f : Format) (year given : ℕ) → OfYear f year (lengthIn f year given)
+unfolding lengthIn
+of-year f year given y = rw y
+
+pub as-given : (f : Format) (year given : ℕ) → carriesYear f ≡ false → lengthIn f year given ≡ given
+unfolding lengthIn
+as-given f year given m = rw m
+
+pub days-length : (year : ℕ) → member (daysIn year) yearLengths ≡ true
+unfolding daysIn
+days-length year = by-test (eqb (year % 4) 0) (λ y. rw y) (λ m. rw m)
+
+pub length-in : (f : Format) (year given : ℕ) → member given yearLengths ≡ true → member (lengthIn f year given) yearLengths ≡ true
+unfolding lengthIn
+length-in f year given h = by-test (carriesYear f) (λ y. rw y (days-length year)) (λ m. rw m h)
+
+-- the year's last day is its length where 366 is given
+last-is-length : (f : Format) (year : ℕ) → lastDayIn f year ≡ lengthIn f year 366
+unfolding lastDayIn lengthIn
+last-is-length f year = refl
+
+pub went : (f : Format) (t : Time) (given kind : ℕ) (u : Time) → stepOf f t given kind ≡ To u → Went f t (lengthFor f t given) kind (following f t (lengthFor f t given) kind) u
 unfolding stepOf
-went f t length kind u h = went-to f t length kind (following f t length kind) u h
+went f t given kind u h = went-to f t (lengthFor f t given) kind (following f t (lengthFor f t given) kind) u h
 
 -- a day with a second added has room for every time that Write takes
 longest-day : (f : Format) (t : Time) → OnFormat f t → t .hundredths < dayEnd f secondAdded
@@ -83,9 +116,10 @@ unfolding dayEnd dayLengthOf
 longest-day f t o = by-test (carriesLeap f) (λ y. rw y (omega (arith, o .below))) (λ m. rw m (o .carried m))
 
 -- Step takes a time on the format with 366 and a second added always
-pub goes : (f : Format) (t : Time) → known f ≡ true → OnFormat f t → stepOf f t 366 secondAdded ≡ To (following f t 366 secondAdded)
+pub goes : (f : Format) (t : Time) → known f ≡ true → OnFormat f t → stepOf f t 366 secondAdded ≡ To (following f t (lengthFor f t 366) secondAdded)
 unfolding stepOf
-goes f t k o = step-answers f t 366 secondAdded k o refl (o .last) refl (longest-day f t o) (To (following f t 366 secondAdded))
+goes f t k o =
+    step-answers f t (lengthFor f t 366) secondAdded k o (length-in f (t .year) 366 refl) (omega (arith, o .in-year, last-is-length f (t .year))) refl (longest-day f t o) (To (following f t (lengthFor f t 366) secondAdded))
 
 -- ---- next after is some step
 
@@ -114,12 +148,23 @@ next-follows f t u h =
     let k = any-one (λ kind. stepsTo (stepOf f t (y .0) kind) u) kinds (y .1) in
     (y .0, k .0, steps-to-is (stepOf f t (y .0) (k .0)) u (k .1))
 
-pub follows-next : (f : Format) (t u : Time) → Follows f t u → nextAfter f t u ≡ true
+-- where the format carries the year, the length that is given does not matter
+pub any-length : (f : Format) (t : Time) (a b kind : ℕ) → carriesYear f ≡ true → stepOf f t a kind ≡ stepOf f t b kind
+unfolding stepOf
+any-length f t a b kind y = ap (λ (n : ℕ). stepBy f t n kind) (of-year f (t .year) a y ∙ sym (of-year f (t .year) b y))
+
+step-found : (f : Format) (t u : Time) (given kind : ℕ) → member given yearLengths ≡ true → member kind kinds ≡ true → stepOf f t given kind ≡ To u → nextAfter f t u ≡ true
 unfolding nextAfter
+step-found f t u given kind l k s =
+    one-any (λ length. any (λ kind. stepsTo (stepOf f t length kind) u) kinds) yearLengths given l
+    (one-any (λ kind. stepsTo (stepOf f t given kind) u) kinds kind k (is-given (stepOf f t given kind) u s))
+
+pub follows-next : (f : Format) (t u : Time) → Follows f t u → nextAfter f t u ≡ true
 follows-next f t u s =
     let w = went f t (s .0) (s .1) u (s .2) in
-    one-any (λ length. any (λ kind. stepsTo (stepOf f t length kind) u) kinds) yearLengths (s .0) (w .length-is)
-    (one-any (λ kind. stepsTo (stepOf f t (s .0) kind) u) kinds (s .1) (w .kind-is) (is-given (stepOf f t (s .0) (s .1)) u (s .2)))
+    by-test (carriesYear f)
+    (λ y. step-found f t u 365 (s .1) refl (w .kind-is) (any-length f t 365 (s .0) (s .1) y ∙ s .2))
+    (λ m. step-found f t u (s .0) (s .1) (rw (as-given f (t .year) (s .0) m) at (w .length-is)) (w .kind-is) (s .2))
 
 -- ---- a step stays on the format
 
@@ -210,7 +255,7 @@ day-after-inside day length a b = by-test (eqb day length) (λ y. rw y (omega ar
 
 -- a step goes to the next frame of the day, or from the day's last frame to the day after
 abbrev pub Lands : Format → Time → ℕ → ℕ → Time → Type 0
-Lands f t length kind u = ((sameDay f t ≡ u) × (t .hundredths + interval f < dayEnd f kind)) ⊎ ((nextDay t length ≡ u) × (t .hundredths + interval f ≡ dayEnd f kind))
+Lands f t length kind u = ((sameDay f t ≡ u) × (t .hundredths + interval f < dayEnd f kind)) ⊎ ((nextDay f t length ≡ u) × (t .hundredths + interval f ≡ dayEnd f kind))
 
 pub lands : (f : Format) (t : Time) (length kind : ℕ) (u : Time) → Went f t length kind (following f t length kind) u → Lands f t length kind u
 unfolding following
@@ -223,26 +268,72 @@ lands f t length kind u w =
       omega (arith, eqb-false (t .hundredths + interval f) (dayEnd f kind) m, carries f (w .format) kind (w .kind-is) (t .hundredths) (w .before) (w .from .grid)),
     ))
 
-landed-on : (f : Format) (t : Time) (length kind : ℕ) (u : Time) → Went f t length kind (following f t length kind) u → Lands f t length kind u → OnFormat f u
-landed-on f t length kind u w (inl p) =
+-- the year after a year that the format carries is one too
+year-after-carried : (f : Format) (year : ℕ) → carriesYear f ≡ true → year ≤ lastYear → yearAfter year ≤ lastYear
+unfolding yearAfter
+year-after-carried f year y h = by-test (eqb year lastYear) (λ e. rw e (omega arith)) (λ n. let d = eqb-false year lastYear n in rw n (omega arith))
+
+-- the year of the day after is one that the format carries, and it has that day
+next-year-carried : (f : Format) (t : Time) (length : ℕ) → yearCarried f (t .year) ≡ true → yearCarried f (yearOfDayAfter f t length) ≡ true
+unfolding yearOfDayAfter
+next-year-carried f t length h =
+    by-test (carriesYear f && eqb (t .day) length)
+    (λ e.
+    let y = and-left (carriesYear f) (eqb (t .day) length) e in
+    rw e (year-carried f (yearAfter (t .year)) (λ c. year-after-carried f (t .year) y (year-small f (t .year) h y)) (λ m. clash y m)))
+    (λ n. rw n h)
+
+same-year : (f : Format) (t : Time) (length : ℕ) → eqb (t .day) length ≡ false → yearOfDayAfter f t length ≡ t .year
+unfolding yearOfDayAfter
+same-year f t length n = by-test (carriesYear f) (λ y. rw (y, n)) (λ m. rw m)
+
+-- a day within the length of the year is one that the year has
+pub within-last : (f : Format) (year length day : ℕ) → OfYear f year length → day ≤ length → length ≤ lastDay → day ≤ lastDayIn f year
+within-last f year length day l a b =
+    by-test (carriesYear f)
+    (λ y. omega (arith, last-known f year y, l y))
+    (λ m. omega (arith, last-unknown f year m))
+
+next-in-year : (f : Format) (t : Time) (length : ℕ) → OfYear f (t .year) length → t .day ≤ length → length ≤ lastDay → dayAfter (t .day) length ≤ lastDayIn f (yearOfDayAfter f t length)
+unfolding dayAfter
+next-in-year f t length l a b =
+    by-test (eqb (t .day) length)
+    (λ e. rw e (omega (arith, last-range f (yearOfDayAfter f t length))))
+    (λ n. let d = eqb-false (t .day) length n in rw (n, same-year f t length n) (within-last f (t .year) length (t .day + 1) l (omega arith) b))
+
+landed-on : (f : Format) (t : Time) (length kind : ℕ) (u : Time) → OfYear f (t .year) length → Went f t length kind (following f t length kind) u → Lands f t length kind u → OnFormat f u
+landed-on f t length kind u l w (inl p) =
     let o = w .from in
     subst (OnFormat f) (p .0)
     (record {
+      year-is = o .year-is;
       first = o .first;
+      in-year = o .in-year;
       last = o .last;
       below = omega (arith, p .1, day-end-range f kind);
       grid = add-mod-right (t .hundredths) (interval f) ∙ o .grid;
       carried = λ m. omega (arith, p .1, usual-end f kind m);
     })
-landed-on f t length kind u w (inr p) =
+landed-on f t length kind u l w (inr p) =
     let d = day-after-inside (t .day) length (w .from .first) (w .inside) in
-    subst (OnFormat f) (p .0) (record { first = d .0; last = omega (arith, d .1, year-range length (w .length-is)); below = omega arith; grid = zero-mod (interval f); carried = λ m. omega arith })
+    let r = year-range length (w .length-is) in
+    subst (OnFormat f) (p .0)
+    (record {
+      year-is = next-year-carried f t length (w .from .year-is);
+      first = d .0;
+      in-year = next-in-year f t length l (w .inside) (r .1);
+      last = omega (arith, d .1, r .1);
+      below = omega arith;
+      grid = zero-mod (interval f);
+      carried = λ m. omega arith;
+    })
 
 -- a step of a time on the format is on the format
 pub step-on-format : (f : Format) (t u : Time) → Follows f t u → OnFormat f u
 step-on-format f t u s =
     let w = went f t (s .0) (s .1) u (s .2) in
-    landed-on f t (s .0) (s .1) u w (lands f t (s .0) (s .1) u w)
+    let length = lengthFor f t (s .0) in
+    landed-on f t length (s .1) u (of-year f (t .year) (s .0)) w (lands f t length (s .1) u w)
 
 -- ---- the times that follow one
 
@@ -255,22 +346,29 @@ alike-back f u v (inl p) = inl (sym p)
 alike-back f u v (inr (inl p)) = inr (inr p)
 alike-back f u v (inr (inr p)) = inr (inl p)
 
-both-lengths : (f : Format) (t : Time) → t .day ≤ 365 → Alike f (nextDay t 365) (nextDay t 366)
-unfolding dayAfter
-both-lengths f t h =
+both-lengths : (f : Format) (t : Time) → carriesYear f ≡ false → t .day ≤ 365 → Alike f (nextDay f t 365) (nextDay f t 366)
+unfolding dayAfter yearOfDayAfter
+both-lengths f t k h =
     by-test (eqb (t .day) 365)
     (λ y.
     let p = eqb-true (t .day) 365 y in
-    rw (y, ne-eqb (t .day) 366 (λ q. omega arith)) (inr (inl (inl (record { new-year = refl; new-midnight = refl; leap-day = omega arith; leap-midnight = refl })))))
+    rw (k, y, ne-eqb (t .day) 366 (λ q. omega arith)) (inr (inl (inl (record { new-year = refl; new-midnight = refl; leap-day = omega arith; leap-midnight = refl })))))
     (λ m.
     let n = eqb-false (t .day) 365 m in
-    rw (m, ne-eqb (t .day) 366 (λ q. omega arith)) (inl refl))
+    rw (k, m, ne-eqb (t .day) 366 (λ q. omega arith)) (inl refl))
 
-lengths : (f : Format) (t : Time) (y z : ℕ) → (y ≡ 365) ⊎ (y ≡ 366) → (z ≡ 365) ⊎ (z ≡ 366) → t .day ≤ y → t .day ≤ z → Alike f (nextDay t y) (nextDay t z)
-lengths f t y z (inl p) (inl q) h k = inl (ap (nextDay t) (p ∙ sym q))
-lengths f t y z (inl p) (inr q) h k = rw (p, q) (both-lengths f t (omega arith))
-lengths f t y z (inr p) (inl q) h k = rw (p, q) (alike-back f (nextDay t 365) (nextDay t 366) (both-lengths f t (omega arith)))
-lengths f t y z (inr p) (inr q) h k = inl (ap (nextDay t) (p ∙ sym q))
+unknown-lengths : (f : Format) (t : Time) → carriesYear f ≡ false → (y z : ℕ) → (y ≡ 365) ⊎ (y ≡ 366) → (z ≡ 365) ⊎ (z ≡ 366) → t .day ≤ y → t .day ≤ z → Alike f (nextDay f t y) (nextDay f t z)
+unknown-lengths f t m y z (inl p) (inl q) h k = inl (ap (nextDay f t) (p ∙ sym q))
+unknown-lengths f t m y z (inl p) (inr q) h k = rw (p, q) (both-lengths f t m (omega arith))
+unknown-lengths f t m y z (inr p) (inl q) h k = rw (p, q) (alike-back f (nextDay f t 365) (nextDay f t 366) (both-lengths f t m (omega arith)))
+unknown-lengths f t m y z (inr p) (inr q) h k = inl (ap (nextDay f t) (p ∙ sym q))
+
+-- a year that is carried has one length
+lengths : (f : Format) (t : Time) (y z : ℕ) → OfYear f (t .year) y → OfYear f (t .year) z → (y ≡ 365) ⊎ (y ≡ 366) → (z ≡ 365) ⊎ (z ≡ 366) → t .day ≤ y → t .day ≤ z → Alike f (nextDay f t y) (nextDay f t z)
+lengths f t y z a b p q h k =
+    by-test (carriesYear f)
+    (λ c. inl (ap (nextDay f t) (a c ∙ sym (b c))))
+    (λ m. unknown-lengths f t m y z p q h k)
 
 -- a day's end before another's is that of a taken second or the usual one
 sooner : (x y : ℕ) → IsDayEnd x → IsDayEnd y → x < y → (x ≡ 8639900) ⊎ (x ≡ dayLength)
@@ -284,23 +382,29 @@ sooner-end f k j l =
     (λ y. (y, rw (leap-end f k y) (sooner (dayLengthOf k) (dayLengthOf j) (ends k) (ends j) (rw (leap-end f k y, leap-end f j y) at l))))
     (λ m. let z : ⊥ = omega (arith, usual-end f k m, usual-end f j m) in absurd z)
 
-kinds-apart : (f : Format) (t : Time) (y k j : ℕ) → t .hundredths + interval f < dayEnd f j → t .hundredths + interval f ≡ dayEnd f k → LeapTurn f (sameDay f t) (nextDay t y)
+kinds-apart : (f : Format) (t : Time) (y k j : ℕ) → t .hundredths + interval f < dayEnd f j → t .hundredths + interval f ≡ dayEnd f k → LeapTurn f (sameDay f t) (nextDay f t y)
 kinds-apart f t y k j a b =
     let e = sooner-end f k j (omega arith) in
     record { carried = e .0; late = rw (← b) at (e .1); midnight = refl }
 
 -- two times that follow one are the same, day 1 and day 366 at midnight, or the last second or the added one and midnight
 pub two-that-follow : (f : Format) (t u v : Time) → Follows f t u → Follows f t v → (u ≡ v) ⊎ (Turn f u v ⊎ Turn f v u)
-two-that-follow f t u v s r = go (lands f t (s .0) (s .1) u a) (lands f t (r .0) (r .1) v b)
+two-that-follow f t u v s r = go (lands f t y (s .1) u a) (lands f t z (r .1) v b)
   where
-    a : Went f t (s .0) (s .1) (following f t (s .0) (s .1)) u
+    y : ℕ
+    y = lengthFor f t (s .0)
+
+    z : ℕ
+    z = lengthFor f t (r .0)
+
+    a : Went f t y (s .1) (following f t y (s .1)) u
     a = went f t (s .0) (s .1) u (s .2)
 
-    b : Went f t (r .0) (r .1) (following f t (r .0) (r .1)) v
+    b : Went f t z (r .1) (following f t z (r .1)) v
     b = went f t (r .0) (r .1) v (r .2)
 
-    go : Lands f t (s .0) (s .1) u → Lands f t (r .0) (r .1) v → Alike f u v
+    go : Lands f t y (s .1) u → Lands f t z (r .1) v → Alike f u v
     go (inl p) (inl q) = inl (sym (p .0) ∙ q .0)
-    go (inl p) (inr q) = rw (← p .0, ← q .0) (inr (inl (inr (kinds-apart f t (r .0) (r .1) (s .1) (p .1) (q .1)))))
-    go (inr p) (inl q) = rw (← p .0, ← q .0) (inr (inr (inr (kinds-apart f t (s .0) (s .1) (r .1) (q .1) (p .1)))))
-    go (inr p) (inr q) = rw (← p .0, ← q .0) (lengths f t (s .0) (r .0) (year-is (s .0) (a .length-is)) (year-is (r .0) (b .length-is)) (a .inside) (b .inside))
+    go (inl p) (inr q) = rw (← p .0, ← q .0) (inr (inl (inr (kinds-apart f t z (r .1) (s .1) (p .1) (q .1)))))
+    go (inr p) (inl q) = rw (← p .0, ← q .0) (inr (inr (inr (kinds-apart f t y (s .1) (r .1) (q .1) (p .1)))))
+    go (inr p) (inr q) = rw (← p .0, ← q .0) (lengths f t y z (of-year f (t .year) (s .0)) (of-year f (t .year) (r .0)) (year-is y (a .length-is)) (year-is z (b .length-is)) (a .inside) (b .inside))

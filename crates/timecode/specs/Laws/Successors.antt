@@ -9,7 +9,7 @@ use native.Mathlib.Omega.{arith}
 use borrow.Author.Tests.{ltb-true, not-true, eqb-false}
 use lib.Dec.{ltb, eqb}
 use lib.ListN.{length, getD}
-use Rattle.timecode.specs.Formats.{member, table, lookUp, rowOf, known, size, carriesControl, carriesSeconds, dayLength, carriesLeap}
+use Rattle.timecode.specs.Formats.{member, table, lookUp, rowOf, known, size, carriesControl, carriesSeconds, carriesYear, controlPlaces, dayLength, carriesLeap}
 use Rattle.timecode.specs.Frames.{sameDayAt, newYear, Follows, written, Apart, LeapTurn, Turn, YearTurn}
 use Rattle.timecode.specs.Laws.Marks.{at-written}
 use Rattle.timecode.specs.Laws.Places.{distinct, spared}
@@ -17,7 +17,7 @@ use Rattle.timecode.specs.Laws.Stepping.{every, one-of, went, Alike, two
 use Rattle.timecode.specs.Laws.Table.{everyFormat, of-every}
 use Rattle.timecode.specs.Laws.Tests.{and-left, and-right}
 use Rattle.timecode.specs.Laws.Times.{time-path}
-use Rattle.timecode.specs.Layout.{seconds, minutes, hours, days, tenths, hundredthsDigit, hasSeconds, straightSeconds, control, timeFields, fields, runs, timeNumbers, numbers, allDigits, isMark, filler, symbolAt}
+use Rattle.timecode.specs.Layout.{seconds, minutes, hours, days, tenths, hundredthsDigit, hasSeconds, straightSeconds, control, years, timeFields, fields, runs, timeNumbers, numbers, allDigits, isMark, filler, symbolAt}
 use Rattle.timecode.specs.declared.Format.{Format}
 use Rattle.timecode.specs.declared.Time.{Time}
 
@@ -47,12 +47,12 @@ differ-at f u a v b (p ∷ ps) d (suc j) h =
 abbrev turnPlaces : List ℕ
 turnPlaces = 30 ∷ 31 ∷ 32 ∷ 36 ∷ 37 ∷ 40 ∷ 41 ∷ []
 
-abbrev leapDay : Time
-leapDay = record { day = 366; hundredths = 0 }
+abbrev leapDay : ℕ → Time
+leapDay year = record { year = year; day = 366; hundredths = 0 }
 
-turn-differs : (a b : ℕ) → everyFormat (λ f. differ f newYear a leapDay b turnPlaces) ≡ true
-unfolding everyFormat table size rowOf lookUp filler isMark symbolAt runs fields timeFields numbers timeNumbers seconds minutes hours days tenths hundredthsDigit straightSeconds hasSeconds carriesSeconds control carriesControl
-turn-differs a b = refl
+turn-differs : (y z a b : ℕ) → everyFormat (λ f. differ f (newYear y) a (leapDay z) b turnPlaces) ≡ true
+unfolding everyFormat table size rowOf lookUp filler isMark symbolAt runs fields timeFields numbers timeNumbers seconds minutes hours days tenths hundredthsDigit straightSeconds hasSeconds carriesSeconds control carriesControl carriesYear controlPlaces years
+turn-differs y z a b = refl
 
 differ-apart : (f : Format) (u v : Time) (ps : List ℕ) → distinct ps ≡ true → 7 ≤ length ps → ((a b : ℕ) → differ f u a v b ps ≡ true) → Apart f u v
 differ-apart f u v ps d long h a b qs few same =
@@ -62,9 +62,11 @@ differ-apart f u v ps d long h a b qs few same =
 
 year-apart : (f : Format) (u v : Time) → known f ≡ true → YearTurn u v → Apart f u v
 year-apart f u v k t =
-    let p = time-path u newYear (t .new-year) (t .new-midnight) in
-    let q = time-path v leapDay (t .leap-day) (t .leap-midnight) in
-    rw (p, q) (differ-apart f newYear leapDay turnPlaces refl (omega arith) (λ a b. of-every (λ f. differ f newYear a leapDay b turnPlaces) (turn-differs a b) f k))
+    let y = newYear (u .year) in
+    let z = leapDay (v .year) in
+    let p = time-path u y refl (t .new-year) (t .new-midnight) in
+    let q = time-path v z refl (t .leap-day) (t .leap-midnight) in
+    rw (p, q) (differ-apart f y z turnPlaces refl (omega arith) (λ a b. of-every (λ f. differ f y a z b turnPlaces) (turn-differs (u .year) (v .year) a b) f k))
 
 -- 23:59:59 and 23:59:60 differ from 00:00:00 in seven elements of the minutes and hours, whatever the days
 abbrev midnightPlaces : List ℕ
@@ -79,13 +81,13 @@ abbrev differAt : List ℕ → Time → Time → ℕ → ℕ → Format → Bool
 differAt cs u v a b f = cond (carriesLeap f) (every (λ c. differ f (sameDayAt u c) a (sameDayAt v 0) b midnightPlaces) cs) true
 
 late-differ : (u v : Time) (a b : ℕ) → everyFormat (differAt lateSeconds u v a b) ≡ true
-unfolding everyFormat table size rowOf lookUp filler isMark symbolAt runs fields timeFields numbers timeNumbers seconds minutes hours days tenths hundredthsDigit straightSeconds hasSeconds carriesSeconds control carriesControl carriesLeap
+unfolding everyFormat table size rowOf lookUp filler isMark symbolAt runs fields timeFields numbers timeNumbers seconds minutes hours days tenths hundredthsDigit straightSeconds hasSeconds carriesSeconds control carriesControl carriesYear controlPlaces years carriesLeap
 late-differ u v a b = refl
 
 leap-apart : (f : Format) (u v : Time) → known f ≡ true → LeapTurn f u v → Apart f u v
 leap-apart f u v k t =
     let c = u .hundredths in
-    let q = time-path v (sameDayAt v 0) refl (t .midnight) in
+    let q = time-path v (sameDayAt v 0) refl refl (t .midnight) in
     let late : (a b : ℕ) → every (λ c. differ f (sameDayAt u c) a (sameDayAt v 0) b midnightPlaces) lateSeconds ≡ true = λ a b. rw (t .carried) at (of-every (differAt lateSeconds u v a b) (late-differ u v a b) f k) in
     rw q (differ-apart f u (sameDayAt v 0) midnightPlaces refl (omega arith) (λ a b. one-of (λ c. differ f (sameDayAt u c) a (sameDayAt v 0) b midnightPlaces) lateSeconds (late a b) c (is-late (t .late))))
   where

@@ -6,10 +6,10 @@ use Prim.Native.Nat.{ℕ, _≤_}
 use native.Mathlib.Omega.{arith}
 use borrow.Author.Tests.{eqb-true}
 use lib.Dec.{eqb}
-use Rattle.timecode.specs.Formats.{member, A, B, D, E, G, H, Row, table, noRow, lookUp, rowOf, known, size, interval, carriesControl, carriesSeconds}
+use Rattle.timecode.specs.Formats.{member, A, B, D, E, G, H, Row, table, noRow, lookUp, rowOf, known, size, interval, carriesControl, carriesSeconds, carriesYear, controlPlaces}
 use Rattle.timecode.specs.Laws.Runs.{clear, proper}
 use Rattle.timecode.specs.Laws.Tests.{by-test, clash, and-left, and-right, or-other}
-use Rattle.timecode.specs.Layout.{seconds, minutes, hours, days, tenths, hundredthsDigit, hasSeconds, straightSeconds, control, timeFields, fields, runs, isMark, filler}
+use Rattle.timecode.specs.Layout.{seconds, minutes, hours, days, tenths, hundredthsDigit, hasSeconds, straightSeconds, control, years, timeFields, fields, runs, isMark, filler}
 use Rattle.timecode.specs.declared.Format.{Format}
 
 -- ---- line by line
@@ -90,7 +90,7 @@ unfolding everyFormat known rowOf
 of-every p h f k = of-line p f table h k
 
 all-proper : everyFormat (λ f. proper (size f) (filler f) (runs f)) ≡ true
-unfolding everyFormat table proper clear size rowOf lookUp filler isMark runs fields timeFields seconds minutes hours days tenths hundredthsDigit straightSeconds hasSeconds carriesSeconds control carriesControl
+unfolding everyFormat table proper clear size rowOf lookUp filler isMark runs fields timeFields seconds minutes hours days tenths hundredthsDigit straightSeconds hasSeconds carriesSeconds control carriesControl carriesYear controlPlaces years
 all-proper = refl
 
 -- every format's runs lie in the frame, hold no mark and do not overlap

@@ -6,7 +6,7 @@ use Prim.Native.Nat.{ℕ, _/_, _%_, _≤_, _<_}
 use native.Mathlib.Omega.{arith}
 use borrow.Author.Tests.{leb-true, ltb-true, eqb-true, le-leb, lt-ltb, eq-eqb}
 use lib.Dec.{leb, eqb}
-use Rattle.timecode.specs.Formats.{table, lookUp, rowOf, known, interval, lastDay, lastHundredth, dayLength, inRange, onFormat, carriesLeap, secondCarried, OnFormat}
+use Rattle.timecode.specs.Formats.{table, lookUp, rowOf, known, interval, carriesYear, lastYear, daysIn, yearCarried, lastDayIn, lastDay, lastHundredth, dayLength, inRange, onFormat, carriesLeap, secondCarried, OnFormat}
 use Rattle.timecode.specs.Frames.{sameTime, timeIn}
 use Rattle.timecode.specs.Laws.Table.{by-letter}
 use Rattle.timecode.specs.Laws.Tests.{by-test, and-left, and-right}
@@ -16,17 +16,19 @@ use Rattle.timecode.specs.declared.Time.{Time}
 
 -- ---- two times are one
 
-pub time-path : (t u : Time) → t .day ≡ u .day → t .hundredths ≡ u .hundredths → t ≡ u
-time-path t u p q = λ i. record { day = p i; hundredths = q i }
+pub time-path : (t u : Time) → t .year ≡ u .year → t .day ≡ u .day → t .hundredths ≡ u .hundredths → t ≡ u
+time-path t u y p q = λ i. record { year = y i; day = p i; hundredths = q i }
 
 pub same-is : (t u : Time) → sameTime t u ≡ true → t ≡ u
 same-is t u h =
+    let y = eqb (t .year) (u .year) in
     let d = eqb (t .day) (u .day) in
     let c = eqb (t .hundredths) (u .hundredths) in
-    time-path t u (eqb-true (t .day) (u .day) (and-left d c h)) (eqb-true (t .hundredths) (u .hundredths) (and-right d c h))
+    let k = and-right y (d && c) h in
+    time-path t u (eqb-true (t .year) (u .year) (and-left y (d && c) h)) (eqb-true (t .day) (u .day) (and-left d c k)) (eqb-true (t .hundredths) (u .hundredths) (and-right d c k))
 
 pub same-self : (t : Time) → sameTime t t ≡ true
-same-self t = rw (eq-eqb (t .day) (t .day) refl, eq-eqb (t .hundredths) (t .hundredths) refl)
+same-self t = rw (eq-eqb (t .year) (t .year) refl, eq-eqb (t .day) (t .day) refl, eq-eqb (t .hundredths) (t .hundredths) refl)
 
 -- ---- a time on the format
 
@@ -34,26 +36,68 @@ second-carried : (f : Format) (t : Time) → secondCarried f t ≡ true → carr
 unfolding secondCarried
 second-carried f t h m = ltb-true (t .hundredths) dayLength (rw m at h)
 
-pub on-format : (f : Format) (t : Time) → onFormat f t ≡ true → secondCarried f t ≡ true → OnFormat f t
+-- a year has 365 or 366 days
+pub days-range : (year : ℕ) → (365 ≤ daysIn year) × (daysIn year ≤ lastDay)
+unfolding daysIn
+days-range year = by-test (eqb (year % 4) 0) (λ y. rw y (omega arith)) (λ m. rw m (omega arith))
+
+pub last-range : (f : Format) (year : ℕ) → (365 ≤ lastDayIn f year) × (lastDayIn f year ≤ lastDay)
+unfolding lastDayIn
+last-range f year = by-test (carriesYear f) (λ y. rw y (days-range year)) (λ m. rw m (omega arith))
+
+pub on-format : (f : Format) (t : Time) → yearCarried f (t .year) ≡ true → onFormat f t ≡ true → secondCarried f t ≡ true → OnFormat f t
 unfolding onFormat inRange
-on-format f t h s =
-    let range = and-left (leb 1 (t .day) && (leb (t .day) lastDay && leb (t .hundredths) lastHundredth)) (eqb (t .hundredths % interval f) 0) h in
-    let ends = and-right (leb 1 (t .day)) (leb (t .day) lastDay && leb (t .hundredths) lastHundredth) range in
+on-format f t y h s =
+    let last = lastDayIn f (t .year) in
+    let range = and-left (leb 1 (t .day) && (leb (t .day) last && leb (t .hundredths) lastHundredth)) (eqb (t .hundredths % interval f) 0) h in
+    let ends = and-right (leb 1 (t .day)) (leb (t .day) last && leb (t .hundredths) lastHundredth) range in
+    let inside = leb-true (t .day) (lastDayIn f (t .year)) (and-left (leb (t .day) last) (leb (t .hundredths) lastHundredth) ends) in
     record {
-      first = leb-true 1 (t .day) (and-left (leb 1 (t .day)) (leb (t .day) lastDay && leb (t .hundredths) lastHundredth) range);
-      last = leb-true (t .day) lastDay (and-left (leb (t .day) lastDay) (leb (t .hundredths) lastHundredth) ends);
-      below = leb-true (t .hundredths) lastHundredth (and-right (leb (t .day) lastDay) (leb (t .hundredths) lastHundredth) ends);
-      grid = eqb-true (t .hundredths % interval f) 0 (and-right (leb 1 (t .day) && (leb (t .day) lastDay && leb (t .hundredths) lastHundredth)) (eqb (t .hundredths % interval f) 0) h);
+      year-is = y;
+      first = leb-true 1 (t .day) (and-left (leb 1 (t .day)) (leb (t .day) last && leb (t .hundredths) lastHundredth) range);
+      in-year = inside;
+      last = omega (arith, inside, last-range f (t .year));
+      below = leb-true (t .hundredths) lastHundredth (and-right (leb (t .day) last) (leb (t .hundredths) lastHundredth) ends);
+      grid = eqb-true (t .hundredths % interval f) 0 (and-right (leb 1 (t .day) && (leb (t .day) last && leb (t .hundredths) lastHundredth)) (eqb (t .hundredths % interval f) 0) h);
       carried = second-carried f t s;
     }
 
 pub is-on-format : (f : Format) (t : Time) → OnFormat f t → onFormat f t ≡ true
 unfolding onFormat inRange
-is-on-format f t o = rw (le-leb 1 (t .day) (o .first), le-leb (t .day) lastDay (o .last), le-leb (t .hundredths) lastHundredth (o .below), eq-eqb (t .hundredths % interval f) 0 (o .grid))
+is-on-format f t o = rw (le-leb 1 (t .day) (o .first), le-leb (t .day) (lastDayIn f (t .year)) (o .in-year), le-leb (t .hundredths) lastHundredth (o .below), eq-eqb (t .hundredths % interval f) 0 (o .grid))
 
 pub is-carried : (f : Format) (t : Time) → OnFormat f t → secondCarried f t ≡ true
 unfolding secondCarried
 is-carried f t o = by-test (carriesLeap f) (λ y. rw y) (λ m. rw m (lt-ltb (t .hundredths) dayLength (o .carried m)))
+
+-- ---- the year
+
+-- where the format carries the year it is at most 99, elsewhere it is 0
+pub year-small : (f : Format) (year : ℕ) → yearCarried f year ≡ true → carriesYear f ≡ true → year ≤ lastYear
+unfolding yearCarried
+year-small f year h y = leb-true year lastYear (rw y at h)
+
+pub year-none : (f : Format) (year : ℕ) → yearCarried f year ≡ true → carriesYear f ≡ false → year ≡ 0
+unfolding yearCarried
+year-none f year h m = eqb-true year 0 (rw m at h)
+
+pub year-carried : (f : Format) (year : ℕ) → (carriesYear f ≡ true → year ≤ lastYear) → (carriesYear f ≡ false → year ≡ 0) → yearCarried f year ≡ true
+unfolding yearCarried
+year-carried f year a b = by-test (carriesYear f) (λ y. rw y (le-leb year lastYear (a y))) (λ m. rw m (eq-eqb year 0 (b m)))
+
+pub year-below : (f : Format) (year : ℕ) → yearCarried f year ≡ true → year ≤ lastYear
+year-below f year h = by-test (carriesYear f) (year-small f year h) (λ m. omega (arith, year-none f year h m))
+
+-- the year's last day where the format carries it, and where it does not
+pub last-known : (f : Format) (year : ℕ) → carriesYear f ≡ true → lastDayIn f year ≡ daysIn year
+unfolding lastDayIn
+last-known f year y = rw y
+
+pub last-unknown : (f : Format) (year : ℕ) → carriesYear f ≡ false → lastDayIn f year ≡ lastDay
+unfolding lastDayIn
+last-unknown f year m = rw m
+
+-- ---- digits
 
 abbrev at : ℕ → ℕ → Format
 at l e = record { letter = l; expression = e }

@@ -9,7 +9,7 @@ use native.Mathlib.Decide.{decLt}
 use borrow.Author.Tests.{ltb-true, eqb-true, lt-ltb, le-leb, eq-eqb}
 use lib.Dec.{leb, ltb, eqb}
 use lib.ListN.{length}
-use Rattle.timecode.specs.Formats.{known, size, lastDay, lastHundredth, dayLength, onFormat, carriesLeap, secondCarried}
+use Rattle.timecode.specs.Formats.{known, size, carriesYear, yearCarried, lastDayIn, lastHundredth, dayLength, onFormat, carriesLeap, secondCarried, OnFormat}
 use Rattle.timecode.specs.Frames.{totalWidth, controlFits, written, writeOf, writeLeaves, areSymbols, areDigits, lastSecond, isTime, timeIn, secondsAgree, readOf, Valid}
 use Rattle.timecode.specs.Laws.Checks.{passed, passes, done}
 use Rattle.timecode.specs.Laws.Fields.{Each, fields-apart, fields-together, number-back, AreDigits, digits-are, binary-positive, binary-capacity, binary-small}
@@ -17,12 +17,12 @@ use Rattle.timecode.specs.Laws.Reading.{elements-pass, straight-binary, 
 use Rattle.timecode.specs.Laws.Runs.{length-encode, small-length, small-append, decode-encode, encode-clean}
 use Rattle.timecode.specs.Laws.Table.{layout-proper}
 use Rattle.timecode.specs.Laws.Tests.{by-test}
-use Rattle.timecode.specs.Laws.Times.{time-path, on-format, is-on-format, is-carried, one-added, time-small}
-use Rattle.timecode.specs.Layout.{Run, seconds, minutes, hours, days, tenths, hundredthsDigit, hasSeconds, straightSeconds, control, timeFields, fields, flatten, runs, second, minute, hour, timeNumbers, numbers, fieldDigits, allDigits, inRun, isMark, filler, symbolAt, tabulate, encode, numberIn, Small, decode}
+use Rattle.timecode.specs.Laws.Times.{time-path, on-format, is-on-format, is-carried, year-small, year-none, year-below, one-added, time-small}
+use Rattle.timecode.specs.Layout.{Run, seconds, minutes, hours, days, tenths, hundredthsDigit, hasSeconds, straightSeconds, control, years, timeFields, fields, flatten, runs, second, minute, hour, timeNumbers, numbers, fieldDigits, allDigits, inRun, isMark, filler, symbolAt, tabulate, encode, numberIn, Small, decode}
 use Rattle.timecode.specs.declared.Format.{Format}
 use Rattle.timecode.specs.declared.Reading.{Reading}
 use Rattle.timecode.specs.declared.Reading.the-variants.{Accepted}
-use Rattle.timecode.specs.declared.Refusal.the-variants.{UnknownFormat, InvalidTime, WrongLength, UnknownSymbol, InvalidDigit, SecondsDiffer, ControlTooLong, SecondNotCarried}
+use Rattle.timecode.specs.declared.Refusal.the-variants.{UnknownFormat, InvalidTime, WrongLength, UnknownSymbol, InvalidDigit, SecondsDiffer, ControlTooLong, SecondNotCarried, InvalidYear}
 use Rattle.timecode.specs.declared.Time.{Time}
 use Rattle.timecode.specs.declared.Written.{Written}
 use Rattle.timecode.specs.declared.Written.the-variants.{Done}
@@ -51,8 +51,16 @@ pub written-symbols : (f : Format) (t : Time) (w : ℕ) → areSymbols (written 
 unfolding written encode
 written-symbols f t w = symbols-tabulate (size f) 0 (symbolAt (filler f) (runs f) (allDigits (fields f) (numbers t w))) (symbol-small f (runs f) (allDigits (fields f) (numbers t w)))
 
-time-digits : (f : Format) (t : Time) → AreDigits (allDigits (timeFields f) (timeNumbers t))
-unfolding timeFields timeNumbers seconds minutes hours days tenths hundredthsDigit
+-- the year's digits fit their runs
+years-small : (f : Format) (t : Time) → OnFormat f t → Small (years f) (fieldDigits (years f) (t .year))
+unfolding years
+years-small f t o =
+    by-test (carriesYear f)
+    (λ y. rw y (omega (arith, year-small f (t .year) (o .year-is) y)))
+    (λ m. rw (m, year-none f (t .year) (o .year-is) m) (omega arith))
+
+time-digits : (f : Format) (t : Time) → AreDigits (allDigits (timeFields f ++ (years f ∷ [])) (timeNumbers t ++ (t .year ∷ [])))
+unfolding timeFields timeNumbers seconds minutes hours days tenths hundredthsDigit years
 time-digits f t = omega arith
 
 least-last : (f : Format) (h m : ℕ) → 59 ≤ lastSecond f h m
@@ -78,10 +86,11 @@ module _ (f : Format) (t : Time) (w : ℕ) (v : Valid f t w) where
   pub written-small : Small (runs f) (allDigits (fields f) (numbers t w))
   unfolding runs fields timeFields numbers timeNumbers seconds minutes hours days tenths hundredthsDigit
   written-small =
-      small-append (flatten (timeFields f)) (straightSeconds f ++ (control f ++ [])) (allDigits (timeFields f) (timeNumbers t)) (fieldDigits (straightSeconds f) (t .hundredths / 100) ++ (fieldDigits (control f) w ++ []))
+      small-append (flatten (timeFields f)) (straightSeconds f ++ (control f ++ (years f ++ []))) (allDigits (timeFields f) (timeNumbers t)) (fieldDigits (straightSeconds f) (t .hundredths / 100) ++ (fieldDigits (control f) w ++ (fieldDigits (years f) (t .year) ++ [])))
       (time-small f t (v .format) (v .time))
-      (small-append (straightSeconds f) (control f ++ []) (fieldDigits (straightSeconds f) (t .hundredths / 100)) (fieldDigits (control f) w ++ []) (binary-small (straightSeconds f) (t .hundredths / 100) (straight-binary f))
-      (small-append (control f) [] (fieldDigits (control f) w) [] (binary-small (control f) w (control-binary f)) tt))
+      (small-append (straightSeconds f) (control f ++ (years f ++ [])) (fieldDigits (straightSeconds f) (t .hundredths / 100)) (fieldDigits (control f) w ++ (fieldDigits (years f) (t .year) ++ [])) (binary-small (straightSeconds f) (t .hundredths / 100) (straight-binary f))
+      (small-append (control f) (years f ++ []) (fieldDigits (control f) w) (fieldDigits (years f) (t .year) ++ []) (binary-small (control f) w (control-binary f))
+      (small-append (years f) [] (fieldDigits (years f) (t .year)) [] (years-small f t (v .time)) tt)))
 
   decoded : Each (λ d x. decode d frame ≡ fieldDigits d x) (fields f) (numbers t w)
   unfolding written fields timeFields numbers timeNumbers runs
@@ -121,21 +130,25 @@ module _ (f : Format) (t : Time) (w : ℕ) (v : Valid f t w) where
   control-back =
       number-back frame (control f) w (binary-positive (control f) (control-binary f)) (rw (binary-capacity (control f) (control-binary f)) (v .room)) (decoded .1 .1 .1 .1 .1 .1 .1 .0)
 
+  year-back : numberIn frame (years f) ≡ t .year
+  unfolding fields timeFields numbers timeNumbers years
+  year-back = number-back frame (years f) (t .year) (omega arith) (omega (arith, year-below f (t .year) (v .time .year-is))) (decoded .1 .1 .1 .1 .1 .1 .1 .1 .0)
+
   time-back : timeIn f frame ≡ t
   unfolding timeIn
-  time-back = time-path (timeIn f frame) t day-back clock-back
+  time-back = time-path (timeIn f frame) t year-back day-back clock-back
     where
       clock-back : ((numberIn frame (hours f) * 60 + numberIn frame (minutes f)) * 60 + numberIn frame (seconds f)) * 100 + numberIn frame (tenths f) * 10 + numberIn frame (hundredthsDigit f) ≡ t .hundredths
       clock-back = rw (hour-back, minute-back, second-back, tenth-back, hundredth-back) (omega (arith, v .time .below))
 
-  time-decoded : allDigits (timeFields f) (timeNumbers t) ≡ decode (flatten (timeFields f)) frame
-  unfolding fields timeFields numbers timeNumbers
+  time-decoded : allDigits (timeFields f ++ (years f ∷ [])) (timeNumbers t ++ (t .year ∷ [])) ≡ decode (flatten (timeFields f) ++ years f) frame
+  unfolding fields timeFields numbers timeNumbers seconds minutes hours days tenths hundredthsDigit years
   time-decoded =
-      fields-together frame (timeFields f) (timeNumbers t)
-      (sym (decoded .0), (sym (decoded .1 .0), (sym (decoded .1 .1 .0), (sym (decoded .1 .1 .1 .0), (sym (decoded .1 .1 .1 .1 .0), (sym (decoded .1 .1 .1 .1 .1 .0), tt))))))
+      fields-together frame (timeFields f ++ (years f ∷ [])) (timeNumbers t ++ (t .year ∷ []))
+      (sym (decoded .0), (sym (decoded .1 .0), (sym (decoded .1 .1 .0), (sym (decoded .1 .1 .1 .0), (sym (decoded .1 .1 .1 .1 .0), (sym (decoded .1 .1 .1 .1 .1 .0), (sym (decoded .1 .1 .1 .1 .1 .1 .1 .1 .0), tt)))))))
 
-  digits-pass : areDigits frame (flatten (timeFields f)) ≡ true
-  digits-pass = digits-are frame (flatten (timeFields f)) (subst AreDigits time-decoded (time-digits f t))
+  digits-pass : areDigits frame (flatten (timeFields f) ++ years f) ≡ true
+  digits-pass = digits-are frame (flatten (timeFields f) ++ years f) (subst AreDigits time-decoded (time-digits f t))
 
   time-passes : isTime f frame ≡ true
   unfolding isTime
@@ -146,11 +159,12 @@ module _ (f : Format) (t : Time) (w : ℕ) (v : Valid f t w) where
         minute-back,
         second-back,
         day-back,
+        year-back,
         le-leb (hour (t .hundredths)) 23 (omega (arith, v .time .below)),
         le-leb (minute (t .hundredths)) 59 (omega arith),
         second-last f (t .hundredths) (v .time .below) (v .time .carried),
         le-leb 1 (t .day) (v .time .first),
-        le-leb (t .day) lastDay (v .time .last),
+        le-leb (t .day) (lastDayIn f (t .year)) (v .time .in-year),
       )
 
   seconds-pass : secondsAgree f frame ≡ true
@@ -177,18 +191,19 @@ pub taken : (f : Format) (t : Time) (w : ℕ) (lent : List ℕ) → writeOf f t 
 unfolding writeOf controlFits
 taken f t w lent h =
     let a = passed Written.Refused UnknownFormat (known f) _ Done done h in
-    let b = passed Written.Refused InvalidTime (onFormat f t) _ Done done (a .1) in
+    let y = passed Written.Refused InvalidYear (yearCarried f (t .year)) _ Done done (a .1) in
+    let b = passed Written.Refused InvalidTime (onFormat f t) _ Done done (y .1) in
     let s = passed Written.Refused SecondNotCarried (secondCarried f t) _ Done done (b .1) in
     let c = passed Written.Refused ControlTooLong (ltb w (2 ^ totalWidth (control f))) _ Done done (s .1) in
     let d = passed Written.Refused WrongLength (eqb (length lent) (size f)) _ Done done (c .1) in (
-      record { format = a .0; time = on-format f t (b .0) (s .0); room = ltb-true w (2 ^ totalWidth (control f)) (c .0) },
+      record { format = a .0; time = on-format f t (y .0) (b .0) (s .0); room = ltb-true w (2 ^ totalWidth (control f)) (c .0) },
       eqb-true (length lent) (size f) (d .0),
     )
 
 pub takes : (f : Format) (t : Time) (w : ℕ) (lent : List ℕ) → Valid f t w → length lent ≡ size f → writeOf f t w lent ≡ Done
 unfolding writeOf controlFits
 takes f t w lent v n =
-    rw (v .format, is-on-format f t (v .time), is-carried f t (v .time), lt-ltb w (2 ^ totalWidth (control f)) (v .room), eq-eqb (length lent) (size f) n)
+    rw (v .format, v .time .year-is, is-on-format f t (v .time), is-carried f t (v .time), lt-ltb w (2 ^ totalWidth (control f)) (v .room), eq-eqb (length lent) (size f) n)
 
 pub leaves : (f : Format) (t : Time) (w : ℕ) (lent : List ℕ) → writeOf f t w lent ≡ Done → writeLeaves f t w lent ≡ written f t w
 unfolding writeLeaves
