@@ -1,19 +1,21 @@
 -- The demands, stated over the definitions and proved for every format, time, control word, list and length.
-use mathlib.Core.Path.{_≡_, sym, ap, _∙_}
+use mathlib.Core.Path.{_≡_, sym, ap, _∙_, subst}
 use mathlib.Core.Bool.{true, false}
 use mathlib.Core.List.{List, [], _∷_, _++_}
-use Prim.Native.Nat.{ℕ, suc, _-_, _/_, _%_, _<_, _≤_}
+use Prim.Native.Nat.{ℕ, suc, _-_, _*_, _/_, _%_, _<_, _≤_}
 use lib.Dec.{eqb}
-use lib.ListN.{getD, length, replicate, length-replicate}
+use lib.ListN.{getD, length, take, drop, replicate, length-replicate}
 use mathlib.Core.Logic.{_↔_, _⊎_, inl, inr}
 use native.Mathlib.Nat.{zero-mod}
 use native.Mathlib.Omega.{arith}
 use Rattle.timecode.specs.Answers.{refusalNumber}
 use Rattle.timecode.specs.Calls.{classifyListOf, classifyListLeaves}
-use Rattle.timecode.specs.Formats.{member, known, size, interval, carriesYear, lastHundredth, dayLength, yearCarried, onFormat, carriesLeap, secondCarried}
+use Rattle.timecode.specs.Editions.{withYear, withoutYear, timeInYear, nineBits, forwardOf, forwardLeaves, backwardOf, backwardLeaves}
+use Rattle.timecode.specs.Formats.{member, rowOf, known, size, interval, carriesYear, lastHundredth, dayLength, yearCarried, onFormat, carriesLeap, secondCarried}
 use Rattle.timecode.specs.Frames.{newYear, yearLengths, lengthIn, usual, kinds, dayEnd, sameDay, nextDay, stepOf, Follows, nextAfter, stepBackOf, Precedes, writeOf, writeLeaves, readOf, Sent, Generator, sentAt, dayBefore, yearOfTimeBefore, following, preceding, onDay, areSymbols, isTime, timeIn, secondsAgree}
 use Rattle.timecode.specs.Laws.Back.{step-back, lengthBefore, checks-alike, back-step, back-on-format, follows-precedes, precedes-follows, any-length-back}
 use Rattle.timecode.specs.Laws.Checks.{accepted, by-reading, refused-up-to}
+use Rattle.timecode.specs.Laws.Editions.{Forward, forward-done, forward-leaves, forward-reads, forward-back, back-forward, forward-keeps, backward-keeps, backward-year, with-without}
 use Rattle.timecode.specs.Laws.Existence.{frames, length-frames, control-at, first-time, generator, goes-on}
 use Rattle.timecode.specs.Laws.Reading.{accepted-was-written, elements-up-to}
 use Rattle.timecode.specs.Laws.Stepping.{step-on-format, next-follows, follows-next, usual-end, step-answers, year-range, day-end-range, refuses-alike, lengthFor, length-in, any-length, Went, went, Lands, lands, year-is}
@@ -38,11 +40,19 @@ pub use Rattle.timecode.specs.Laws.Successors.{two-that-follow-are-apart
 -- Scan answers the lowest place, at least 1 and at least the start, where a mark stands before and Read accepts; None exactly if there is none.
 pub use Rattle.timecode.specs.Laws.Scanning.{scan-finds-the-lowest, scan-finds-none}
 
--- ---- Demand 1: a refusal leaves lent memory with the contents it had. Write and the classifier over lists set lent memory; Read, Step, Difference, the classifier for one pulse and Scan set none.
+-- ---- Demand 1: a refusal leaves lent memory with the contents it had. Write, the converters and the classifier over lists set lent memory; Read, Step, Difference, the classifier for one pulse and Scan set none.
 
 pub refused-write-leaves : (f : Format) (t : Time) (w : ℕ) (lent : List ℕ) (r : Refusal) → writeOf f t w lent ≡ Written.Refused r → writeLeaves f t w lent ≡ lent
 unfolding writeLeaves
 refused-write-leaves f t w lent r h = rw h
+
+pub refused-forward-leaves : (f : Format) (frame : List ℕ) (year : ℕ) (lent : List ℕ) (r : Refusal) → forwardOf f frame year lent ≡ Written.Refused r → forwardLeaves f frame year lent ≡ lent
+unfolding forwardLeaves
+refused-forward-leaves f frame year lent r h = rw h
+
+pub refused-backward-leaves : (f : Format) (frame lent : List ℕ) (r : Refusal) → backwardOf f frame lent ≡ Written.Refused r → backwardLeaves f frame lent ≡ lent
+unfolding backwardLeaves
+refused-backward-leaves f frame lent r h = rw h
 
 pub refused-list-leaves : (T : ℕ) (widths periods lent : List ℕ) (r : Refusal) → classifyListOf T widths periods lent ≡ Written.Refused r → classifyListLeaves T widths periods lent ≡ lent
 unfolding classifyListLeaves
@@ -198,3 +208,42 @@ generators-run-backwards f sent g j h = follows-precedes f (sentAt sent j .time)
 -- Where the format carries the year, both steps take the year's own length and ignore one given.
 pub given-length-ignored : (f : Format) (t : Time) (a b kind : ℕ) → carriesYear f ≡ true → (stepOf f t a kind ≡ stepOf f t b kind) × (stepBackOf f t a kind ≡ stepBackOf f t b kind)
 given-length-ignored f t a b kind y = (any-length f t a b kind y, any-length-back f t a b kind y)
+
+-- No false year with one element replaced: Demand3.no-false-year-with-one-replaced.
+
+-- ---- Converters. What they read, where they are done, stands in the frame that they leave.
+
+-- Forward keeps every element but 50 to 58, so the 18 later control bits in place; the frame is read as the same day and hundredths in the year given.
+pub forward-keeps-the-rest : (f : Format) (frame : List ℕ) (year : ℕ) (lent : List ℕ) → forwardOf f frame year lent ≡ Done
+    → (take 50 (forwardLeaves f frame year lent) ≡ take 50 frame) × (drop 59 (forwardLeaves f frame year lent) ≡ drop 59 frame)
+forward-keeps-the-rest = forward-keeps
+
+pub forward-is-read : (f : Format) (frame : List ℕ) (year : ℕ) (lent : List ℕ) → forwardOf f frame year lent ≡ Done
+    → (t : Time) × (w : ℕ) × (readOf f frame ≡ Accepted t w) × (readOf (withYear f) (forwardLeaves f frame year lent) ≡ Accepted (timeInYear t year) (w / nineBits))
+forward-is-read f frame year lent h =
+    let d = forward-done f frame year lent h in
+    (d .time, d .word, d .reads, ap (readOf (withYear f)) (forward-leaves f frame year lent h d) ∙ forward-reads f frame year d)
+
+-- Backward keeps every element but 50 to 58, and leaves these zero.
+pub backward-keeps-the-rest : (f : Format) (frame lent : List ℕ) → backwardOf f frame lent ≡ Done
+    → (take 50 (backwardLeaves f frame lent) ≡ take 50 frame) × (drop 59 (backwardLeaves f frame lent) ≡ drop 59 frame) × (take 9 (drop 50 (backwardLeaves f frame lent)) ≡ replicate 9 0)
+backward-keeps-the-rest f frame lent h =
+    let g = with-without f (backward-year f frame lent h) in
+    subst (λ (x : Format). backwardOf x frame lent ≡ Done
+    → (take 50 (backwardLeaves x frame lent) ≡ take 50 frame) × (drop 59 (backwardLeaves x frame lent) ≡ drop 59 frame) × (take 9 (drop 50 (backwardLeaves x frame lent)) ≡ replicate 9 0))
+    (g .1) (backward-keeps (withoutYear f) frame lent (g .0)) h
+
+-- Forward and back gives the same frame,
+pub forward-then-back : (f : Format) (frame : List ℕ) (year : ℕ) (lent again : List ℕ) → forwardOf f frame year lent ≡ Done → length again ≡ size f
+    → (backwardOf (withYear f) (forwardLeaves f frame year lent) again ≡ Done) × (backwardLeaves (withYear f) (forwardLeaves f frame year lent) again ≡ frame)
+forward-then-back = forward-back
+
+-- and so do back and forward, with the year that was dropped.
+pub back-then-forward : (f : Format) (frame lent again : List ℕ) (t : Time) (w : ℕ) → readOf f frame ≡ Accepted t w → backwardOf f frame lent ≡ Done → length again ≡ size f
+    → (forwardOf (withoutYear f) (backwardLeaves f frame lent) (t .year) again ≡ Done) × (forwardLeaves (withoutYear f) (backwardLeaves f frame lent) (t .year) again ≡ frame)
+unfolding size rowOf
+back-then-forward f frame lent again t w reads h n =
+    let g = with-without f (backward-year f frame lent h) in
+    subst (λ (x : Format). readOf x frame ≡ Accepted t w → backwardOf x frame lent ≡ Done
+    → (forwardOf (withoutYear f) (backwardLeaves x frame lent) (t .year) again ≡ Done) × (forwardLeaves (withoutYear f) (backwardLeaves x frame lent) (t .year) again ≡ frame))
+    (g .1) (λ r d. back-forward (withoutYear f) frame lent again t w (g .0) r d n) reads h

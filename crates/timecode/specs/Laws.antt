@@ -21,3 +21,4 @@ pub mod Machine
 pub mod Streams
 pub mod Existence
 pub mod Scanning
+pub mod Editions

@@ -5,6 +5,7 @@ pub mod Layout
 pub mod Frames
 pub mod Stream
 pub mod Calls
+pub mod Editions
 pub mod Demands
 pub mod Demand3
 pub mod Rows

@@ -6,16 +6,19 @@ use Prim.Native.Nat.{ℕ, zero, suc}
 use lib.Dec.{eqb}
 use lib.IntN.{ℤ, pos, negsuc}
 use lib.ListN.{length, drop, set, replicate}
-use Rattle.timecode.specs.Answers.{Result, writtenResult, readingResult, steppedResult, subtractedResult, classifiedResult, scannedResult, answerResult}
+use Rattle.timecode.specs.Answers.{Result, refusalResult, writtenResult, readingResult, steppedResult, subtractedResult, classifiedResult, scannedResult, answerResult}
 use Rattle.timecode.specs.Calls.{symbolOf, isInterval, classifyOf, symbolsOf, classifyListOf, classifyListLeaves, differenceOf, partAt, lowestOf, scanOf}
+use Rattle.timecode.specs.Editions.{isEarlier, checkForward, forwardOf, forwardLeaves, backwardOf, backwardLeaves}
 use Rattle.timecode.specs.Formats.{A, B, D, E, G, H, table, lookUp, rowOf, known, size, interval, carriesControl, carriesSeconds, carriesYear, controlPlaces, daysIn, yearCarried, lastDayIn, inRange, onFormat, carriesLeap, secondCarried}
 use Rattle.timecode.specs.Frames.{newYear, lengthIn, inYear, dayAfter, yearAfter, yearOfDayAfter, usual, secondAdded, secondTaken, dayLengthOf, dayEnd, onDay, following, stepOf, nextAfter, written, controlFits, writeOf, writeLeaves, marksAgree, elementFits, checkElements, lastSecond, isTime, timeIn, secondsAgree, readOf}
 use Rattle.timecode.specs.Layout.{seconds, minutes, hours, days, tenths, hundredthsDigit, hasSeconds, straightSeconds, control, years, timeFields, fields, runs, timeNumbers, numbers, isMark, filler, symbolAt, encode, value}
 use Rattle.timecode.specs.Stream.{twoFrames, windowLength, frameIn, nextInRow, inRow, windowAnswer, lastOf, plainAnswer}
 use Rattle.timecode.specs.declared.Format.{Format}
 use Rattle.timecode.specs.declared.Time.{Time}
+use Rattle.timecode.specs.declared.Written.{Written}
+use Rattle.timecode.specs.declared.Written.the-variants.{Done}
 
--- a call: Step; Write into a frame of n zeros (or of k), by its answer, by the bytes that it leaves, or by the indices from k on where it leaves a one; the formats that Write takes; Read; the answer to the last of a list of symbols; Difference; the classifier; the classifier over lists into k zeros, by its answer, or by what it leaves; Scan
+-- a call: Step; Write into a frame of n zeros (or of k), by its answer, by the bytes that it leaves, or by the indices from k on where it leaves a one; the formats that Write takes; Read; the answer to the last of a list of symbols; Difference; the classifier; the classifier over lists into k zeros, by its answer, or by what it leaves; Scan; the converters into k zeros, by the bytes that they leave
 pub data Call : Type 0 where
   step : Format → Time → ℕ → ℕ → Call
   write : Format → Time → ℕ → Call
@@ -30,6 +33,8 @@ pub data Call : Type 0 where
   list : ℕ → List ℕ → List ℕ → ℕ → Call
   symbols : ℕ → List ℕ → List ℕ → Call
   scan : Format → List ℕ → ℕ → Call
+  forward : ℕ → Format → List ℕ → ℕ → Call
+  backward : ℕ → Format → List ℕ → Call
 
 abbrev onesFrom : ℕ → List ℕ → List ℤ
 onesFrom i [] = []
@@ -54,6 +59,11 @@ abbrev formatsFrom : ℕ → ℕ → List ℤ
 formatsFrom letter zero = []
 formatsFrom letter (suc k) = expressionsFrom letter 9 0 ++ formatsFrom (suc letter) k
 
+-- the bytes that a call leaves, or its refusal
+abbrev leftResult : Written → List ℕ → Result
+leftResult Done bytes = record { number = 0; values = map pos bytes }
+leftResult (Written.Refused r) bytes = refusalResult r
+
 abbrev pub resultOf : Call → Result
 resultOf (step f t year kind) = steppedResult (stepOf f t year kind)
 resultOf (write f t w) = writtenResult (writeOf f t w (lent f))
@@ -68,6 +78,8 @@ resultOf (classify T width period) = classifiedResult (classifyOf T width period
 resultOf (list T widths periods k) = writtenResult (classifyListOf T widths periods (replicate k 0))
 resultOf (symbols T widths periods) = record { number = 0; values = map pos (classifyListLeaves T widths periods (replicate (length widths) 0)) }
 resultOf (scan f recording start) = scannedResult (scanOf f recording start)
+resultOf (forward k f bytes year) = leftResult (forwardOf f bytes year (replicate k 0)) (forwardLeaves f bytes year (replicate k 0))
+resultOf (backward k f bytes) = leftResult (backwardOf f bytes (replicate k 0)) (backwardLeaves f bytes (replicate k 0))
 
 pub record Line : Type 0 where
   pub call : Call
@@ -219,8 +231,25 @@ lines =
     ∷ (read (format B 4) (set (written (format B 4) (dated 0 1 0) 0) 54 1) refused 6 at 54)
     -- Difference passes over the years
     ∷ (difference (dated 99 2 0) (dated 200 1 8639999) gives (pos 1 ∷ []))
+    -- the converters, with 1,003 in the 18 later control bits
+    ∷ (forward 100 (format B 0) (written (format B 0) (time 366 8639900) 513536) 24 gives map pos (written (format B 4) (dated 24 366 8639900) 1003))
+    ∷ (backward 100 (format B 4) (written (format B 4) (dated 24 366 8639900) 1003) gives map pos (written (format B 0) (time 366 8639900) 513536))
+    -- forward asks 1, 3 of either frame, 4, 5 and 6, 7, 8, then 17, 2, 18
+    ∷ (forward 99 (format G 1) (replicate 99 7) 100 refused 1)
+    ∷ (forward 99 (format B 4) (replicate 99 7) 100 refused 1)
+    ∷ (forward 99 (format B 0) (replicate 100 7) 100 refused 3)
+    ∷ (forward 100 (format B 0) (replicate 99 7) 100 refused 3)
+    ∷ (forward 100 (format B 0) (replicate 100 7) 100 refused 4)
+    ∷ (forward 100 (format B 0) (set (written (format B 0) (time 366 0) 1) 5 1) 100 refused 6 at 5)
+    ∷ (forward 100 (format B 0) (written (format B 0) (time 366 0) 1) 100 refused 17)
+    ∷ (forward 100 (format B 0) (written (format B 0) (time 366 0) 1) 23 refused 2)
+    ∷ (forward 100 (format B 0) (written (format B 0) (time 366 0) 256) 24 refused 18)
+    -- backward asks 1, 3 of either frame, then as Read
+    ∷ (backward 99 (format B 0) (replicate 99 7) refused 1)
+    ∷ (backward 99 (format B 4) (replicate 100 7) refused 3)
+    ∷ (backward 100 (format B 4) (written (format B 4) (dated 97 366 0) 0) refused 7)
     ∷ []
 
 pub all-lines : map (λ l. resultOf (l .call)) lines ≡ map (λ l. l .result) lines
-unfolding lines readOf checkElements marksAgree elementFits lastSecond isTime timeIn secondsAgree value scanOf lowestOf partAt stepOf nextAfter known rowOf lookUp table size interval carriesControl carriesSeconds carriesYear controlPlaces daysIn yearCarried lastDayIn inRange onFormat carriesLeap secondCarried lengthIn inYear dayAfter yearAfter yearOfDayAfter dayLengthOf dayEnd onDay following writeOf writeLeaves written controlFits encode symbolAt filler isMark runs fields timeFields numbers timeNumbers seconds minutes hours days tenths hundredthsDigit straightSeconds hasSeconds control years differenceOf classifyOf isInterval symbolOf symbolsOf classifyListOf classifyListLeaves windowLength frameIn nextInRow inRow windowAnswer lastOf plainAnswer
+unfolding lines isEarlier checkForward forwardOf forwardLeaves backwardOf backwardLeaves readOf checkElements marksAgree elementFits lastSecond isTime timeIn secondsAgree value scanOf lowestOf partAt stepOf nextAfter known rowOf lookUp table size interval carriesControl carriesSeconds carriesYear controlPlaces daysIn yearCarried lastDayIn inRange onFormat carriesLeap secondCarried lengthIn inYear dayAfter yearAfter yearOfDayAfter dayLengthOf dayEnd onDay following writeOf writeLeaves written controlFits encode symbolAt filler isMark runs fields timeFields numbers timeNumbers seconds minutes hours days tenths hundredthsDigit straightSeconds hasSeconds control years differenceOf classifyOf isInterval symbolOf symbolsOf classifyListOf classifyListLeaves windowLength frameIn nextInRow inRow windowAnswer lastOf plainAnswer
 all-lines = refl
