@@ -18,14 +18,14 @@ use Rattle.timecode.specs.Laws.Checks.{accepted, by-reading, refused-up-
 use Rattle.timecode.specs.Laws.Editions.{Forward, forward-done, forward-leaves, forward-reads, forward-back, back-forward, forward-keeps, backward-keeps, backward-year, with-without}
 use Rattle.timecode.specs.Laws.Existence.{frames, length-frames, control-at, first-time, generator, goes-on}
 use Rattle.timecode.specs.Laws.Reading.{accepted-was-written, elements-up-to}
-use Rattle.timecode.specs.Laws.Stepping.{step-on-format, next-follows, follows-next, usual-end, step-answers, year-range, day-end-range, refuses-alike, lengthFor, length-in, any-length, Went, went, Lands, lands, year-is}
+use Rattle.timecode.specs.Laws.Stepping.{step-on-format, next-follows, follows-next, usual-end, step-answers, year-range, day-end-range, refuses-alike, lengthFor, length-in, never-refuses-length, any-length, Went, went, Lands, lands, year-is}
 use Rattle.timecode.specs.Laws.Times.{last-range, is-on-format, is-carried, none-added, one-added}
 use Rattle.timecode.specs.Laws.Writing.{written-is-accepted, taken, takes, leaves}
 use Rattle.timecode.specs.Layout.{second, minute, hour, filler, runs, control, numberIn}
 use Rattle.timecode.specs.declared.Format.{Format}
 use Rattle.timecode.specs.declared.Reading.{Reading}
 use Rattle.timecode.specs.declared.Reading.the-variants.{Accepted}
-use Rattle.timecode.specs.declared.Refusal.the-variants.{UnknownFormat, WrongLength, UnknownSymbol, InvalidDigit, SecondsDiffer}
+use Rattle.timecode.specs.declared.Refusal.the-variants.{UnknownFormat, WrongLength, UnknownSymbol, InvalidDigit, SecondsDiffer, InvalidYearLength}
 use Rattle.timecode.specs.declared.Refusal.{Refusal}
 use Rattle.timecode.specs.declared.Stepped.{Stepped}
 use Rattle.timecode.specs.declared.Stepped.the-variants.{To}
@@ -208,6 +208,10 @@ generators-run-backwards f sent g j h = follows-precedes f (sentAt sent j .time)
 -- Where the format carries the year, both steps take the year's own length and ignore one given.
 pub given-length-ignored : (f : Format) (t : Time) (a b kind : ℕ) → carriesYear f ≡ true → (stepOf f t a kind ≡ stepOf f t b kind) × (stepBackOf f t a kind ≡ stepBackOf f t b kind)
 given-length-ignored f t a b kind y = (any-length f t a b kind y, any-length-back f t a b kind y)
+
+-- So 11 never occurs there.
+pub year-length-never-refused : (f : Format) (t : Time) (given kind : ℕ) → carriesYear f ≡ true → stepOf f t given kind ≡ Stepped.Refused InvalidYearLength → ⊥
+year-length-never-refused = never-refuses-length
 
 -- No false year with one element replaced: Demand3.no-false-year-with-one-replaced.
 

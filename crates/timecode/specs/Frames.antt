@@ -130,7 +130,7 @@ abbrev pub any : (ℕ → Bool) → List ℕ → Bool
 any p [] = false
 any p (x ∷ xs) = p x || any p xs
 
--- Without a known year and kind, u is next after t if some year length and some kind give it. Day 366 counts only with 366: Step refuses it with 365.
+-- Without a known year and kind, u is next after t if some year length and some kind give it. Day 366 counts only with 366: Step refuses it with 365. Where the format carries the year, either gives what its own length does.
 unfoldable pub nextAfter : Format → Time → Time → Bool
 nextAfter f t u = any (λ length. any (λ kind. stepsTo (stepOf f t length kind) u) kinds) yearLengths
 

@@ -1,5 +1,5 @@
 -- A chain of checks taken apart: an answer that is no refusal passed them all.
-use mathlib.Core.Path.{_≡_, refl, subst}
+use mathlib.Core.Path.{_≡_, refl, ap, subst}
 use mathlib.Core.Bool.{Bool, true, false}
 use Prim.Native.Nat.{ℕ, _≤_}
 use native.Mathlib.Omega.{arith}
@@ -30,6 +30,11 @@ passes refused k b a h = rw h
 pub same-check : {Any : Type 0} (refused : Refusal → Any) (k : Refusal) (b : Bool) (a c x : Any) → (a ≡ x → c ≡ x) → check refused k b a ≡ x → check refused k b c ≡ x
 same-check refused k true a c x f h = f h
 same-check refused k false a c x f h = h
+
+-- a check of a step with another number than the refusal's passed
+pub refused-later : (k : Refusal) (b : Bool) (a : Stepped) (r : Refusal) → (refusalNumber k ≡ refusalNumber r → ⊥) → check Stepped.Refused k b a ≡ Stepped.Refused r → (b ≡ true) × (a ≡ Stepped.Refused r)
+refused-later k true a r n h = (refl, h)
+refused-later k false a r n h = let p : k ≡ r = cc in absurd (n (ap refusalNumber p))
 
 no-path : _≡_ {A = ℕ} 0 1 → ⊥
 no-path z = omega arith

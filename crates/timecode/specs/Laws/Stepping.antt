@@ -10,10 +10,10 @@ use borrow.Author.Tests.{leb-true, ltb-true, eqb-true, eqb-false, le-leb, lt-ltb
 use lib.Dec.{leb, ltb, eqb}
 use Rattle.timecode.specs.Formats.{member, table, lookUp, rowOf, known, interval, carriesYear, lastDay, dayLength, lastYear, daysIn, yearCarried, lastDayIn, onFormat, carriesLeap, secondCarried, OnFormat}
 use Rattle.timecode.specs.Frames.{yearLengths, lengthIn, inYear, dayAfter, yearAfter, yearOfDayAfter, secondAdded, secondTaken, kinds, dayLengthOf, dayEnd, onDay, sameDay, nextDay, following, checkStep, stepBy, stepOf, Follows, stepsTo, any, nextAfter, LeapTurn, Turn}
-use Rattle.timecode.specs.Laws.Checks.{passed, same-check, next}
+use Rattle.timecode.specs.Laws.Checks.{passed, same-check, refused-later, next}
 use Rattle.timecode.specs.Laws.Table.{everyFormat, of-every}
 use Rattle.timecode.specs.Laws.Tests.{by-test, clash, and-left, and-right, or-other, or-first, or-second}
-use Rattle.timecode.specs.Laws.Times.{same-is, same-self, last-range, on-format, is-on-format, is-carried, year-small, year-none, year-carried, last-known, last-unknown}
+use Rattle.timecode.specs.Laws.Times.{same-is, same-self, last-range, day-in-year, on-format, is-on-format, is-carried, year-small, year-none, year-carried, last-known, last-unknown}
 use Rattle.timecode.specs.declared.Format.{Format}
 use Rattle.timecode.specs.declared.Refusal.the-variants.{UnknownFormat, InvalidTime, InvalidYearLength, SecondNotCarried, InvalidKind, InvalidYear}
 use Rattle.timecode.specs.declared.Refusal.{Refusal}
@@ -100,6 +100,22 @@ days-length year = by-test (eqb (year % 4) 0) (λ y. rw y) (λ m. rw m)
 pub length-in : (f : Format) (year given : ℕ) → member given yearLengths ≡ true → member (lengthIn f year given) yearLengths ≡ true
 unfolding lengthIn
 length-in f year given h = by-test (carriesYear f) (λ y. rw y (days-length year)) (λ m. rw m h)
+
+-- where the format carries the year, number 11 passes every day that number 2 passes
+pub own-length : (f : Format) (t : Time) (given : ℕ) → carriesYear f ≡ true → onFormat f t ≡ true → inYear t (lengthFor f t given) ≡ true
+unfolding inYear
+own-length f t given y h = rw (of-year f (t .year) given y, days-length (t .year)) (le-leb (t .day) (daysIn (t .year)) (omega (arith, day-in-year f t h, last-known f (t .year) y)))
+
+pub never-refuses-length : (f : Format) (t : Time) (given kind : ℕ) → carriesYear f ≡ true → stepOf f t given kind ≡ Stepped.Refused InvalidYearLength → ⊥
+unfolding stepOf
+never-refuses-length f t given kind y h =
+    let length = lengthFor f t given in
+    let a = refused-later UnknownFormat (known f) _ InvalidYearLength (λ e. omega arith) h in
+    let b = refused-later InvalidYear (yearCarried f (t .year)) _ InvalidYearLength (λ e. omega arith) (a .1) in
+    let c = refused-later InvalidTime (onFormat f t) _ InvalidYearLength (λ e. omega arith) (b .1) in
+    let d = refused-later SecondNotCarried (secondCarried f t) _ InvalidYearLength (λ e. omega arith) (c .1) in
+    let g = refused-later InvalidKind (onDay f t kind) (To (following f t length kind)) InvalidYearLength (λ e. omega arith) (rw (own-length f t given y (c .0)) at (d .1)) in
+    next (following f t length kind) InvalidYearLength (sym (g .1))
 
 -- the year's last day is its length where 366 is given
 last-is-length : (f : Format) (year : ℕ) → lastDayIn f year ≡ lengthIn f year 366

@@ -45,18 +45,25 @@ pub last-range : (f : Format) (year : ℕ) → (365 ≤ lastDayIn f year) × (la
 unfolding lastDayIn
 last-range f year = by-test (carriesYear f) (λ y. rw y (days-range year)) (λ m. rw m (omega arith))
 
+-- number 2 passes a day that the year has
+pub day-in-year : (f : Format) (t : Time) → onFormat f t ≡ true → t .day ≤ lastDayIn f (t .year)
+unfolding onFormat inRange
+day-in-year f t h =
+    let last = lastDayIn f (t .year) in
+    let range = and-left (leb 1 (t .day) && (leb (t .day) last && leb (t .hundredths) lastHundredth)) (eqb (t .hundredths % interval f) 0) h in
+    leb-true (t .day) (lastDayIn f (t .year)) (and-left (leb (t .day) last) (leb (t .hundredths) lastHundredth) (and-right (leb 1 (t .day)) (leb (t .day) last && leb (t .hundredths) lastHundredth) range))
+
 pub on-format : (f : Format) (t : Time) → yearCarried f (t .year) ≡ true → onFormat f t ≡ true → secondCarried f t ≡ true → OnFormat f t
 unfolding onFormat inRange
 on-format f t y h s =
     let last = lastDayIn f (t .year) in
     let range = and-left (leb 1 (t .day) && (leb (t .day) last && leb (t .hundredths) lastHundredth)) (eqb (t .hundredths % interval f) 0) h in
     let ends = and-right (leb 1 (t .day)) (leb (t .day) last && leb (t .hundredths) lastHundredth) range in
-    let inside = leb-true (t .day) (lastDayIn f (t .year)) (and-left (leb (t .day) last) (leb (t .hundredths) lastHundredth) ends) in
     record {
       year-is = y;
       first = leb-true 1 (t .day) (and-left (leb 1 (t .day)) (leb (t .day) last && leb (t .hundredths) lastHundredth) range);
-      in-year = inside;
-      last = omega (arith, inside, last-range f (t .year));
+      in-year = day-in-year f t h;
+      last = omega (arith, day-in-year f t h, last-range f (t .year));
       below = leb-true (t .hundredths) lastHundredth (and-right (leb (t .day) last) (leb (t .hundredths) lastHundredth) ends);
       grid = eqb-true (t .hundredths % interval f) 0 (and-right (leb 1 (t .day) && (leb (t .day) last && leb (t .hundredths) lastHundredth)) (eqb (t .hundredths % interval f) 0) h);
       carried = second-carried f t s;
