@@ -27,7 +27,9 @@ impl Count {
             Answer::Report(t, c) => {
                 self.e += 1;
                 self.r += 1;
-                for x in [self.e, u64::from(t.day), u64::from(t.hundredths), c % P] {
+                // Where no year is carried it is 0, and the sum that of the day.
+                let day = 1_000 * u64::from(t.year) + u64::from(t.day);
+                for x in [self.e, day, u64::from(t.hundredths), c % P] {
                     self.s = ((self.s % P) * 31 + x) % P;
                 }
             }
@@ -110,6 +112,7 @@ fn interval(f: Format) -> u32 {
 fn control_bits(f: Format) -> u32 {
     let mut frame = vec![0; size(f)];
     let t = Time {
+        year: 0,
         day: 1,
         hundredths: 0,
     };
@@ -120,9 +123,12 @@ fn control_bits(f: Format) -> u32 {
     bits
 }
 
-fn frames(f: Format, year: impl Fn(u64) -> u16) -> Vec<u8> {
+/// Frames of a generator that starts on day 365 of that year, where the format carries it, and is told a length of the year
+/// with each step.
+fn frames(f: Format, year: u8, length: impl Fn(u64) -> u16) -> Vec<u8> {
     let bits = control_bits(f);
     let mut t = Time {
+        year: if f.expression < 4 { 0 } else { year },
         day: 365,
         hundredths: 8_640_000 - 11 * interval(f),
     };
@@ -131,7 +137,7 @@ fn frames(f: Format, year: impl Fn(u64) -> u16) -> Vec<u8> {
         let mut frame = vec![7; size(f)];
         write(f, t, (j * 12345) % (1 << bits), &mut frame).unwrap();
         out.extend(frame);
-        if let Ok(u) = step(f, t, year(j), 0) {
+        if let Ok(u) = step(f, t, length(j), 0) {
             t = u;
         }
     }
@@ -140,8 +146,8 @@ fn frames(f: Format, year: impl Fn(u64) -> u16) -> Vec<u8> {
 
 fn formats() -> Vec<Format> {
     [
-        ("A", 0..4u8),
-        ("B", 0..4),
+        ("A", 0..8u8),
+        ("B", 0..8),
         ("D", 1..3),
         ("E", 1..3),
         ("G", 1..3),
@@ -164,6 +170,10 @@ fn each(name: &str, setting: u8, make: &dyn Fn(Format) -> Vec<u8>) {
 }
 
 const M: usize = 200_000;
+
+/// A year with day 366, and the one before year 0.
+const LEAP_YEAR: u8 = 96;
+const LAST_YEAR: u8 = 99;
 
 fn random_symbols(setting: u8) {
     each("random", setting, &|_| {
@@ -201,7 +211,7 @@ fn made_up(setting: u8) {
 }
 
 fn valid(f: Format) -> Vec<u8> {
-    frames(f, |_| 366)
+    frames(f, LEAP_YEAR, |_| 366)
 }
 
 /// The valid frames with each element that has a number divisible by `step`, counted from 1, made something else.
@@ -224,10 +234,10 @@ fn generated(setting: u8) {
     each("added", setting, &|f| changed(f, 997, |x| vec![1, x]));
     each("interrupted", setting, &|f| changed(f, 50, |x| vec![9, x]));
     each("leap", setting, &|f| {
-        frames(f, |j| if j % 2 == 1 { 365 } else { 366 })
+        frames(f, LEAP_YEAR, |j| if j % 2 == 1 { 365 } else { 366 })
     });
     each("common", setting, &|f| {
-        frames(f, |j| if j % 2 == 0 { 365 } else { 366 })
+        frames(f, LAST_YEAR, |j| if j % 2 == 0 { 365 } else { 366 })
     });
 }
 
@@ -236,7 +246,7 @@ fn rows(setting: u8) {
         changed(f, 331, |x| vec![(x + 1) % 4])
     });
     each("repeated", setting, &|f| {
-        frames(f, |j| if j % 5 == 4 { 365 } else { 366 })
+        frames(f, LEAP_YEAR, |j| if j % 5 == 4 { 365 } else { 366 })
     });
 }
 

@@ -19,9 +19,9 @@ fn line(format: Format, time: Time, control: u64) -> Result<String, Refusal> {
 }
 
 /// Write's checks of the first frame, then Step's of its time.
-fn begin(format: Format, time: Time, control: u64, year: u16, kind: u8) -> Result<(), Refusal> {
+fn begin(format: Format, time: Time, control: u64, length: u16, kind: u8) -> Result<(), Refusal> {
     line(format, time, control)?;
-    step(format, time, year, kind)?;
+    step(format, time, length, kind)?;
     Ok(())
 }
 
@@ -33,10 +33,12 @@ fn main() {
         expression: name[1] - b'0',
     };
     let mut time = Time {
+        year: arguments.get(7).map_or(0, |year| year.parse().unwrap()),
         day: arguments[1].parse().unwrap(),
         hundredths: arguments[2].parse().unwrap(),
     };
-    let year = arguments[3].parse().unwrap();
+    // What a format with the year passes over.
+    let length = arguments[3].parse().unwrap();
     let frames: u64 = arguments[4].parse().unwrap();
     let control = arguments
         .get(5)
@@ -45,14 +47,14 @@ fn main() {
     let mut kind = arguments
         .get(6)
         .map_or(USUAL_DAY, |kind| kind.parse().unwrap());
-    if let Err(refusal) = begin(format, time, control, year, kind) {
+    if let Err(refusal) = begin(format, time, control, length, kind) {
         println!("refused {}", refusal.number());
         return;
     }
     println!("{}", arguments[0]);
     for _ in 0..frames {
         println!("{}", line(format, time, control).unwrap());
-        let next = step(format, time, year, kind).unwrap();
+        let next = step(format, time, length, kind).unwrap();
         if next.day != time.day {
             kind = USUAL_DAY;
         }

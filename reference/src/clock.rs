@@ -11,15 +11,36 @@ pub const SECOND_ADDED: u8 = 1;
 /// Kind of a day without its last second, 23:59:59.
 pub const SECOND_TAKEN: u8 = 2;
 
-/// A time in range that lies on the format, or refusal 2, and in an added
-/// second only where the format carries it, or refusal 14.
+/// A year that the format carries, or refusal 17, a time in range that lies on
+/// the format, or refusal 2, and in an added second only where the format
+/// carries it, or refusal 14.
 pub(crate) fn check_on_format(layout: &Layout, time: Time) -> Result<(), Refusal> {
-    if !time.in_range() || time.hundredths % layout.interval != 0 {
+    let last_year = if layout.carries_year {
+        Time::LAST_YEAR
+    } else {
+        0
+    };
+    if time.year > last_year {
+        Err(Refusal::Year)
+    } else if !time.in_range()
+        || time.day > layout.last_day(time.year)
+        || time.hundredths % layout.interval != 0
+    {
         Err(Refusal::Time)
     } else if time.in_added_second() && !layout.leap_second {
         Err(Refusal::AddedSecond)
     } else {
         Ok(())
+    }
+}
+
+/// The length of that year: its own where the format carries it, else the one
+/// given.
+fn length_of(layout: &Layout, year: u8, given: u16) -> u16 {
+    if layout.carries_year {
+        Time::days_in(year)
+    } else {
+        given
     }
 }
 
@@ -42,8 +63,8 @@ fn day_length(layout: &Layout, time: Time, year_length: u16, kind: u8) -> Result
     }
 }
 
-/// The time one frame later in a year of 365 or 366 days; the kind is that of
-/// the given time's day.
+/// The time one frame later in a year of 365 or 366 days, which the format may
+/// tell by itself; the kind is that of the given time's day.
 pub fn step(format: Format, time: Time, year_length: u16, kind: u8) -> Result<Time, Refusal> {
     let layout = Layout::of(format)?;
     check_on_format(layout, time)?;
@@ -52,23 +73,31 @@ pub fn step(format: Format, time: Time, year_length: u16, kind: u8) -> Result<Ti
 
 /// The time one frame earlier; the year length and the kind are those of that
 /// time's year and day. The checks look at the given time, as those of `step`.
+/// Year 0 comes after 99.
 pub fn step_back(format: Format, time: Time, year_length: u16, kind: u8) -> Result<Time, Refusal> {
     let layout = Layout::of(format)?;
     check_on_format(layout, time)?;
+    let first_of_year = time.day == 1 && time.hundredths == 0;
+    let year = match time.year {
+        year if !(layout.carries_year && first_of_year) => year,
+        0 => Time::LAST_YEAR,
+        year => year - 1,
+    };
+    let year_length = length_of(layout, year, year_length);
     let day_length = day_length(layout, time, year_length, kind)?;
     Ok(if time.hundredths > 0 {
         Time {
             hundredths: time.hundredths - layout.interval,
             ..time
         }
-    } else if time.day > 1 {
-        Time {
-            day: time.day - 1,
-            hundredths: day_length - layout.interval,
-        }
     } else {
         Time {
-            day: year_length,
+            year,
+            day: if first_of_year {
+                year_length
+            } else {
+                time.day - 1
+            },
             hundredths: day_length - layout.interval,
         }
     })
@@ -76,17 +105,25 @@ pub fn step_back(format: Format, time: Time, year_length: u16, kind: u8) -> Resu
 
 /// `step` for a time already known to lie on the format.
 fn advance(layout: &Layout, time: Time, year_length: u16, kind: u8) -> Result<Time, Refusal> {
+    let year_length = length_of(layout, time.year, year_length);
     let day_length = day_length(layout, time, year_length, kind)?;
     let hundredths = time.hundredths + layout.interval;
     Ok(if hundredths < day_length {
         Time { hundredths, ..time }
     } else if time.day < year_length {
         Time {
+            year: time.year,
             day: time.day + 1,
             hundredths: 0,
         }
     } else {
+        let year = match time.year {
+            year if !layout.carries_year => year,
+            Time::LAST_YEAR => 0,
+            year => year + 1,
+        };
         Time {
+            year,
             day: 1,
             hundredths: 0,
         }
@@ -112,8 +149,8 @@ pub(crate) fn follows(layout: &Layout, first: Time, second: Time) -> bool {
     })
 }
 
-/// `first` less `second` within one year, in hundredths of a second. Every day
-/// counts as a usual one.
+/// `first` less `second` as if within one year, in hundredths of a second.
+/// Every day counts as a usual one, and no year is looked at.
 pub fn difference(first: Time, second: Time) -> Result<i64, Refusal> {
     if !first.in_range() || !second.in_range() {
         return Err(Refusal::Time);

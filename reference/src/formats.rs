@@ -1,14 +1,18 @@
 //! Times, formats and symbols.
 
-/// A day of year and the hundredths of a second since midnight; the added
-/// second of a day follows its 86,400 usual ones.
+/// A year from 2000, a day of year and the hundredths of a second since
+/// midnight; the added second of a day follows its 86,400 usual ones. The year
+/// is 0 where the format carries none.
 #[derive(Clone, Copy, Debug, PartialEq, Eq, Hash)]
 pub struct Time {
+    pub year: u8,
     pub day: u16,
     pub hundredths: u32,
 }
 
 impl Time {
+    /// 2099.
+    pub const LAST_YEAR: u8 = 99;
     pub const LAST_DAY: u16 = 366;
     pub const HUNDREDTHS_PER_DAY: u32 = 8_640_000;
     /// The last hundredth of an added second.
@@ -17,6 +21,15 @@ impl Time {
     /// Day 1 to 366 and hundredths up to the end of an added second.
     pub fn in_range(self) -> bool {
         (1..=Self::LAST_DAY).contains(&self.day) && self.hundredths <= Self::LAST_HUNDREDTH
+    }
+
+    /// The days of a year of 2000 to 2099: every fourth from 2000 has 366.
+    pub fn days_in(year: u8) -> u16 {
+        if year % 4 == 0 {
+            366
+        } else {
+            365
+        }
     }
 
     /// Whether the time lies in an added second.
@@ -37,7 +50,7 @@ impl Time {
 }
 
 /// A rate letter (capital ASCII) and a coded expression: 0 = BCD, CF, SBS;
-/// 1 = BCD, CF; 2 = BCD; 3 = BCD, SBS.
+/// 1 = BCD, CF; 2 = BCD; 3 = BCD, SBS; 4 to 7 = 0 to 3 with the year.
 #[derive(Clone, Copy, Debug, PartialEq, Eq, Hash)]
 pub struct Format {
     pub letter: u8,

@@ -27,6 +27,7 @@ pub fn write(format: Format, time: Time, control: u64, frame: &mut [u8]) -> Resu
     put_decimal(frame, &layout.minutes, minutes);
     put_decimal(frame, &layout.hours, hours);
     put_decimal(frame, &layout.days, u32::from(time.day));
+    put_decimal(frame, &layout.year, u32::from(time.year));
     put_word(frame, layout.control, control);
     put_word(
         frame,
@@ -54,6 +55,7 @@ pub fn read(format: Format, frame: &[u8]) -> Result<(Time, u64), Refusal> {
 pub(crate) fn decode(layout: &Layout, frame: &[u8]) -> Result<(Time, u64), Refusal> {
     check_elements(layout, frame)?;
 
+    let year = get_decimal(frame, &layout.year)? as u8;
     let day = get_decimal(frame, &layout.days)?;
     let hours = get_decimal(frame, &layout.hours)?;
     let minutes = get_decimal(frame, &layout.minutes)?;
@@ -69,7 +71,7 @@ pub(crate) fn decode(layout: &Layout, frame: &[u8]) -> Result<(Time, u64), Refus
         || minutes > 59
         || seconds > last_second
         || day == 0
-        || day > u32::from(Time::LAST_DAY)
+        || day > u32::from(layout.last_day(year))
     {
         return Err(Refusal::Digit);
     }
@@ -83,6 +85,7 @@ pub(crate) fn decode(layout: &Layout, frame: &[u8]) -> Result<(Time, u64), Refus
 
     let hundredths = second_of_day * HUNDREDTHS_PER_SECOND + fraction;
     let time = Time {
+        year,
         day: day as u16,
         hundredths,
     };
@@ -116,7 +119,7 @@ fn get_bits(frame: &[u8], field: Field) -> u64 {
 }
 
 /// Writes a number as decimal digits; `digits` lists them highest first.
-fn put_decimal(frame: &mut [u8], digits: &[Field], mut value: u32) {
+pub(crate) fn put_decimal(frame: &mut [u8], digits: &[Field], mut value: u32) {
     for &digit in digits.iter().rev() {
         put_bits(frame, digit, u64::from(value % 10));
         value /= 10;

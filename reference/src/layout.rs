@@ -1,7 +1,7 @@
 //! Where each element of a frame stands: one constant table for each format,
 //! used by writer and reader alike.
 
-use crate::formats::{Format, MARK, ZERO};
+use crate::formats::{Format, Time, MARK, ZERO};
 use crate::refusal::Refusal;
 
 /// The longest frame, in elements.
@@ -43,10 +43,12 @@ pub struct Layout {
     pub interval: u32,
     /// Whether a second added to a day or taken from it shows in the format.
     pub leap_second: bool,
+    pub carries_year: bool,
     pub seconds: [Field; 2],
     pub minutes: [Field; 2],
     pub hours: [Field; 2],
     pub days: [Field; 3],
+    pub year: [Field; 2],
     /// Tenths and hundredths of a second.
     pub fraction: [Field; 2],
     /// Control bits, empty where the expression has none.
@@ -78,23 +80,41 @@ impl Layout {
             .ok_or(Refusal::Format)
     }
 
+    /// The last day that a time of that year has in the format: the year's own,
+    /// or 366 where the format does not carry it.
+    pub fn last_day(&self, year: u8) -> u16 {
+        if self.carries_year {
+            Time::days_in(year)
+        } else {
+            Time::LAST_DAY
+        }
+    }
+
     /// Number of control bits that a frame carries.
     pub fn control_bits(&self) -> usize {
         self.control.iter().map(|part| part.width).sum()
     }
 }
 
-static A: [Layout; 4] = [
+static A: [Layout; 8] = [
     build(b'A', 0),
     build(b'A', 1),
     build(b'A', 2),
     build(b'A', 3),
+    build(b'A', 4),
+    build(b'A', 5),
+    build(b'A', 6),
+    build(b'A', 7),
 ];
-static B: [Layout; 4] = [
+static B: [Layout; 8] = [
     build(b'B', 0),
     build(b'B', 1),
     build(b'B', 2),
     build(b'B', 3),
+    build(b'B', 4),
+    build(b'B', 5),
+    build(b'B', 6),
+    build(b'B', 7),
 ];
 static D: [Layout; 2] = [build(b'D', 1), build(b'D', 2)];
 static E: [Layout; 2] = [build(b'E', 1), build(b'E', 2)];
@@ -102,6 +122,7 @@ static G: [Layout; 2] = [build(b'G', 1), build(b'G', 2)];
 static H: [Layout; 2] = [build(b'H', 1), build(b'H', 2)];
 
 const CONTROL_A_B: &[Field] = &[field(50, 58), field(60, 68), field(70, 78)];
+const CONTROL_WITH_YEAR: &[Field] = &[field(60, 68), field(70, 78)];
 const CONTROL_D_H: &[Field] = &[field(50, 58)];
 const CONTROL_E: &[Field] = &[
     field(50, 58),
@@ -118,10 +139,12 @@ const SECOND_TENS: Field = field(6, 8);
 const MINUTES: [Field; 2] = [field(15, 17), field(10, 13)];
 const HOURS: [Field; 2] = [field(25, 26), field(20, 23)];
 const DAYS: [Field; 3] = [field(40, 41), field(35, 38), field(30, 33)];
+const YEAR: [Field; 2] = [field(55, 58), field(50, 53)];
 const TENTHS: Field = field(45, 48);
 const HUNDREDTHS: Field = field(50, 53);
 
-/// The table of a format that document 01 lists.
+/// The table of a format that document 01 or document 02, "The year on the
+/// wire", lists.
 const fn build(letter: u8, expression: u8) -> Layout {
     let (elements, interval, control) = match letter {
         b'A' => (100, 10, CONTROL_A_B),
@@ -147,12 +170,14 @@ const fn build(letter: u8, expression: u8) -> Layout {
         b'G' => [TENTHS, HUNDREDTHS],
         _ => [ABSENT, ABSENT],
     };
-    let control: &[Field] = if matches!(expression, 0 | 1) {
-        control
-    } else {
-        &[]
+    let carries_year = matches!(expression, 4..=7);
+    let year = if carries_year { YEAR } else { [ABSENT, ABSENT] };
+    let control: &[Field] = match expression {
+        0 | 1 => control,
+        4 | 5 => CONTROL_WITH_YEAR,
+        _ => &[],
     };
-    let binary_seconds: &[Field] = if matches!(expression, 0 | 3) {
+    let binary_seconds: &[Field] = if matches!(expression, 0 | 3 | 4 | 7) {
         BINARY_SECONDS
     } else {
         &[]
@@ -163,6 +188,7 @@ const fn build(letter: u8, expression: u8) -> Layout {
     set_bits(&mut kinds, &minutes);
     set_bits(&mut kinds, &HOURS);
     set_bits(&mut kinds, &DAYS);
+    set_bits(&mut kinds, &year);
     set_bits(&mut kinds, &fraction);
     set_bits(&mut kinds, control);
     set_bits(&mut kinds, binary_seconds);
@@ -181,10 +207,12 @@ const fn build(letter: u8, expression: u8) -> Layout {
         elements,
         interval,
         leap_second,
+        carries_year,
         seconds,
         minutes,
         hours: HOURS,
         days: DAYS,
+        year,
         fraction,
         control,
         binary_seconds,

@@ -1,5 +1,6 @@
 //! Serial time code after IRIG 200-98: formats A, B, D, E, G and H as
-//! pulse-width elements, with days that are a second longer or shorter.
+//! pulse-width elements, with days that are a second longer or shorter, and A
+//! and B with the year after IRIG 200-04.
 //!
 //! A symbol is one byte: 0 (zero or index marker), 1 (one), 2 (mark: position
 //! identifier or reference bit), 3 (spoiled).
@@ -8,6 +9,7 @@
 
 mod block;
 mod clock;
+mod editions;
 mod formats;
 mod frame;
 mod layout;
@@ -19,6 +21,7 @@ mod timeread;
 
 pub use block::{Block, Stop};
 pub use clock::{difference, next_after, step, step_back, SECOND_ADDED, SECOND_TAKEN, USUAL_DAY};
+pub use editions::{backward, forward};
 pub use formats::{Format, Time, MARK, ONE, SPOILED, ZERO};
 pub use frame::{read, write};
 pub use pulse::{classify, classify_and_feed, classify_list};

@@ -5,7 +5,7 @@
 pub enum Refusal {
     /// 1: unknown letter or expression.
     Format,
-    /// 2: day or hundredths out of range, or not on the format.
+    /// 2: day (of its year) or hundredths out of range, or not on the format.
     Time,
     /// 3: frame not n bytes, or lists of different lengths.
     Length,
@@ -34,6 +34,10 @@ pub enum Refusal {
     AddedSecond,
     /// 15: kind of day above 2, or a time past the end of a day of that kind.
     DayKind,
+    /// 17: year over 99, or not 0 in a format without one.
+    Year,
+    /// 18: a one among the control bits whose places the year takes.
+    YearPlace,
     /// 26: a reader's setting not 2 to 5.
     Setting,
 }
@@ -56,6 +60,8 @@ impl Refusal {
             Refusal::Reader => 13,
             Refusal::AddedSecond => 14,
             Refusal::DayKind => 15,
+            Refusal::Year => 17,
+            Refusal::YearPlace => 18,
             Refusal::Setting => 26,
         }
     }

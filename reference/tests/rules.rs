@@ -1,15 +1,17 @@
 //! What documents 01 and 02 themselves give: the examples, the order of the
-//! refusals, the step back, the leap second, and the stream reader with each of
-//! its settings, fed singly and in blocks, held against the plain machine.
+//! refusals, the step back, the leap second, the year and the converters, and
+//! the stream reader with each of its settings, fed singly and in blocks, held
+//! against the plain machine.
 
 use reference::{
-    classify, classify_and_feed, classify_list, difference, next_after, read, scan, step,
-    step_back, timeread, write, Answer, Block, Format, Reader, Refusal, Stop, Time, MARK,
-    SECOND_ADDED, SECOND_TAKEN, USUAL_DAY,
+    backward, classify, classify_and_feed, classify_list, difference, forward, next_after, read,
+    scan, step, step_back, timeread, write, Answer, Block, Format, Reader, Refusal, Stop, Time,
+    MARK, SECOND_ADDED, SECOND_TAKEN, USUAL_DAY,
 };
 
-const FORMATS: [&str; 16] = [
-    "A0", "A1", "A2", "A3", "B0", "B1", "B2", "B3", "D1", "D2", "E1", "E2", "G1", "G2", "H1", "H2",
+const FORMATS: [&str; 24] = [
+    "A0", "A1", "A2", "A3", "A4", "A5", "A6", "A7", "B0", "B1", "B2", "B3", "B4", "B5", "B6", "B7",
+    "D1", "D2", "E1", "E2", "G1", "G2", "H1", "H2",
 ];
 
 const SETTINGS: [u8; 4] = [2, 3, 4, 5];
@@ -26,11 +28,21 @@ fn format(name: &str) -> Format {
     }
 }
 
+/// A time of year 0.
 fn time(day: u16, hundredths: u32) -> Time {
-    Time { day, hundredths }
+    dated(0, day, hundredths)
 }
 
-/// n, S and the number of control bits by document 01's table.
+fn dated(year: u8, day: u16, hundredths: u32) -> Time {
+    Time {
+        year,
+        day,
+        hundredths,
+    }
+}
+
+/// n, S and the number of control bits by document 01's table, and 18 of these
+/// beside the year.
 fn table(format: Format) -> (usize, u32, u32) {
     let (n, s, bits) = match format.letter {
         b'A' => (100, 10, 27),
@@ -41,7 +53,32 @@ fn table(format: Format) -> (usize, u32, u32) {
         b'H' => (60, 6_000, 9),
         _ => unreachable!(),
     };
-    (n, s, if format.expression < 2 { bits } else { 0 })
+    let bits = match format.expression {
+        0 | 1 => bits,
+        4 | 5 => 18,
+        _ => 0,
+    };
+    (n, s, bits)
+}
+
+/// Whether the format carries the year.
+fn has_year(format: Format) -> bool {
+    format.expression >= 4
+}
+
+fn formats_without_year() -> impl Iterator<Item = Format> {
+    FORMATS
+        .into_iter()
+        .map(format)
+        .filter(|&format| !has_year(format))
+}
+
+fn formats_with_year() -> impl Iterator<Item = Format> {
+    FORMATS.into_iter().map(format).filter(|&f| has_year(f))
+}
+
+fn days_in(year: u8) -> u16 {
+    365 + u16::from(year % 4 == 0)
 }
 
 /// Whether the format carries the leap second.
@@ -94,12 +131,18 @@ impl Random {
             0 => self.below(frames) as u32 * s,
             _ => end - (1 + self.below(frames.min(4)) as u32) * s,
         };
+        let (year, last) = if has_year(format) {
+            let year = [0, 1, 99, self.below(100) as u8][self.below(4) as usize];
+            (year, days_in(year))
+        } else {
+            (0, 366)
+        };
         let day = match self.below(4) {
             0 => 365,
-            1 => 366,
-            _ => 1 + self.below(366) as u16,
+            1 => last,
+            _ => 1 + self.below(last.into()) as u16,
         };
-        time(day, hundredths)
+        dated(year, day, hundredths)
     }
 
     fn control(&mut self, format: Format) -> u64 {
@@ -331,18 +374,20 @@ fn stepping() {
 /// A day of each kind: where it ends, what comes next, and what lies past it.
 #[test]
 fn stepping_by_kind() {
-    for name in FORMATS {
-        let (format, s) = (format(name), table(format(name)).1);
+    for format in formats_without_year() {
+        let s = table(format).1;
         for (kind, end) in (0..3).zip(day_ends(format)) {
             let last = |day| step(format, time(day, end - s), 366, kind);
-            assert_eq!(last(181), Ok(time(182, 0)), "{name} {kind}");
-            assert_eq!(last(366), Ok(time(1, 0)), "{name} {kind}");
+            assert_eq!(last(181), Ok(time(182, 0)), "{format:?} {kind}");
+            assert_eq!(last(366), Ok(time(1, 0)), "{format:?} {kind}");
             assert_eq!(
                 step(format, time(181, end - 2 * s), 365, kind),
                 Ok(time(181, end - s)),
-                "{name} {kind}"
+                "{format:?} {kind}"
             );
         }
+    }
+    for name in FORMATS {
         for step in [step, step_back] {
             refused_by_kind(step, name);
         }
@@ -377,22 +422,26 @@ fn refused_by_kind(step: fn(Format, Time, u16, u8) -> Result<Time, Refusal>, nam
 /// that is given.
 #[test]
 fn stepping_back() {
-    for name in FORMATS {
-        let (format, s) = (format(name), table(format(name)).1);
+    for format in formats_without_year() {
+        let s = table(format).1;
         for (kind, end) in (0..3).zip(day_ends(format)) {
             let back = |day, hundredths, length| {
                 step_back(format, time(day, hundredths), length, kind)
                     .map(|before| (before.day, before.hundredths))
             };
             let last = end - s;
-            assert_eq!(back(1, 0, 365), Ok((365, last)), "{name} {kind}");
-            assert_eq!(back(1, 0, 366), Ok((366, last)), "{name} {kind}");
-            assert_eq!(back(2, 0, 365), Ok((1, last)), "{name} {kind}");
-            assert_eq!(back(366, 0, 366), Ok((365, last)), "{name} {kind}");
-            assert_eq!(back(1, s, 365), Ok((1, 0)), "{name} {kind}");
-            assert_eq!(back(366, last, 366), Ok((366, last - s)), "{name} {kind}");
+            assert_eq!(back(1, 0, 365), Ok((365, last)), "{format:?} {kind}");
+            assert_eq!(back(1, 0, 366), Ok((366, last)), "{format:?} {kind}");
+            assert_eq!(back(2, 0, 365), Ok((1, last)), "{format:?} {kind}");
+            assert_eq!(back(366, 0, 366), Ok((365, last)), "{format:?} {kind}");
+            assert_eq!(back(1, s, 365), Ok((1, 0)), "{format:?} {kind}");
+            assert_eq!(
+                back(366, last, 366),
+                Ok((366, last - s)),
+                "{format:?} {kind}"
+            );
             // With day 365 in its place, the step would lead to day 1.
-            assert_eq!(back(366, 0, 365), Err(Refusal::YearLength), "{name}");
+            assert_eq!(back(366, 0, 365), Err(Refusal::YearLength), "{format:?}");
         }
     }
     let b0 = format("B0");
@@ -585,6 +634,290 @@ fn added_second_printed() {
     );
 }
 
+/// Where the year stands, and the control bits beside it.
+#[test]
+fn year_written() {
+    // 1, 2, 4, 8 at 50-53, 10, 20, 40, 80 at 55-58.
+    for (year, places) in [
+        (0, vec![]),
+        (1, vec![50]),
+        (76, vec![51, 52, 55, 56, 57]),
+        (89, vec![50, 53, 58]),
+        (99, vec![50, 53, 55, 58]),
+    ] {
+        for format in formats_with_year() {
+            let written = frame(format, dated(year, 1, 0), 0);
+            let expected: Vec<usize> = [30].into_iter().chain(places.iter().copied()).collect();
+            assert_eq!(ones(&written), expected, "{format:?} {year}");
+            assert_eq!(read(format, &written), Ok((dated(year, 1, 0), 0)));
+        }
+    }
+    for name in ["A4", "A5", "B4", "B5"] {
+        let places = (60..69).chain(70..79);
+        for (bit, place) in places.enumerate() {
+            let written = frame(format(name), time(1, 0), 1 << bit);
+            assert_eq!(ones(&written), [30, place], "{name}");
+        }
+        let mut lent = [9; 100];
+        let answer = write(format(name), time(1, 0), 1 << 18, &mut lent);
+        assert_eq!((answer, lent), (Err(Refusal::Control), [9; 100]));
+    }
+    for name in ["A6", "A7", "B6", "B7"] {
+        let answer = write(format(name), time(1, 0), 1, &mut [9; 100]);
+        assert_eq!(answer, Err(Refusal::Control));
+    }
+    // Straight binary seconds in 4 and 7 alone.
+    let places = [30, 85, 86, 87, 90, 91, 95, 96];
+    let at = time(1, 5_091_200);
+    for (name, carried) in [("B4", true), ("B5", false), ("B6", false), ("B7", true)] {
+        let mut written = ones(&frame(format(name), at, 0));
+        written.retain(|&index| index == 30 || index >= 80);
+        assert_eq!(written == places, carried, "{name}");
+    }
+}
+
+#[test]
+fn year_refused() {
+    for name in FORMATS {
+        let format = format(name);
+        let last = if has_year(format) { 99 } else { 0 };
+        for year in 0..=255 {
+            let answer = write(format, dated(year, 1, 0), 0, &mut vec![9; table(format).0]);
+            let expected = if year > last {
+                Err(Refusal::Year)
+            } else {
+                Ok(())
+            };
+            assert_eq!(answer, expected, "{name} {year}");
+            for step in [step, step_back] {
+                let answer = step(format, dated(year, 1, 0), 365, 0);
+                assert_eq!(answer.err(), expected.err(), "{name} {year}");
+            }
+        }
+    }
+    assert_eq!(
+        (Refusal::Year.number(), Refusal::YearPlace.number()),
+        (17, 18)
+    );
+}
+
+/// 1, 17, 2, 14, 9, 3 and 1, 17, 2, 14, 11, 15.
+#[test]
+fn order_of_refusals_with_a_year() {
+    let (b8, b4, d1) = (format("B8"), format("B4"), format("D1"));
+    let mut lent = [9; 99];
+    let mut written = |format, at, control| write(format, at, control, &mut lent);
+    assert_eq!(written(b8, dated(100, 0, 0), 1 << 18), Err(Refusal::Format));
+    assert_eq!(written(b4, dated(100, 0, 0), 1 << 18), Err(Refusal::Year));
+    assert_eq!(written(b4, dated(1, 366, 0), 1 << 18), Err(Refusal::Time));
+    assert_eq!(
+        written(b4, dated(4, 366, 0), 1 << 18),
+        Err(Refusal::Control)
+    );
+    assert_eq!(written(b4, dated(4, 366, 0), 0), Err(Refusal::Length));
+    assert_eq!(lent, [9; 99]);
+    for step in [step, step_back] {
+        assert_eq!(step(b8, dated(100, 0, 0), 0, 3), Err(Refusal::Format));
+        assert_eq!(step(b4, dated(100, 0, 0), 0, 3), Err(Refusal::Year));
+        assert_eq!(step(d1, dated(1, 1, 8_640_000), 0, 3), Err(Refusal::Year));
+        assert_eq!(step(b4, dated(1, 366, 0), 366, 3), Err(Refusal::Time));
+        assert_eq!(step(b4, dated(4, 366, 0), 0, 3), Err(Refusal::DayKind));
+    }
+}
+
+/// The elements of a digit whose lowest weight stands at `first`.
+fn digit_at(first: usize, digit: u8) -> [(usize, u8); 4] {
+    [0, 1, 2, 3].map(|bit| (first + bit, digit >> bit & 1))
+}
+
+/// Read refuses what no year is written as, and day 366 of a year without it.
+#[test]
+fn year_not_read() {
+    for format in formats_with_year() {
+        let with = |from: Time, changes: &[(usize, u8)]| {
+            let mut bytes = frame(format, from, 0);
+            for &(index, symbol) in changes {
+                bytes[index] = symbol;
+            }
+            read(format, &bytes)
+        };
+        for first in [50, 55] {
+            for digit in 10..16 {
+                let refused = with(time(1, 0), &digit_at(first, digit));
+                assert_eq!(refused, Err(Refusal::Digit));
+            }
+        }
+        for year in 0..100 {
+            let year_bits = [digit_at(50, year % 10), digit_at(55, year / 10)].concat();
+            let expected = if year % 4 == 0 {
+                Ok((dated(year, 366, 0), 0))
+            } else {
+                Err(Refusal::Digit)
+            };
+            assert_eq!(with(time(366, 0), &year_bits), expected);
+        }
+        assert_eq!(with(time(1, 0), &[(54, 1)]), Err(Refusal::Element(54)));
+        assert_eq!(with(time(1, 0), &[(54, 2)]), Err(Refusal::Mark(54)));
+        assert_eq!(with(time(1, 0), &[(58, 3)]), Err(Refusal::Element(58)));
+    }
+}
+
+/// The year's own length, whichever is given, and 0 after 99.
+#[test]
+fn stepping_by_year() {
+    for format in formats_with_year() {
+        let s = table(format).1;
+        for year in 0..100 {
+            let next = if year == 99 { 0 } else { year + 1 };
+            let last = dated(year, days_in(year), 8_640_000 - s);
+            for given in [0, 364, 365, 366, 367, 65_535] {
+                let stepped = |from| step(format, from, given, 0);
+                assert_eq!(stepped(last), Ok(dated(next, 1, 0)));
+                let back = step_back(format, dated(next, 1, 0), given, 0);
+                assert_eq!(back, Ok(last));
+                let day_365 = dated(year, 365, 8_640_000 - s);
+                let expected = match days_in(year) {
+                    365 => dated(next, 1, 0),
+                    _ => dated(year, 366, 0),
+                };
+                assert_eq!(stepped(day_365), Ok(expected));
+            }
+            assert!(next_after(format, last, dated(next, 1, 0)));
+            assert!(!next_after(format, last, dated(year, 1, 0)));
+            assert!(!next_after(format, last, dated(next, 2, 0)));
+            let leaps_to_366 =
+                next_after(format, dated(year, 365, 8_640_000 - s), dated(year, 366, 0));
+            assert_eq!(leaps_to_366, days_in(year) == 366);
+        }
+    }
+    // No year is counted where none is carried.
+    for format in formats_without_year() {
+        let s = table(format).1;
+        let last = time(366, 8_640_000 - s);
+        assert_eq!(step(format, last, 366, 0), Ok(time(1, 0)));
+        assert_eq!(step_back(format, time(1, 0), 366, 0), Ok(last));
+    }
+}
+
+/// Each converter gives what Write gives in the other edition, and the two are
+/// inverse.
+#[test]
+fn converted() {
+    let mut random = Random(8);
+    for later in formats_with_year() {
+        let earlier = Format {
+            expression: later.expression - 4,
+            ..later
+        };
+        for _ in 0..2_000 {
+            let (at, control) = (random.time(later), random.control(later));
+            let with_year = frame(later, at, control);
+            let without = frame(earlier, Time { year: 0, ..at }, control << 9);
+            let mut lent = vec![9; 100];
+            assert_eq!(forward(earlier, &without, at.year, &mut lent), Ok(()));
+            assert_eq!(lent, with_year);
+            assert_eq!(backward(later, &with_year, &mut lent), Ok(()));
+            assert_eq!(lent, without);
+        }
+    }
+}
+
+/// A frame forward into one of n bytes, which a refusal leaves.
+fn there(name: &str, bytes: &[u8], year: u8, n: usize) -> Result<(), Refusal> {
+    let mut lent = vec![9; n];
+    let answer = forward(format(name), bytes, year, &mut lent);
+    assert!(answer.is_ok() || lent == vec![9; n]);
+    answer
+}
+
+/// A frame backward into one of n bytes, which a refusal leaves.
+fn back(name: &str, bytes: &[u8], n: usize) -> Result<(), Refusal> {
+    let mut lent = vec![9; n];
+    let answer = backward(format(name), bytes, &mut lent);
+    assert!(answer.is_ok() || lent == vec![9; n]);
+    answer
+}
+
+/// 1 for another letter or edition, then 3 for either frame.
+#[test]
+fn converters_refuse_formats_and_lengths() {
+    let others = ["A8", "B8", "C0", "D4", "G4", "X2"];
+    for name in FORMATS.into_iter().chain(others) {
+        let later = matches!(name.as_bytes(), [b'A' | b'B', b'4'..=b'7']);
+        let earlier = matches!(name.as_bytes(), [b'A' | b'B', b'0'..=b'3']);
+        let expected = |fits| {
+            Err(if fits {
+                Refusal::Length
+            } else {
+                Refusal::Format
+            })
+        };
+        assert_eq!(there(name, &[7; 100], 0, 99), expected(earlier), "{name}");
+        assert_eq!(there(name, &[7; 101], 0, 100), expected(earlier), "{name}");
+        assert_eq!(back(name, &[7; 100], 99), expected(later), "{name}");
+        assert_eq!(back(name, &[7; 101], 100), expected(later), "{name}");
+    }
+}
+
+/// 4, 5 and 6, 7, 8, 17, 2, 18.
+#[test]
+fn forward_refuses_in_order() {
+    let with = |changes: &[(usize, u8)], year| {
+        let mut bytes = frame(format("B0"), time(366, 100), 1 << 8);
+        for &(index, symbol) in changes {
+            bytes[index] = symbol;
+        }
+        there("B0", &bytes, year, 100)
+    };
+    assert_eq!(with(&[(0, 1), (99, 7)], 100), Err(Refusal::Symbol));
+    assert_eq!(with(&[(5, 1), (30, 1)], 100), Err(Refusal::Element(5)));
+    assert_eq!(with(&[(30, 1), (80, 0)], 100), Err(Refusal::Digit));
+    assert_eq!(with(&[(80, 0)], 100), Err(Refusal::BinarySeconds));
+    assert_eq!(with(&[], 100), Err(Refusal::Year));
+    assert_eq!(with(&[], 255), Err(Refusal::Year));
+    assert_eq!(with(&[], 1), Err(Refusal::Time));
+    assert_eq!(with(&[], 4), Err(Refusal::YearPlace));
+    assert_eq!(with(&[(58, 0), (60, 1), (78, 1)], 4), Ok(()));
+}
+
+/// A one among control bits 1 to 9 is 18. Expressions 2 and 3 have no control
+/// bits: a one at their places is Read's 6.
+#[test]
+fn forward_refuses_control_bits_1_to_9() {
+    for name in ["A0", "A1", "B0", "B1"] {
+        for bit in 0..27 {
+            let bytes = frame(format(name), time(1, 0), 1 << bit);
+            let refused = (bit < 9).then_some(Refusal::YearPlace);
+            assert_eq!(there(name, &bytes, 1, 100).err(), refused);
+        }
+    }
+    for name in ["A2", "A3", "B2", "B3"] {
+        for place in (50..59).chain(60..69).chain(70..79) {
+            let mut bytes = frame(format(name), time(1, 0), 0);
+            bytes[place] = 1;
+            let refused = there(name, &bytes, 100, 100);
+            assert_eq!(refused, Err(Refusal::Element(place)));
+        }
+    }
+}
+
+/// The year is in no line of `timeread`.
+#[test]
+fn year_not_printed() {
+    let mut input = b"B6\nP".to_vec();
+    for at in [dated(99, 365, 8_639_900), dated(0, 1, 0), dated(0, 1, 100)] {
+        let symbols = frame(format("B6"), at, 0);
+        input.extend(symbols.iter().map(|&symbol| b"01P-"[usize::from(symbol)]));
+    }
+    let mut printed = Vec::new();
+    timeread(&input, &mut printed);
+    assert_eq!(
+        String::from_utf8(printed).unwrap(),
+        "201 001 00:00:00.00 000000000000\n301 001 00:00:01.00 000000000000\n\
+         elements 301 reports 2\n"
+    );
+}
+
 #[test]
 fn differences() {
     let (later, earlier) = (time(2, 0), time(1, 8_639_999));
@@ -601,6 +934,13 @@ fn differences() {
     assert_eq!(difference(later, time(1, 8_640_000)), Ok(0));
     assert_eq!(difference(time(1, 8_640_099), later), Ok(99));
     assert_eq!(difference(later, time(1, 8_640_099)), Ok(-99));
+    // No year is looked at, not even one that no format carries.
+    for (first, second) in [(0, 0), (0, 1), (99, 0), (100, 1), (255, 3)] {
+        let answer = difference(dated(first, 366, 0), dated(second, 1, 1));
+        assert_eq!(answer, Ok(365 * 8_640_000 - 1));
+        let refused = difference(dated(first, 367, 0), dated(second, 1, 1));
+        assert_eq!(refused, Err(Refusal::Time));
+    }
 }
 
 #[test]
@@ -791,7 +1131,13 @@ fn one_replaced_in_a_leap_second() {
         let s = table(format).1;
         for (kind, end) in [(SECOND_ADDED, 8_640_100), (SECOND_TAKEN, 8_639_900)] {
             for (day, length) in [(181, 365), (365, 365), (365, 366), (366, 366)] {
-                let mut now = time(day, end - 2 * s);
+                let year_of_that_length = if length == 366 { 28 } else { 99 };
+                let year = if has_year(format) {
+                    year_of_that_length
+                } else {
+                    0
+                };
+                let mut now = dated(year, day, end - 2 * s);
                 let (mut elements, mut times) = (Vec::new(), Vec::new());
                 for _ in 0..4 {
                     elements.extend(frame(format, now, 0));

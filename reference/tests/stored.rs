@@ -93,6 +93,7 @@ fn answer(line: &str) -> String {
         expression: words[2].parse().unwrap(),
     };
     let time = |i: usize| Time {
+        year: 0,
         day: words[i].parse().unwrap(),
         hundredths: words[i + 1].parse().unwrap(),
     };
