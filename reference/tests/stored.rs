@@ -3,6 +3,7 @@
 
 use reference::*;
 use std::fs::{self, read_to_string};
+use std::str::FromStr;
 
 const CALLS: &str = concat!(env!("CARGO_MANIFEST_DIR"), "/../crates/calls");
 const RECORDINGS: &str = concat!(env!("CARGO_MANIFEST_DIR"), "/../crates/recordings");
@@ -47,8 +48,31 @@ fn refused(refusal: Refusal) -> String {
     }
 }
 
-/// The reports of a fresh reader that is fed these symbols, each by the number of its last element. No format carries a
-/// year: it is 0.
+/// Year, day and hundredths, as in a line.
+fn told(time: Time) -> String {
+    format!("{} {} {}", time.year, time.day, time.hundredths)
+}
+
+fn reading((time, control): (Time, u64)) -> String {
+    format!("{} {control:x}", told(time))
+}
+
+fn found(frame: Option<(usize, Time, u64)>) -> String {
+    frame.map_or("none".into(), |(place, time, control)| {
+        format!("{place} {}", reading((time, control)))
+    })
+}
+
+/// What a call leaves in the frame of so many bytes that it is lent.
+fn lent(size: usize, call: impl Fn(&mut [u8]) -> Result<(), Refusal>) -> Result<String, Refusal> {
+    let before = vec![7u8; size];
+    let mut frame = before.clone();
+    let answer = call(&mut frame).map(|()| shown(&frame));
+    assert!(answer.is_ok() || frame == before);
+    answer
+}
+
+/// The reports of a fresh reader that is fed these symbols, each by the number of its last element.
 fn reports(mut reader: Reader, symbols: &[u8]) -> String {
     let accepted = symbols
         .iter()
@@ -57,10 +81,7 @@ fn reports(mut reader: Reader, symbols: &[u8]) -> String {
     let reports: Vec<String> = (1..)
         .zip(accepted)
         .filter_map(|(element, answer)| match answer {
-            Answer::Report(t, control) => Some(format!(
-                "{element} 0 {} {} {control:x}",
-                t.day, t.hundredths
-            )),
+            Answer::Report(t, control) => Some(format!("{element} {}", reading((t, control)))),
             _ => None,
         })
         .collect();
@@ -86,46 +107,68 @@ fn fed(format: Format, setting: u8, place: u64, symbol: u8) -> Result<String, Re
     }
 }
 
+/// A call as a line of words.
+struct Line<'a>(Vec<&'a str>);
+
+impl Line<'_> {
+    fn number<T: FromStr>(&self, word: usize) -> T {
+        let number = self.0[word].parse();
+        number.unwrap_or_else(|_| panic!("{}", self.0.join(" ")))
+    }
+
+    /// Words 1 and 2.
+    fn format(&self) -> Format {
+        Format {
+            letter: self.0[1].as_bytes()[0],
+            expression: self.number(2),
+        }
+    }
+
+    /// The time of which the year is that word.
+    fn time(&self, word: usize) -> Time {
+        Time {
+            year: self.number(word),
+            day: self.number(word + 1),
+            hundredths: self.number(word + 2),
+        }
+    }
+
+    fn control(&self, word: usize) -> u64 {
+        u64::from_str_radix(self.0[word], 16).unwrap()
+    }
+
+    fn elements(&self, word: usize) -> Vec<u8> {
+        elements(self.0[word])
+    }
+}
+
 fn answer(line: &str) -> String {
-    let words: Vec<&str> = line.split(' ').collect();
-    let format = || Format {
-        letter: words[1].as_bytes()[0],
-        expression: words[2].parse().unwrap(),
-    };
-    let time = |i: usize| Time {
-        year: 0,
-        day: words[i].parse().unwrap(),
-        hundredths: words[i + 1].parse().unwrap(),
-    };
-    let number = |i: usize| words[i].parse().unwrap();
-    let said = match words[0] {
-        "step" | "back" => {
-            let call = if words[0] == "step" { step } else { step_back };
-            let (year, kind) = (words[5].parse().unwrap(), words[6].parse().unwrap());
-            call(format(), time(3), year, kind).map(|t| format!("{} {}", t.day, t.hundredths))
-        }
-        "write" => {
-            let mut frame = vec![7u8; words[6].parse().unwrap()];
-            let control = u64::from_str_radix(words[5], 16).unwrap();
-            write(format(), time(3), control, &mut frame).map(|()| shown(&frame))
-        }
-        "read" => read(format(), &elements(words[3]))
-            .map(|(t, control)| format!("{} {} {control:x}", t.day, t.hundredths)),
-        "classify" => classify(number(1), number(2), number(3)).map(|s| s.to_string()),
-        "scan" => scan(format(), &elements(words[3]), words[4].parse().unwrap()).map(|found| {
-            found.map_or("none".into(), |(place, t, control)| {
-                format!("{place} {} {} {control:x}", t.day, t.hundredths)
-            })
+    let line = Line(line.split(' ').collect());
+    let said = match line.0[0] {
+        "step" => step(line.format(), line.time(3), line.number(6), line.number(7)).map(told),
+        "back" => step_back(line.format(), line.time(3), line.number(6), line.number(7)).map(told),
+        "write" => lent(line.number(7), |frame| {
+            write(line.format(), line.time(3), line.control(6), frame)
         }),
-        "feeds" => Reader::fresh(format(), words[3].parse().unwrap())
-            .map(|reader| reports(reader, &elements(words[4]))),
+        "read" => read(line.format(), &line.elements(3)).map(reading),
+        "forward" => lent(line.number(5), |later| {
+            forward(line.format(), &line.elements(3), line.number(4), later)
+        }),
+        "backward" => lent(line.number(4), |earlier| {
+            backward(line.format(), &line.elements(3), earlier)
+        }),
+        "classify" => classify(line.number(1), line.number(2), line.number(3))
+            .map(|symbol| symbol.to_string()),
+        "scan" => scan(line.format(), &line.elements(3), line.number(4)).map(found),
+        "feeds" => Reader::fresh(line.format(), line.number(3))
+            .map(|reader| reports(reader, &line.elements(4))),
         "feed" => fed(
-            format(),
-            words[3].parse().unwrap(),
-            words[4].parse().unwrap(),
-            words[5].parse().unwrap(),
+            line.format(),
+            line.number(3),
+            line.number(4),
+            line.number(5),
         ),
-        "difference" => difference(time(1), time(3)).map(|d| d.to_string()),
+        "difference" => difference(line.time(1), line.time(4)).map(|d| d.to_string()),
         _ => Ok("unknown call".into()),
     };
     said.unwrap_or_else(refused)
