@@ -1,5 +1,6 @@
 #!/usr/bin/env python3
-"""Draws docs/formats.svg, the elements of a frame of each rate letter, from the layout table in crates/layout/src/lib.rt.
+"""Draws docs/formats.svg, the elements of a frame of each rate letter, of A and B with the year and without, from the layout
+table in crates/layout/src/lib.rt.
 
 Without arguments it writes the file; with --check it compares the file with what it would write."""
 
@@ -31,6 +32,8 @@ RUNS = [
     ("control", None),
     ("control", None),
     ("control", None),
+    ("years", 1),
+    ("years", 10),
 ]
 COLOURS = {
     "mark": "#37474f",
@@ -38,14 +41,15 @@ COLOURS = {
     "minutes": "#fff3b0",
     "hours": "#cfe8c6",
     "days": "#bfe3ea",
+    "years": "#9fd3c7",
     "tenths": "#f8cfd8",
     "hundredths": "#f3b8c6",
     "SBS": "#d6ccee",
     "control": "#c9d8f5",
     "index": "#f4f4f4",
 }
-# Letters beside each other, so that frames of one length share a row.
-PANELS = [["A", "B"], ["E", "G"], ["D", "H"]]
+# Letters with the first expression of an edition, those of one length beside each other.
+PANELS = [[("A", 0), ("B", 0)], [("A", 4), ("B", 4)], [("E", 1), ("G", 1)], [("D", 1), ("H", 1)]]
 
 WIDTH = 900
 MARGIN = 8
@@ -68,10 +72,11 @@ def numbers(text):
 
 
 def read_table():
-    """The runs' first indices, the marks, and the rows by letter, from the constants of the layout crate."""
+    """The marks, and the rows by letter and first expression, from the constants of the layout crate."""
     source = TABLE.read_text(encoding="utf-8")
 
     def array(name):
+        """The numbers of a constant list."""
         found = re.search(rf"^const {name}: \[u8; (\d+)\] = \[(.*?)\];", source, re.M | re.S)
         if not found:
             fail(f"no constant {name} in {TABLE}")
@@ -81,27 +86,32 @@ def read_table():
         return values
 
     rows = {}
-    for letter, body in re.findall(r"^const ([A-Z]): Row = Row \{(.*?)^\};", source, re.M | re.S):
-        row = {}
+    for name, body in re.findall(r"^const (\w+): Row = Row \{(.*?)^\};", source, re.M | re.S):
+        row = {"letter": name[0]}
         for field in ("elements", "interval", "first", "last"):
             found = re.search(rf"\b{field}: ([\d_]+),", body)
             if not found:
-                fail(f"row {letter} has no {field}")
+                fail(f"row {name} has no {field}")
             row[field] = numbers(found[1])[0]
+        if row["last"] < row["first"]:
+            continue  # the row of what is no format
+        # a list in the row itself, or the name of a constant
+        starts = re.search(r"starts: (?:\[(.*?)\]|(\w+))", body, re.S)
+        row["starts"] = numbers(starts[1]) if starts and starts[1] else array(starts[2] if starts else "STARTS")
         row["widths"] = numbers(re.search(r"widths: \[(.*?)\]", body, re.S)[1])
-        if len(row["widths"]) != len(RUNS):
-            fail(f"row {letter} has {len(row['widths'])} runs")
-        rows[letter] = row
+        if not len(row["widths"]) == len(row["starts"]) == len(RUNS):
+            fail(f"row {name} has {len(row['widths'])} runs")
+        rows[row["letter"], row["first"]] = row
     if sorted(rows) != sorted(sum(PANELS, [])):
-        fail(f"rows for the letters {sorted(rows)}")
-    return array("STARTS"), array("MARKS"), rows
+        fail(f"rows for the letters and first expressions {sorted(rows)}")
+    return array("MARKS"), rows
 
 
 def weight_text(weight):
     return f"{weight:.2f}".rstrip("0").rstrip(".").removeprefix("0")
 
 
-def cells_of(row, starts, marks):
+def cells_of(row, marks):
     """For each element its kind, the text in its cell and what it is in words."""
     n = row["elements"]
     cells = [("index", "", "index marker")] * n
@@ -110,7 +120,7 @@ def cells_of(row, starts, marks):
         name = "r" if count == 0 else "0" if count == len(places) - 1 else str(count)
         cells[mark] = ("mark", "P" + name, f"mark P{name}")
     bits = {"SBS": 0, "control": 0}
-    for (field, first), start, width in zip(RUNS, starts, row["widths"]):
+    for (field, first), start, width in zip(RUNS, row["starts"], row["widths"]):
         for place in range(start, start + width):
             if cells[place][0] != "index":
                 fail(f"element {place} has two uses")
@@ -174,9 +184,9 @@ def draw_cell(x, y, kind, content, words):
     return "".join(out)
 
 
-def draw_panel(x, y, letter, row, starts, marks):
-    cells = cells_of(row, starts, marks)
-    n = row["elements"]
+def draw_panel(x, y, row, marks):
+    cells = cells_of(row, marks)
+    letter, n = row["letter"], row["elements"]
     takes = "–".join(str(expression) for expression in (row["first"], row["last"]))
     out = [
         text(x + LABEL, y + 20, f"Format {letter}", 17, bold=True),
@@ -195,7 +205,7 @@ def draw_panel(x, y, letter, row, starts, marks):
         line = cells[first : first + 10]
         out.append(text(x + LABEL - 5, top + LINE / 2 + 4, str(first), 10, "end", "#666"))
         for column, (kind, content, words) in enumerate(line):
-            out.append(draw_cell(x + LABEL + column * CELL, top, kind, content, f"{letter}, element {first + column}: {words}"))
+            out.append(draw_cell(x + LABEL + column * CELL, top, kind, content, f"{letter}{takes}, element {first + column}: {words}"))
         out.append(text(x + LABEL + 10 * CELL + 5, top + LINE / 2 + 4, side_text(line), 10, fill="#444"))
     left, top, right, bottom = x + LABEL, y + HEAD, x + LABEL + 10 * CELL, y + HEAD + n // 10 * LINE
     path = "".join(f"M{left + i * CELL:g} {top:g}V{bottom:g}" for i in range(11))
@@ -214,8 +224,9 @@ def draw_legend(x, y):
         ("minutes", "minutes", 322, 1),
         ("hours", "hours", 402, 1),
         ("days", "days", 470, 1),
-        ("tenths", "tenths and", 532, 1),
-        ("hundredths", "hundredths of a second", 624, 1),
+        ("years", "years", 532, 1),
+        ("tenths", "tenths and", 598, 1),
+        ("hundredths", "hundredths of a second", 690, 1),
     ]
     out = []
     for kind, words, left, line in entries:
@@ -231,27 +242,33 @@ def draw_legend(x, y):
             fill="#444",
         )
     )
-    out.append(text(x, y + 69, "seconds, 2 neither these nor control bits, 3 no control bits; what is not carried is an index marker.", 11, fill="#444"))
+    out.append(
+        text(
+            x,
+            y + 69,
+            "seconds, 2 neither these nor control bits, 3 no control bits, 4 to 7 the same with the year; what is not carried is an index marker.",
+            11,
+            fill="#444",
+        )
+    )
     return out
 
 
 def draw():
-    starts, marks, rows = read_table()
-    if len(starts) != len(RUNS):
-        fail(f"{len(starts)} runs")
+    marks, rows = read_table()
     gap = WIDTH - 2 * MARGIN - 2 * PANEL
     body, y = [], MARGIN
     body += draw_legend(MARGIN + LABEL, y + 6)
     y += LEGEND
     for pair in PANELS:
-        for column, letter in enumerate(pair):
-            body += draw_panel(MARGIN + column * (PANEL + gap), y, letter, rows[letter], starts, marks)
-        y += HEAD + max(rows[letter]["elements"] for letter in pair) // 10 * LINE + 14
+        for column, key in enumerate(pair):
+            body += draw_panel(MARGIN + column * (PANEL + gap), y, rows[key], marks)
+        y += HEAD + max(rows[key]["elements"] for key in pair) // 10 * LINE + 14
     height = y + MARGIN - 8
     head = [
         f'<svg xmlns="http://www.w3.org/2000/svg" width="{WIDTH}" height="{height}" viewBox="0 0 {WIDTH} {height}" '
         f'font-family="{FONT}">',
-        "<title>The elements of a frame in formats A, B, D, E, G and H</title>",
+        "<title>The elements of a frame in formats A and B with the year and without, D, E, G and H</title>",
         "<!-- Drawn by docs/formats.py from crates/layout/src/lib.rt. -->",
         f'<rect width="{WIDTH}" height="{height}" fill="#fff"/>',
     ]
