@@ -12,11 +12,11 @@
 //! let mut frame = [0; 60];
 //! // A reader with setting 2 reports with the last element of the second of two frames behind a mark.
 //! assert_eq!(reader.feed(duskveyra::MARK), Ok(None));
-//! write(format, Time { day: 191, hundredths: 5_088_000 }, 0, &mut frame)?;
+//! write(format, Time { year: 0, day: 191, hundredths: 5_088_000 }, 0, &mut frame)?;
 //! for symbol in frame {
 //!     assert_eq!(reader.feed(symbol), Ok(None));
 //! }
-//! let time = Time { day: 191, hundredths: 5_094_000 };
+//! let time = Time { year: 0, day: 191, hundredths: 5_094_000 };
 //! write(format, time, 0b101, &mut frame)?;
 //! let last = frame.map(|symbol| reader.feed(symbol))[59];
 //! assert_eq!(last, Ok(Some(Report { time, control: 0b101 })));
@@ -30,9 +30,9 @@
 //! use duskveyra::{step, step_back, Format, Refusal, Time, SECOND_ADDED, SECOND_TAKEN, USUAL_DAY};
 //!
 //! let format = Format { letter: b'B', expression: 0 };
-//! let last = Time { day: 181, hundredths: 8_639_900 };
-//! let added = Time { day: 181, hundredths: 8_640_000 };
-//! let midnight = Time { day: 182, hundredths: 0 };
+//! let last = Time { year: 0, day: 181, hundredths: 8_639_900 };
+//! let added = Time { year: 0, day: 181, hundredths: 8_640_000 };
+//! let midnight = Time { year: 0, day: 182, hundredths: 0 };
 //! assert_eq!(step(format, last, 365, USUAL_DAY), Ok(midnight));
 //! assert_eq!(step(format, last, 365, SECOND_ADDED), Ok(added));
 //! assert_eq!(step(format, added, 365, SECOND_ADDED), Ok(midnight));
@@ -40,16 +40,40 @@
 //! assert_eq!(step_back(format, midnight, 365, SECOND_ADDED), Ok(added));
 //! assert_eq!(step(format, last, 365, SECOND_TAKEN), Err(Refusal::InvalidKind));
 //! ```
+//!
+//! The expressions 4 to 7 of A and B carry the year, so that a step needs to be told no year length; [`forward`] puts the
+//! year into a frame without it, and [`backward`] takes it out:
+//!
+//! ```
+//! use duskveyra::{backward, forward, read, step, write, Format, Time, USUAL_DAY};
+//!
+//! let (without, with) = (Format { letter: b'B', expression: 0 }, Format { letter: b'B', expression: 4 });
+//! let last = Time { year: 99, day: 365, hundredths: 8_639_900 };
+//! assert_eq!(step(with, last, 0, USUAL_DAY), Ok(Time { year: 0, day: 1, hundredths: 0 }));
+//!
+//! let (mut earlier, mut later, mut again) = ([0; 100], [0; 100], [0; 100]);
+//! write(without, Time { year: 0, ..last }, 1 << 9, &mut earlier)?;
+//! forward(without, &earlier, 99, &mut later)?;
+//! let report = read(with, &later)?;
+//! assert_eq!((report.time, report.control), (last, 1));
+//! backward(with, &later, &mut again)?;
+//! assert_eq!(again, earlier);
+//! # Ok::<(), duskveyra::Refusal>(())
+//! ```
 
 #![warn(missing_docs)]
 
 mod block;
+mod editions;
 mod refusal;
 #[allow(missing_docs)]
 pub mod sys;
+mod time;
 
 pub use block::{Block, Stop};
+pub use editions::{backward, forward};
 pub use refusal::Refusal;
+pub use time::{ParseTimeError, Time};
 
 /// Symbol of a zero or an index marker.
 pub const ZERO: u8 = 0;
@@ -77,10 +101,10 @@ pub const GREATEST_SETTING: u8 = 5;
 /// A rate letter and a coded expression. Any two bytes make a value of this type; a call refuses one that is no format
 /// with [`Refusal::UnknownFormat`].
 ///
-/// | letter | expressions | elements of a frame | frame interval in hundredths | control bits (expressions 0, 1) |
+/// | letter | expressions | elements of a frame | frame interval in hundredths | control bits (expressions 0, 1; 4, 5) |
 /// |---|---|---|---|---|
-/// | A | 0 to 3 | 100 | 10 | 27 |
-/// | B | 0 to 3 | 100 | 100 | 27 |
+/// | A | 0 to 7 | 100 | 10 | 27; 18 |
+/// | B | 0 to 7 | 100 | 100 | 27; 18 |
 /// | D | 1, 2 | 60 | 360,000 | 9 |
 /// | E | 1, 2 | 100 | 1,000 | 45 |
 /// | G | 1, 2 | 100 | 1 | 36 |
@@ -90,21 +114,9 @@ pub const GREATEST_SETTING: u8 = 5;
 pub struct Format {
     /// The rate letter in capital ASCII.
     pub letter: u8,
-    /// The coded expression: 0 = BCD, CF, SBS; 1 = BCD, CF; 2 = BCD; 3 = BCD, SBS.
+    /// The coded expression: 0 = BCD, CF, SBS; 1 = BCD, CF; 2 = BCD; 3 = BCD, SBS; 4 to 7 = 0 to 3 with the
+    /// year.
     pub expression: u8,
-}
-
-/// A day of the year and the hundredths of a second since midnight. Any two numbers make a value of this type; a call
-/// refuses one that is out of range, or not on the format, with [`Refusal::InvalidTime`]. From hundredth 8,640,000 on
-/// it lies in a second that was added to its day, 23:59:60; D, E and H do not carry that second, and
-/// [`write`](fn@write), [`step`] and [`step_back`] refuse it there with [`Refusal::SecondNotCarried`].
-#[derive(Clone, Copy, Debug, PartialEq, Eq, Hash)]
-#[repr(C)]
-pub struct Time {
-    /// The day, 1 to 366.
-    pub day: u16,
-    /// Hundredths of a second since midnight, 0 to 8,640,099.
-    pub hundredths: u32,
 }
 
 /// A time and control word that a frame carries.
@@ -127,7 +139,7 @@ pub struct Found {
 
 /// Writes a time and a control word as the symbols of one frame; every byte of `frame` is set.
 ///
-/// Refuses with 1; 2; 14; 9; 3 where `frame` has not the format's number of elements; in this order. A refusal leaves
+/// Refuses with 1; 17; 2; 14; 9; 3 where `frame` has not the format's number of elements; in this order. A refusal leaves
 /// `frame` as it was.
 #[inline]
 pub fn write(format: Format, time: Time, control: u64, frame: &mut [u8]) -> Result<(), Refusal> {
@@ -152,9 +164,10 @@ pub fn read(format: Format, frame: &[u8]) -> Result<Report, Refusal> {
 }
 
 /// The time of the frame after the one with this time, in a year of `year_length` days. The kind is that of the given
-/// time's day: [`USUAL_DAY`], [`SECOND_ADDED`] or [`SECOND_TAKEN`]; in D, E and H the frames go on as usual for each.
+/// time's day: [`USUAL_DAY`], [`SECOND_ADDED`] or [`SECOND_TAKEN`]; in D, E and H the frames go on as usual for each. A
+/// format that carries the year takes its length from the time's year, whatever is given, and year 0 comes after 99.
 ///
-/// Refuses with 1; 2; 14; 11; 15; in this order.
+/// Refuses with 1; 17; 2; 14; 11; 15; in this order.
 #[inline]
 pub fn step(format: Format, time: Time, year_length: u16, kind: u8) -> Result<Time, Refusal> {
     // SAFETY: no pointer is lent.
@@ -164,10 +177,11 @@ pub fn step(format: Format, time: Time, year_length: u16, kind: u8) -> Result<Ti
 }
 
 /// The time of the frame before the one with this time. The year length and the kind are those of the year and the day
-/// that the earlier time belongs to; day 1 at 0 hundredths goes to that year's last frame. With the same length and kind
+/// that the earlier time belongs to; day 1 at 0 hundredths goes to that year's last frame. A format that carries the year
+/// takes its length from the earlier time's year, whatever is given. With the same length and kind
 /// it undoes [`step`], and [`step`] undoes it.
 ///
-/// Refuses as [`step`] does, by the time that is given: 1; 2; 14; 11; 15; in this order.
+/// Refuses as [`step`] does, by the time that is given: 1; 17; 2; 14; 11; 15; in this order.
 #[inline]
 pub fn step_back(format: Format, time: Time, year_length: u16, kind: u8) -> Result<Time, Refusal> {
     // SAFETY: no pointer is lent.
@@ -177,7 +191,7 @@ pub fn step_back(format: Format, time: Time, year_length: u16, kind: u8) -> Resu
 }
 
 /// The first time less the second, within one year, in signed hundredths of a second. A day counts 8,640,000 of them,
-/// whatever its kind.
+/// whatever its kind. The years are not looked at.
 ///
 /// Refuses with 2 where a day or hundredths are out of range; no grid of a format is asked for.
 #[inline]

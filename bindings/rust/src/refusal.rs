@@ -1,4 +1,4 @@
-//! The sixteen numbers that a call refuses with.
+//! The eighteen numbers that a call refuses with.
 
 use std::error::Error;
 use std::fmt;
@@ -8,7 +8,8 @@ use std::fmt;
 pub enum Refusal {
     /// 1: letter or expression not among the formats.
     UnknownFormat,
-    /// 2: day or hundredths out of range, or not on the format.
+    /// 2: day (366 in a year that lacks it, where the format carries the year) or hundredths out of range, or not on the
+    /// format.
     InvalidTime,
     /// 3: frame not of the format's length, or lists of different lengths.
     WrongLength,
@@ -19,7 +20,7 @@ pub enum Refusal {
     /// 6: a 1 or 3 as index marker, or a 3 in the place of a digit, straight binary seconds or control bit.
     InvalidElement(usize),
     /// 7: digit over 9, hours over 23, minutes or seconds over 59 (at 23:59 in A, B and G seconds over 60), day 0 or
-    /// over 366.
+    /// over 366, or where the format carries the year, over its last.
     InvalidDigit,
     /// 8: straight binary seconds differ from the digits.
     SecondsDiffer,
@@ -37,12 +38,16 @@ pub enum Refusal {
     SecondNotCarried,
     /// 15: kind of day above 2, or in A, B and G a time past the end of a day of that kind.
     InvalidKind,
+    /// 17: year over 99, or not 0 in a format that carries none.
+    InvalidYear,
+    /// 18: a one among control bits 1 to 9, whose places the year takes.
+    YearPlaceTaken,
     /// 26: the reader's setting not 2 to 5.
     InvalidSetting,
 }
 
 impl Refusal {
-    /// The number, 1 to 15 or 26.
+    /// The number, 1 to 15, 17, 18 or 26.
     pub fn number(self) -> u8 {
         match self {
             Refusal::UnknownFormat => 1,
@@ -60,6 +65,8 @@ impl Refusal {
             Refusal::InvalidReader => 13,
             Refusal::SecondNotCarried => 14,
             Refusal::InvalidKind => 15,
+            Refusal::InvalidYear => 17,
+            Refusal::YearPlaceTaken => 18,
             Refusal::InvalidSetting => 26,
         }
     }
@@ -91,6 +98,8 @@ impl Refusal {
             13 => Refusal::InvalidReader,
             14 => Refusal::SecondNotCarried,
             15 => Refusal::InvalidKind,
+            17 => Refusal::InvalidYear,
+            18 => Refusal::YearPlaceTaken,
             26 => Refusal::InvalidSetting,
             _ => unreachable!("the library returned {number}, which is no number of a refusal"),
         })
@@ -117,6 +126,8 @@ impl fmt::Display for Refusal {
             Refusal::InvalidReader => "reader's letter, expression or place out of range",
             Refusal::SecondNotCarried => "added second in a format that does not carry it",
             Refusal::InvalidKind => "kind of day above 2, or the time is past the day's end",
+            Refusal::InvalidYear => "year over 99, or not 0 in a format that carries none",
+            Refusal::YearPlaceTaken => "a one among the control bits whose places the year takes",
             Refusal::InvalidSetting => "setting not 2 to 5",
         };
         write!(f, "refused {}: {why}", self.number())?;

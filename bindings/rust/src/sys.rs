@@ -20,6 +20,12 @@ pub struct ReadResult {
 }
 
 #[repr(C)]
+pub struct ConvertResult {
+    pub number: u8,
+    pub index: usize,
+}
+
+#[repr(C)]
 pub struct StepResult {
     pub number: u8,
     pub time: Time,
@@ -75,6 +81,23 @@ extern "C" {
 
     pub fn duskveyra_read(format: Format, frame: *const u8, frame_length: usize) -> ReadResult;
 
+    pub fn duskveyra_forward(
+        format: Format,
+        frame: *const u8,
+        frame_length: usize,
+        year: u8,
+        later: *mut u8,
+        later_length: usize,
+    ) -> ConvertResult;
+
+    pub fn duskveyra_backward(
+        format: Format,
+        frame: *const u8,
+        frame_length: usize,
+        earlier: *mut u8,
+        earlier_length: usize,
+    ) -> ConvertResult;
+
     pub fn duskveyra_step(format: Format, time: Time, year_length: u16, kind: u8) -> StepResult;
 
     pub fn duskveyra_step_back(
@@ -100,6 +123,8 @@ extern "C" {
         symbols_length: usize,
         indexes: *mut usize,
         indexes_length: usize,
+        years: *mut u8,
+        years_length: usize,
         days: *mut u16,
         days_length: usize,
         hundredths: *mut u32,

@@ -5,14 +5,16 @@ use duskveyra::{write, Block, Format, Reader, Refusal, Report, Stop, Time, READE
 use std::ops::Range;
 
 /// An entry that no report makes.
-const UNTOUCHED: (usize, u16, u32, u64) = (usize::MAX, 0xa5a5, 0xa5a5_a5a5, 0xa5a5_a5a5_a5a5_a5a5);
+const UNTOUCHED: (usize, u8, u16, u32, u64) =
+    (usize::MAX, 0xa5, 0xa5a5, 0xa5a5_a5a5, 0xa5a5_a5a5_a5a5_a5a5);
 /// Entries behind the lent ones.
 const GUARD: usize = 3;
 
-/// The lent list of records, as four lists.
+/// The lent list of records, as five lists.
 struct Lists {
     room: usize,
     indexes: Vec<usize>,
+    years: Vec<u8>,
     days: Vec<u16>,
     hundredths: Vec<u32>,
     controls: Vec<u64>,
@@ -23,9 +25,10 @@ impl Lists {
         Lists {
             room,
             indexes: vec![UNTOUCHED.0; room + GUARD],
-            days: vec![UNTOUCHED.1; room + GUARD],
-            hundredths: vec![UNTOUCHED.2; room + GUARD],
-            controls: vec![UNTOUCHED.3; room + GUARD],
+            years: vec![UNTOUCHED.1; room + GUARD],
+            days: vec![UNTOUCHED.2; room + GUARD],
+            hundredths: vec![UNTOUCHED.3; room + GUARD],
+            controls: vec![UNTOUCHED.4; room + GUARD],
         }
     }
 
@@ -35,6 +38,7 @@ impl Lists {
         reader.feed_block(
             symbols,
             &mut self.indexes[lent.clone()],
+            &mut self.years[lent.clone()],
             &mut self.days[lent.clone()],
             &mut self.hundredths[lent.clone()],
             &mut self.controls[lent],
@@ -46,6 +50,7 @@ impl Lists {
         for index in count..self.room + GUARD {
             let record = (
                 self.indexes[index],
+                self.years[index],
                 self.days[index],
                 self.hundredths[index],
                 self.controls[index],
@@ -55,6 +60,7 @@ impl Lists {
         (0..count)
             .map(|index| {
                 let time = Time {
+                    year: self.years[index],
                     day: self.days[index],
                     hundredths: self.hundredths[index],
                 };
@@ -78,16 +84,18 @@ impl Recording {
     /// A frame's last two symbols, then frames in succession, to a reader with this setting.
     fn new(letter: u8, expression: u8, setting: u8, frames: u32) -> Recording {
         let format = Format { letter, expression };
-        let (n, interval, control) = match letter {
-            b'B' => (100, 100, 0x7ff_ffff),
-            b'E' => (100, 1_000, 0x1fff_ffff_ffff),
-            b'H' => (60, 6_000, 0x1ff),
-            _ => panic!("no letter of these tests"),
+        let (n, interval, control, year) = match (letter, expression) {
+            (b'B', 0) => (100, 100, 0x7ff_ffff, 0),
+            (b'B', 4) => (100, 100, 0x3_ffff, 99),
+            (b'E', 1) => (100, 1_000, 0x1fff_ffff_ffff, 0),
+            (b'H', 1) => (60, 6_000, 0x1ff, 0),
+            _ => panic!("no format of these tests"),
         };
         let mut symbols = vec![0, 2];
         let mut frame = vec![0; n];
         for index in 0..frames {
             let time = Time {
+                year,
                 day: 7,
                 hundredths: index * interval,
             };
@@ -134,9 +142,15 @@ impl Recording {
     }
 }
 
-fn recordings(frames: u32) -> [Recording; 4] {
-    [(b'B', 0, 2), (b'E', 1, 3), (b'H', 1, 4), (b'H', 1, 5)]
-        .map(|(letter, expression, setting)| Recording::new(letter, expression, setting, frames))
+fn recordings(frames: u32) -> [Recording; 5] {
+    [
+        (b'B', 0, 2),
+        (b'B', 4, 2),
+        (b'E', 1, 3),
+        (b'H', 1, 4),
+        (b'H', 1, 5),
+    ]
+    .map(|(letter, expression, setting)| Recording::new(letter, expression, setting, frames))
 }
 
 /// The second block's indexes are less by the first's length.
@@ -274,16 +288,17 @@ fn no_symbols_change_nothing() {
 }
 
 /// A refused block, of all symbols and of none: the number, and nothing changed.
-fn refused(recording: &Recording, reader: &Reader, lengths: [usize; 4], refusal: Refusal) {
+fn refused(recording: &Recording, reader: &Reader, lengths: [usize; 5], refusal: Refusal) {
     for symbols in [&recording.symbols[..], &[], &[255]] {
         let mut fed = reader.clone();
         let mut lists = Lists::new(8);
         let block = fed.feed_block(
             symbols,
             &mut lists.indexes[..lengths[0]],
-            &mut lists.days[..lengths[1]],
-            &mut lists.hundredths[..lengths[2]],
-            &mut lists.controls[..lengths[3]],
+            &mut lists.years[..lengths[1]],
+            &mut lists.days[..lengths[2]],
+            &mut lists.hundredths[..lengths[3]],
+            &mut lists.controls[..lengths[4]],
         );
         assert_eq!(block, Err(refusal));
         assert_eq!(&fed, reader);
@@ -294,12 +309,12 @@ fn refused(recording: &Recording, reader: &Reader, lengths: [usize; 4], refusal:
 /// The reader with these words is refused so, whatever the lengths.
 fn refused_first(recording: &Recording, words: [u64; READER_WORDS], refusal: Refusal) {
     let reader = Reader::from_words(words);
-    refused(recording, &reader, [8; 4], refusal);
-    refused(recording, &reader, [0; 4], refusal);
-    refused(recording, &reader, [0, 1, 2, 3], refusal);
-    for list in 0..4 {
+    refused(recording, &reader, [8; 5], refusal);
+    refused(recording, &reader, [0; 5], refusal);
+    refused(recording, &reader, [0, 1, 2, 3, 4], refusal);
+    for list in 0..5 {
         for (common, odd) in [(8, 7), (7, 8)] {
-            let mut lengths = [common; 4];
+            let mut lengths = [common; 5];
             lengths[list] = odd;
             refused(recording, &reader, lengths, refusal);
         }
@@ -310,10 +325,10 @@ fn refused_first(recording: &Recording, words: [u64; READER_WORDS], refusal: Ref
 fn refusals_change_nothing() {
     let recording = Recording::new(b'H', 1, 2, 6);
     let fresh = &recording.after[0];
-    // Each of the four lengths from 0 to 8.
-    for number in 0..9_usize.pow(4) {
-        let lengths = [0, 1, 2, 3].map(|list| number / 9_usize.pow(list) % 9);
-        if lengths != [lengths[0]; 4] {
+    // Each of the five lengths from 0 to 5.
+    for number in 0..6_usize.pow(5) {
+        let lengths = [0, 1, 2, 3, 4].map(|list| number / 6_usize.pow(list) % 6);
+        if lengths != [lengths[0]; 5] {
             refused(&recording, fresh, lengths, Refusal::WrongLength);
         }
     }

@@ -1,15 +1,18 @@
 //! Every call through the safe types: document 01's examples, each refusal and the order of refusals, the step back, the
-//! leap second, lent memory left as it was, and readers stored and made again.
+//! leap second, the year, its text and the converters, lent memory left as it was, and readers stored and made again.
 
 use duskveyra::{
-    classify, classify_list, difference, read, scan, step, step_back, write, Format, Found, Reader,
-    Refusal, Report, Time, GREATEST_SETTING, LEAST_SETTING, LONGEST_FRAME, MARK, ONE, READER_WORDS,
-    SECOND_ADDED, SECOND_TAKEN, SPOILED, USUAL_DAY, ZERO,
+    backward, classify, classify_list, difference, forward, read, scan, step, step_back, write,
+    Format, Found, ParseTimeError, Reader, Refusal, Report, Time, GREATEST_SETTING, LEAST_SETTING,
+    LONGEST_FRAME, MARK, ONE, READER_WORDS, SECOND_ADDED, SECOND_TAKEN, SPOILED, USUAL_DAY, ZERO,
 };
 
 const FORMATS: [&str; 16] = [
     "A0", "A1", "A2", "A3", "B0", "B1", "B2", "B3", "D1", "D2", "E1", "E2", "G1", "G2", "H1", "H2",
 ];
+
+/// Those that carry the year.
+const WITH_YEAR: [&str; 8] = ["A4", "A5", "A6", "A7", "B4", "B5", "B6", "B7"];
 
 const LISTING: &str = "P P00000000P 000100000P 001001000P 100001001P 100000000P 000000000P \
      P00000000P 100100000P 001001000P 100001001P 100000000P 000000000P";
@@ -22,7 +25,15 @@ fn format(name: &str) -> Format {
 }
 
 fn time(day: u16, hundredths: u32) -> Time {
-    Time { day, hundredths }
+    dated(0, day, hundredths)
+}
+
+fn dated(year: u8, day: u16, hundredths: u32) -> Time {
+    Time {
+        year,
+        day,
+        hundredths,
+    }
 }
 
 fn symbols(text: &str) -> Vec<u8> {
@@ -551,6 +562,243 @@ fn readers_of_any_words() {
         assert!(reader.feed((turn % 4) as u8).is_ok());
     }
     assert_eq!(Reader::fresh(format("D0"), 1), Err(Refusal::UnknownFormat));
+}
+
+#[test]
+fn a_year_is_refused_where_none_is_carried_and_above_99() {
+    for name in FORMATS.into_iter().chain(WITH_YEAR) {
+        let (format, n) = (format(name), table(format(name)).0);
+        let last = if WITH_YEAR.contains(&name) { 99 } else { 0 };
+        for year in 0..=255 {
+            let mut lent = vec![0xa5; n];
+            let refused = (year > last).then_some(Refusal::InvalidYear);
+            // 17 comes before 2, and 2 before what comes after it.
+            for (day, then) in [(1, None), (0, Some(Refusal::InvalidTime))] {
+                let expected = refused.or(then);
+                let answer = write(format, dated(year, day, 0), 0, &mut lent);
+                assert_eq!(answer.err(), expected, "{name} {year}");
+                for step in [step, step_back] {
+                    let answer = step(format, dated(year, day, 0), 365, USUAL_DAY);
+                    assert_eq!(answer.err(), expected, "{name} {year}");
+                }
+            }
+            assert!(refused.is_none() || lent == vec![0xa5; n]);
+        }
+    }
+    let c4 = format("C4");
+    let answer = write(c4, dated(100, 0, 0), 0, &mut []);
+    assert_eq!(answer, Err(Refusal::UnknownFormat));
+    assert_eq!(Refusal::InvalidYear.number(), 17);
+}
+
+#[test]
+fn every_fourth_year_has_day_366_and_0_follows_99() {
+    for name in WITH_YEAR {
+        let (format, interval) = (format(name), table(format(name)).1);
+        for year in 0..100 {
+            let last = 365 + u16::from(year % 4 == 0);
+            let end = dated(year, last, 8_640_000 - interval);
+            let next = dated((year + 1) % 100, 1, 0);
+            for given in [0, 365, 366, 65_535] {
+                assert_eq!(step(format, end, given, USUAL_DAY), Ok(next), "{name}");
+                assert_eq!(step_back(format, next, given, USUAL_DAY), Ok(end), "{name}");
+            }
+            let mut lent = [0; 100];
+            let answer = write(format, dated(year, 366, 0), 0, &mut lent);
+            let refused = (last == 365).then_some(Refusal::InvalidTime);
+            assert_eq!(answer.err(), refused, "{name} {year}");
+
+            // The year's digits at 50 to 53 and 55 to 58, in the frame of day 366 of year 0.
+            let mut bytes = frame(name, time(366, 0), 0);
+            for bit in 0..4 {
+                bytes[50 + bit] = (year % 10) >> bit & 1;
+                bytes[55 + bit] = (year / 10) >> bit & 1;
+            }
+            let expected = match last {
+                366 => Ok(dated(year, 366, 0)),
+                _ => Err(Refusal::InvalidDigit),
+            };
+            let answer = read(format, &bytes).map(|report| report.time);
+            assert_eq!(answer, expected, "{name} {year}");
+        }
+    }
+}
+
+#[test]
+fn years_are_reported() {
+    for name in WITH_YEAR {
+        let (format, interval) = (format(name), table(format(name)).1);
+        let mut reader = Reader::fresh(format, 2).unwrap();
+        assert_eq!(reader.feed(MARK), Ok(None));
+        let mut at = dated(99, 365, 8_640_000 - 3 * interval);
+        let mut times = Vec::new();
+        for _ in 0..5 {
+            for symbol in frame(name, at, 0) {
+                times.extend(reader.feed(symbol).unwrap().map(|report| report.time));
+            }
+            at = step(format, at, 365, USUAL_DAY).unwrap();
+        }
+        let expected = [
+            dated(99, 365, 8_640_000 - 2 * interval),
+            dated(99, 365, 8_640_000 - interval),
+            dated(0, 1, 0),
+            dated(0, 1, interval),
+        ];
+        assert_eq!(times, expected, "{name}");
+    }
+    let found = scan(
+        format("B4"),
+        &[&[MARK][..], &frame("B4", dated(76, 1, 0), 5)].concat(),
+        0,
+    );
+    let report = Report {
+        time: dated(76, 1, 0),
+        control: 5,
+    };
+    assert_eq!(found, Ok(Some(Found { start: 1, report })));
+    // Difference looks at no year.
+    assert_eq!(difference(dated(255, 2, 0), dated(3, 1, 8_639_999)), Ok(1));
+}
+
+#[test]
+fn forward_and_back_gives_the_same_frame() {
+    for with in WITH_YEAR {
+        let without = format!("{}{}", &with[..1], format(with).expression - 4);
+        let carried = format(with).expression < 6;
+        for year in 0..100 {
+            let word = if carried {
+                0x2_aaaa ^ u64::from(year)
+            } else {
+                0
+            };
+            let at = dated(year, 59, 8_640_000);
+            let earlier = frame(&without, time(59, 8_640_000), word << 9);
+            let later = frame(with, at, word);
+            let mut lent = [0xa5; 102];
+            let answer = forward(format(&without), &earlier, year, &mut lent[1..101]);
+            assert_eq!((answer, &lent[1..101]), (Ok(()), &later[..]));
+            let answer = backward(format(with), &later, &mut lent[1..101]);
+            assert_eq!((answer, &lent[1..101]), (Ok(()), &earlier[..]));
+            assert_eq!([lent[0], lent[101]], [0xa5; 2]);
+        }
+    }
+}
+
+/// A frame forward into one of n bytes, which a refusal leaves.
+fn there(name: &str, bytes: &[u8], year: u8, n: usize) -> Option<Refusal> {
+    let mut lent = vec![0xa5; n];
+    let answer = forward(format(name), bytes, year, &mut lent);
+    assert!(answer.is_ok() || lent == vec![0xa5; n]);
+    answer.err()
+}
+
+/// A frame backward into one of n bytes, which a refusal leaves.
+fn back(name: &str, bytes: &[u8], n: usize) -> Option<Refusal> {
+    let mut lent = vec![0xa5; n];
+    let answer = backward(format(name), bytes, &mut lent);
+    assert!(answer.is_ok() || lent == vec![0xa5; n]);
+    answer.err()
+}
+
+#[test]
+fn converters_refuse_formats_and_then_lengths() {
+    let others = ["A8", "C0", "D4", "G4"];
+    for name in FORMATS.into_iter().chain(WITH_YEAR).chain(others) {
+        let is_earlier = matches!(name.as_bytes(), [b'A' | b'B', b'0'..=b'3']);
+        let is_later = WITH_YEAR.contains(&name);
+        for (bytes, n) in [(&[7; 99][..], 100), (&[7; 100][..], 99), (&[], 0)] {
+            let first = |fits| match fits {
+                true => Some(Refusal::WrongLength),
+                false => Some(Refusal::UnknownFormat),
+            };
+            assert_eq!(there(name, bytes, 100, n), first(is_earlier), "{name}");
+            assert_eq!(back(name, bytes, n), first(is_later), "{name}");
+        }
+    }
+}
+
+#[test]
+fn converters_refuse_in_order() {
+    // Day 366 with a one among control bits 1 to 9, and what comes before.
+    let good = frame("B0", time(366, 100), 1 << 8);
+    let with = |changes: &[(usize, u8)], year| {
+        let mut bytes = good.clone();
+        for &(index, symbol) in changes {
+            bytes[index] = symbol;
+        }
+        there("B0", &bytes, year, 100)
+    };
+    assert_eq!(with(&[(0, 1), (99, 4)], 100), Some(Refusal::UnknownSymbol));
+    assert_eq!(with(&[(0, 1), (5, 1)], 0), Some(Refusal::MisplacedMark(0)));
+    assert_eq!(with(&[(5, 1), (9, 1)], 0), Some(Refusal::InvalidElement(5)));
+    assert_eq!(with(&[(30, 1), (80, 0)], 100), Some(Refusal::InvalidDigit));
+    assert_eq!(with(&[(80, 0)], 100), Some(Refusal::SecondsDiffer));
+    assert_eq!(with(&[], 100), Some(Refusal::InvalidYear));
+    assert_eq!(with(&[], 255), Some(Refusal::InvalidYear));
+    assert_eq!(with(&[], 1), Some(Refusal::InvalidTime));
+    assert_eq!(with(&[], 4), Some(Refusal::YearPlaceTaken));
+    assert_eq!(with(&[(58, 0)], 4), None);
+    assert_eq!(Refusal::YearPlaceTaken.number(), 18);
+    let mut later = frame("B4", dated(4, 366, 0), 0);
+    later[50] = 1;
+    assert_eq!(back("B4", &later, 100), Some(Refusal::InvalidDigit));
+    later[54] = 1;
+    assert_eq!(back("B4", &later, 100), Some(Refusal::InvalidElement(54)));
+}
+
+#[test]
+fn times_as_text() {
+    for (at, text) in [
+        (dated(0, 1, 0), "00 001 00:00:00.00"),
+        (dated(24, 366, 8_639_999), "24 366 23:59:59.99"),
+        (dated(99, 365, 8_640_000), "99 365 23:59:60.00"),
+        (dated(7, 191, 5_091_207), "07 191 14:08:32.07"),
+    ] {
+        assert_eq!(at.to_string(), text);
+        assert_eq!(text.parse(), Ok(at));
+    }
+    for hundredths in (0..8_640_100).step_by(977).chain(8_633_900..8_640_100) {
+        let at = dated(
+            (hundredths % 100) as u8,
+            1 + (hundredths % 366) as u16,
+            hundredths,
+        );
+        assert_eq!(at.to_string().parse(), Ok(at));
+    }
+}
+
+/// A time out of range has a text, too, which is not taken.
+#[test]
+fn texts_of_no_time() {
+    for at in [
+        dated(100, 1, 0),
+        dated(255, 65_535, u32::MAX),
+        dated(0, 0, 0),
+        dated(0, 367, 0),
+        dated(0, 1, 8_640_100),
+    ] {
+        assert_eq!(at.to_string().parse::<Time>(), Err(ParseTimeError), "{at}");
+    }
+    for text in [
+        "",
+        "00 001 00:00:00",
+        "0 001 00:00:00.00",
+        "00 1 00:00:00.00",
+        "00 001 24:00:00.00",
+        "00 001 00:60:00.00",
+        "00 001 23:58:60.00",
+        "00 001 22:59:60.00",
+        "00 001 23:59:61.00",
+        "00 001 00:00:00.0x",
+        "00 001 00:00:00.00 ",
+        " 00 001 00:00:00.00",
+        "00-001 00:00:00.00",
+        "+0 001 00:00:00.00",
+        "2024 001 00:00:00.00",
+        "00 ٠٠١ 00:00:00.00",
+    ] {
+        assert_eq!(text.parse::<Time>(), Err(ParseTimeError), "{text}");
+    }
 }
 
 #[test]
