@@ -11,10 +11,18 @@ use reference::{Format, Stop, Time};
 const TURNS: usize = 10;
 
 /// A report with the index of the symbol that brought it, or an entry of the lent list.
-type Record = (usize, u16, u32, u64);
+type Record = (usize, Time, u64);
 
 /// What stands in a lent list before a call: no report has it.
-const UNTOUCHED: Record = (usize::MAX, 0xa5a5, 0xa5a5_a5a5, 0xa5a5_a5a5_a5a5_a5a5);
+const UNTOUCHED: Record = (
+    usize::MAX,
+    Time {
+        year: 0xa5,
+        day: 0xa5a5,
+        hundredths: 0xa5a5_a5a5,
+    },
+    0xa5a5_a5a5_a5a5_a5a5,
+);
 
 /// Symbols taken, reports put in, and why it stopped; or the number of a refusal.
 type Block = Result<(usize, usize, Stop), u8>;
@@ -23,36 +31,41 @@ type Block = Result<(usize, usize, Stop), u8>;
 #[derive(Debug, PartialEq)]
 struct Lists {
     indexes: Vec<usize>,
+    years: Vec<u8>,
     days: Vec<u16>,
     hundredths: Vec<u32>,
     controls: Vec<u64>,
 }
 
 impl Lists {
-    fn new(lengths: [usize; 4]) -> Lists {
+    fn new(lengths: [usize; 5]) -> Lists {
+        let (index, time, control) = UNTOUCHED;
         Lists {
-            indexes: vec![UNTOUCHED.0; lengths[0]],
-            days: vec![UNTOUCHED.1; lengths[1]],
-            hundredths: vec![UNTOUCHED.2; lengths[2]],
-            controls: vec![UNTOUCHED.3; lengths[3]],
+            indexes: vec![index; lengths[0]],
+            years: vec![time.year; lengths[1]],
+            days: vec![time.day; lengths[2]],
+            hundredths: vec![time.hundredths; lengths[3]],
+            controls: vec![control; lengths[4]],
         }
     }
 
     fn of(records: &[Record]) -> Lists {
         Lists {
             indexes: records.iter().map(|record| record.0).collect(),
-            days: records.iter().map(|record| record.1).collect(),
-            hundredths: records.iter().map(|record| record.2).collect(),
-            controls: records.iter().map(|record| record.3).collect(),
+            years: records.iter().map(|record| record.1.year).collect(),
+            days: records.iter().map(|record| record.1.day).collect(),
+            hundredths: records.iter().map(|record| record.1.hundredths).collect(),
+            controls: records.iter().map(|record| record.2).collect(),
         }
     }
 }
 
-fn by_block(reader: &mut duskveyra::Reader, symbols: &[u8], lengths: [usize; 4]) -> (Block, Lists) {
+fn by_block(reader: &mut duskveyra::Reader, symbols: &[u8], lengths: [usize; 5]) -> (Block, Lists) {
     let mut lists = Lists::new(lengths);
     let block = reader.feed_block(
         symbols,
         &mut lists.indexes,
+        &mut lists.years,
         &mut lists.days,
         &mut lists.hundredths,
         &mut lists.controls,
@@ -76,8 +89,8 @@ fn by_single_feeds(reader: &mut duskveyra::Reader, symbols: &[u8], room: usize) 
         let before = reader.clone();
         let stopped = match fed(reader.feed(symbol)) {
             Ok(None) => continue,
-            Ok(Some((day, hundredths, control))) if reports < room => {
-                records[reports] = (taken, day, hundredths, control);
+            Ok(Some((time, control))) if reports < room => {
+                records[reports] = (taken, time, control);
                 reports += 1;
                 continue;
             }
@@ -93,16 +106,8 @@ fn by_single_feeds(reader: &mut duskveyra::Reader, symbols: &[u8], room: usize) 
 }
 
 fn by_reference(reader: &mut reference::Reader, symbols: &[u8], room: usize) -> (Block, Lists) {
-    let untouched = Time {
-        day: UNTOUCHED.1,
-        hundredths: UNTOUCHED.2,
-    };
-    let mut records = vec![(UNTOUCHED.0, untouched, UNTOUCHED.3); room];
+    let mut records = vec![UNTOUCHED; room];
     let block = reader.feed_block(symbols, &mut records);
-    let records: Vec<Record> = records
-        .iter()
-        .map(|(index, time, control)| (*index, time.day, time.hundredths, *control))
-        .collect();
     let answer = block.map(|block| (block.taken, block.reports, block.stop));
     (
         answer.map_err(|refusal| refusal.number()),
@@ -141,7 +146,7 @@ impl Readers {
 
     /// One block to all three: symbols taken, reports put in, and why it stopped.
     fn feed_block(&mut self, symbols: &[u8], room: usize) -> Result<(usize, usize, Stop), String> {
-        let block = by_block(&mut self.block, symbols, [room; 4]);
+        let block = by_block(&mut self.block, symbols, [room; 5]);
         let plain = by_reference(&mut self.plain, symbols, room);
         agree(|| "the block of reference".to_string(), &block, &plain)?;
         let single = by_single_feeds(&mut self.single, symbols, room);
@@ -220,10 +225,10 @@ fn any_block(
     let from = random.index(symbols.len() + 1);
     let to = (from + size(random)).min(symbols.len());
     let part = &symbols[from..to];
-    let mut lengths = [random.index(4); 4];
+    let mut lengths = [random.index(4); 5];
     if random.once_in(2) {
         for _ in 0..2 {
-            lengths[random.index(4)] = random.index(4);
+            lengths[random.index(5)] = random.index(4);
         }
     }
     let mut reader = duskveyra::Reader::from_words(words);
@@ -231,7 +236,7 @@ fn any_block(
     let mut expected_reader = duskveyra::Reader::from_words(words);
     let expected = if let Some(number) = refused_reader(&words) {
         (Err(number), Lists::new(lengths))
-    } else if lengths != [lengths[0]; 4] {
+    } else if lengths != [lengths[0]; 5] {
         (Err(3), Lists::new(lengths))
     } else {
         by_single_feeds(&mut expected_reader, part, lengths[0])

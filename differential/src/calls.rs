@@ -15,9 +15,11 @@ pub fn run_calls(random: &mut Random, counts: &mut Counts) -> Result<(), String>
         write(random)?;
         read(random)?;
         steps(random)?;
+        forward(random)?;
+        backward(random)?;
         difference(random)?;
         classify(random)?;
-        counts.calls += 6;
+        counts.calls += 8;
     }
     for _ in 0..TURNS / 6 {
         classify_list(random)?;
@@ -39,20 +41,29 @@ pub fn library_format(format: Format) -> duskveyra::Format {
 
 fn library_time(time: Time) -> duskveyra::Time {
     duskveyra::Time {
+        year: time.year,
         day: time.day,
         hundredths: time.hundredths,
     }
 }
 
-fn values(report: duskveyra::Report) -> (u16, u32, u64) {
-    (report.time.day, report.time.hundredths, report.control)
+fn plain_time(time: duskveyra::Time) -> Time {
+    Time {
+        year: time.year,
+        day: time.day,
+        hundredths: time.hundredths,
+    }
+}
+
+pub fn values(report: duskveyra::Report) -> (Time, u64) {
+    (plain_time(report.time), report.control)
 }
 
 /// Mostly a format, else two bytes near one or any two.
 fn any_format(random: &mut Random) -> Format {
     let mut format = format_of(random.pick(&FORMATS));
     match random.below(12) {
-        0 => format.expression = random.below(5) as u8,
+        0 => format.expression = random.below(9) as u8,
         1 => format.letter = b'@' + random.below(12) as u8,
         2 => format.letter = format.letter.to_ascii_lowercase(),
         3 => format = format_of((random.next() as u8, random.next() as u8)),
@@ -64,7 +75,7 @@ fn any_format(random: &mut Random) -> Format {
 /// Mostly a time on the format, else one near the borders, beside the grid or anywhere.
 fn any_time(random: &mut Random, format: Format) -> Time {
     let mut at = time(random, format);
-    match random.below(11) {
+    match random.below(13) {
         0 => at.day = random.pick(&[0, 1, 365, 366, 367, 511, 512, 65535]),
         1 => {
             at.hundredths = random.pick(&[
@@ -90,10 +101,13 @@ fn any_time(random: &mut Random, format: Format) -> Time {
         4 => at.hundredths = 8_639_890 + random.below(220) as u32,
         5 => {
             at = Time {
+                year: random.next() as u8,
                 day: random.next() as u16,
                 hundredths: random.next() as u32,
             }
         }
+        6 => at.year = random.pick(&[0, 1, 4, 99, 100, 127, 128, 255]),
+        7 => (at.year, at.day) = (random.below(101) as u8, random.pick(&[365, 366])),
         _ => {}
     }
     at
@@ -175,8 +189,8 @@ fn any_frame(random: &mut Random, format: Format) -> Vec<u8> {
     symbols
 }
 
-/// Puts digits just below and above their limits: seconds and minutes about 60, hours about 24, days about 0 and 366;
-/// or about 23:59:60, with the straight binary seconds as they were.
+/// Puts digits just below and above their limits: seconds and minutes about 60, hours about 24, days about 0 and 366,
+/// digits at 50 to 58 as the year's; or about 23:59:60, with the straight binary seconds as they were.
 fn odd_digits(random: &mut Random, symbols: &mut [u8]) {
     let units = random.below(16) as u8;
     if random.once_in(6) {
@@ -188,7 +202,7 @@ fn odd_digits(random: &mut Random, symbols: &mut [u8]) {
         put_digits(symbols, &[(20, 4), (25, 2)], &hour);
         return;
     }
-    let (fields, value): (&[(usize, usize)], [u8; 3]) = match random.below(6) {
+    let (fields, value): (&[(usize, usize)], [u8; 3]) = match random.below(7) {
         0 => (&[(1, 4), (6, 3)], [units, 5 + random.below(3) as u8, 0]),
         1 => (&[(10, 4), (15, 3)], [units, 5 + random.below(3) as u8, 0]),
         2 => (
@@ -200,6 +214,7 @@ fn odd_digits(random: &mut Random, symbols: &mut [u8]) {
             &[(30, 4), (35, 4), (40, 2)],
             [units % 2, random.below(2) as u8, 0],
         ),
+        5 if symbols.len() > 60 => (&[(50, 4), (55, 4)], [units, random.below(11) as u8, 0]),
         _ => (&[(45, 4), (50, 4)], [8 + units % 8, 8 + units / 2, 0]),
     };
     put_digits(symbols, fields, &value);
@@ -222,9 +237,7 @@ fn read(random: &mut Random) -> Result<(), String> {
     agree(
         || format!("read {format:?} {symbols:?}"),
         answer.map(values).map_err(refused),
-        expected
-            .map(|(at, word)| (at.day, at.hundredths, word))
-            .map_err(plain_refused),
+        expected.map_err(plain_refused),
     )
 }
 
@@ -253,13 +266,95 @@ fn steps(random: &mut Random) -> Result<(), String> {
     ];
     agree(
         || format!("step, step back {format:?} {at:?} year length {length} kind {kind}"),
-        answers.map(|answer| answer.map(|to| (to.day, to.hundredths)).map_err(refused)),
-        expected.map(|answer| {
-            answer
-                .map(|to| (to.day, to.hundredths))
-                .map_err(plain_refused)
-        }),
+        answers.map(|answer| answer.map(plain_time).map_err(refused)),
+        expected.map(|answer| answer.map_err(plain_refused)),
     )
+}
+
+/// A format that a converter mostly takes: of A and B, and of expressions 0 to 3 or 4 to 7.
+fn edition(random: &mut Random, expressions: u8) -> Format {
+    if random.once_in(12) {
+        return any_format(random);
+    }
+    let letter = random.pick(b"AB");
+    format_of((letter, expressions + random.below(4) as u8))
+}
+
+/// A frame forward with any year, mostly with no one among control bits 1 to 9; what was converted is converted back to
+/// the same frame.
+fn forward(random: &mut Random) -> Result<(), String> {
+    let format = edition(random, 0);
+    let mut symbols = any_frame(random, format);
+    if !random.once_in(4) && symbols.len() > 58 {
+        symbols[50..=58].fill(0);
+    }
+    let year = match random.below(8) {
+        0 => random.next() as u8,
+        1 => 100,
+        _ => random.below(100) as u8,
+    };
+    let length = any_length(random, format);
+    let later = converted(
+        random,
+        length,
+        |lent| duskveyra::forward(library_format(format), &symbols, year, lent),
+        |lent| reference::forward(format, &symbols, year, lent),
+        || format!("forward {format:?} year {year} {symbols:?}"),
+    )?;
+    let Some(later) = later else {
+        return Ok(());
+    };
+    let expression = format.expression + 4;
+    let format = Format {
+        expression,
+        ..format
+    };
+    let back = converted_back(random, format, &later, 100)?;
+    agree(|| "forward and back".to_string(), back, Some(symbols))
+}
+
+fn backward(random: &mut Random) -> Result<(), String> {
+    let format = edition(random, 4);
+    let symbols = any_frame(random, format);
+    let length = any_length(random, format);
+    converted_back(random, format, &symbols, length).map(|_| ())
+}
+
+fn converted_back(
+    random: &mut Random,
+    format: Format,
+    symbols: &[u8],
+    length: usize,
+) -> Result<Option<Vec<u8>>, String> {
+    converted(
+        random,
+        length,
+        |lent| duskveyra::backward(library_format(format), symbols, lent),
+        |lent| reference::backward(format, symbols, lent),
+        || format!("backward {format:?} {symbols:?}"),
+    )
+}
+
+/// The converted frame, where both sides give it; the lent memory and what stands beside it are compared too.
+fn converted(
+    random: &mut Random,
+    length: usize,
+    library: impl FnOnce(&mut [u8]) -> Result<(), duskveyra::Refusal>,
+    plain: impl FnOnce(&mut [u8]) -> Result<(), reference::Refusal>,
+    what: impl Fn() -> String,
+) -> Result<Option<Vec<u8>>, String> {
+    let fill = random.next() as u8;
+    let mut by_library = vec![fill; length + 2 * GUARD];
+    let mut by_plain = by_library.clone();
+    let lent = GUARD..GUARD + length;
+    let answer = library(&mut by_library[lent.clone()]).map_err(refused);
+    let expected = plain(&mut by_plain[lent.clone()]).map_err(plain_refused);
+    agree(
+        || format!("{} length {length} fill {fill}", what()),
+        (answer, &by_library),
+        (expected, &by_plain),
+    )?;
+    Ok(answer.is_ok().then(|| by_library[lent].to_vec()))
 }
 
 fn difference(random: &mut Random) -> Result<(), String> {
@@ -380,7 +475,7 @@ fn scan(random: &mut Random) -> Result<(), String> {
             .map(|found| found.map(|found| (found.start, values(found.report))))
             .map_err(refused),
         expected
-            .map(|found| found.map(|(at, when, word)| (at, (when.day, when.hundredths, word))))
+            .map(|found| found.map(|(at, when, word)| (at, (when, word))))
             .map_err(plain_refused),
     )
 }

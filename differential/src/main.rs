@@ -1,4 +1,4 @@
-//! Runs the library against the plain version in `reference`: random streams in all 16 formats with every setting, symbol by symbol and in
+//! Runs the library against the plain version in `reference`: random streams in all 24 formats with every setting, symbol by symbol and in
 //! blocks, and random calls with good and bad input. The first difference is printed in full and ends the run.
 
 mod blocks;
@@ -7,7 +7,7 @@ mod random;
 mod streams;
 
 use random::Random;
-use reference::Answer;
+use reference::{Answer, Time};
 use std::fmt::Debug;
 use std::panic::{catch_unwind, AssertUnwindSafe};
 use std::process::ExitCode;
@@ -30,8 +30,8 @@ const HUNDREDTHS: usize = 11;
 /// A refusal as both sides have it: the number, and the index with 5 and 6.
 type Refused = (u8, Option<usize>);
 
-/// What feeding a symbol gave; the report as day, hundredths and control word.
-type Fed = Result<Option<(u16, u32, u64)>, Refused>;
+/// What feeding a symbol gave; the report as time and control word.
+type Fed = Result<Option<(Time, u64)>, Refused>;
 
 /// How much was compared.
 #[derive(Default)]
@@ -40,8 +40,9 @@ struct Counts {
     calls: u64,
     /// Reports with the settings 2 to 5.
     reports: [u64; 4],
-    /// Reports of 23:59:60.
+    /// Reports of 23:59:60, and of years 1 to 99.
     added: u64,
+    with_year: u64,
     refused: u64,
     blocks: u64,
     /// Symbols that blocks took, and reports that they put in.
@@ -63,7 +64,7 @@ fn plain_refused(refusal: reference::Refusal) -> Refused {
 
 fn fed(answer: Result<Option<duskveyra::Report>, duskveyra::Refusal>) -> Fed {
     match answer {
-        Ok(report) => Ok(report.map(|r| (r.time.day, r.time.hundredths, r.control))),
+        Ok(report) => Ok(report.map(calls::values)),
         Err(refusal) => Err(refused(refusal)),
     }
 }
@@ -71,7 +72,7 @@ fn fed(answer: Result<Option<duskveyra::Report>, duskveyra::Refusal>) -> Fed {
 fn plain_fed(answer: Answer) -> Fed {
     match answer {
         Answer::Quiet => Ok(None),
-        Answer::Report(time, control) => Ok(Some((time.day, time.hundredths, control))),
+        Answer::Report(time, control) => Ok(Some((time, control))),
         Answer::Refused(refusal) => Err(plain_refused(refusal)),
     }
 }
@@ -104,7 +105,7 @@ fn by_definition(format: reference::Format, setting: u8, list: &mut Vec<u8>, sym
     if list[start] != 2 {
         return Ok(None);
     }
-    let mut last: Option<(reference::Time, u64)> = None;
+    let mut last: Option<(Time, u64)> = None;
     for frame in list[start + 1..].chunks(table(format).0) {
         let Ok((time, control)) = reference::read(format, frame) else {
             return Ok(None);
@@ -114,7 +115,7 @@ fn by_definition(format: reference::Format, setting: u8, list: &mut Vec<u8>, sym
         }
         last = Some((time, control));
     }
-    Ok(last.map(|(time, control)| (time.day, time.hundredths, control)))
+    Ok(last)
 }
 
 /// kn + 1.
@@ -224,9 +225,10 @@ fn run_stream(random: &mut Random, counts: &mut Counts) -> Result<(), String> {
         let at = |difference| format!("position {position}: {difference}");
         let answer = readers.feed(symbol).map_err(at)?;
         match answer {
-            Ok(Some((_, hundredths, _))) => {
+            Ok(Some((time, _))) => {
                 counts.reports[usize::from(setting) - 2] += 1;
-                counts.added += u64::from(hundredths >= 8_640_000);
+                counts.added += u64::from(time.in_added_second());
+                counts.with_year += u64::from(time.year != 0);
             }
             Ok(None) => {}
             Err(_) => counts.refused += 1,
@@ -310,8 +312,8 @@ fn main() -> ExitCode {
         }
     }
     println!(
-        "{number} streams, {:?} reports with the settings 2 to 5, {} of them in an added second, {} symbols above 3",
-        counts.reports, counts.added, counts.refused
+        "{number} streams, {:?} reports with the settings 2 to 5, {} of them in an added second, {} in the years 1 to 99, {} symbols above 3",
+        counts.reports, counts.added, counts.with_year, counts.refused
     );
     println!(
         "{} blocks of {} symbols, {} reports put in, {} stopped before a symbol above 3, {} before a report with no room; {} refused",

@@ -4,15 +4,23 @@
 use crate::random::Random;
 use reference::{step, write, Format, Time, MARK, SECOND_ADDED, SECOND_TAKEN, SPOILED, USUAL_DAY};
 
-pub const FORMATS: [(u8, u8); 16] = [
+pub const FORMATS: [(u8, u8); 24] = [
     (b'A', 0),
     (b'A', 1),
     (b'A', 2),
     (b'A', 3),
+    (b'A', 4),
+    (b'A', 5),
+    (b'A', 6),
+    (b'A', 7),
     (b'B', 0),
     (b'B', 1),
     (b'B', 2),
     (b'B', 3),
+    (b'B', 4),
+    (b'B', 5),
+    (b'B', 6),
+    (b'B', 7),
     (b'D', 1),
     (b'D', 2),
     (b'E', 1),
@@ -23,7 +31,7 @@ pub const FORMATS: [(u8, u8); 16] = [
     (b'H', 2),
 ];
 
-/// n, S and the number of control bits by document 01's table.
+/// n, S and the number of control bits by document 01's table, and 18 of these beside document 02's year.
 pub fn table(format: Format) -> (usize, u32, u32) {
     let (n, interval, bits) = match format.letter {
         b'A' => (100, 10, 27),
@@ -33,7 +41,35 @@ pub fn table(format: Format) -> (usize, u32, u32) {
         b'G' => (100, 1, 36),
         _ => (60, 6_000, 9),
     };
-    (n, interval, if format.expression < 2 { bits } else { 0 })
+    let bits = match format.expression {
+        0 | 1 => bits,
+        4 | 5 => 18,
+        _ => 0,
+    };
+    (n, interval, bits)
+}
+
+/// Whether a format of [`FORMATS`] carries the year.
+fn has_year(format: Format) -> bool {
+    format.expression >= 4
+}
+
+/// The last day of that year in the format.
+fn last_day(format: Format, year: u8) -> u16 {
+    if has_year(format) && year % 4 != 0 {
+        365
+    } else {
+        366
+    }
+}
+
+/// A year that the format carries.
+fn year(random: &mut Random, format: Format) -> u8 {
+    match random.below(3) {
+        _ if !has_year(format) => 0,
+        0 => random.pick(&[0, 1, 3, 4, 9, 10, 96, 99]),
+        _ => random.below(100) as u8,
+    }
 }
 
 pub fn format_of((letter, expression): (u8, u8)) -> Format {
@@ -63,12 +99,15 @@ pub fn time(random: &mut Random, format: Format) -> Time {
         1 => frames - 1 - from_midnight,
         _ => random.below(frames),
     };
+    let year = year(random, format);
+    let last = last_day(format, year);
     let day = match random.below(4) {
         0 => random.pick(&[1, 2, 9, 10, 99, 100, 199, 200, 299, 300]),
-        1 => random.pick(&[364, 365, 366]),
-        _ => 1 + random.below(366) as u16,
+        1 => random.pick(&[364, 365, last]),
+        _ => 1 + random.below(last.into()) as u16,
     };
     Time {
+        year,
         day,
         hundredths: frame as u32 * interval,
     }
@@ -118,9 +157,11 @@ fn over_day_end(random: &mut Random, format: Format, count: usize) -> Vec<u8> {
     let (_, interval, _) = table(format);
     let kind = random.below(3) as u8;
     let ends = [day_end(format, kind), 8_640_000.min(day_end(format, kind))];
-    let day = random.pick(&[1, 59, 181, 364, 365, 366]);
+    let year = year(random, format);
+    let day = random.pick(&[1, 59, 181, 364, 365, last_day(format, year)]);
     let length = 365 + u16::from(day == 366 || random.once_in(2));
     let mut at = Time {
+        year,
         day,
         hundredths: random.pick(&ends) - (1 + random.below(4) as u32) * interval,
     };
@@ -172,8 +213,8 @@ fn splice(random: &mut Random, format: Format) -> Vec<u8> {
     out
 }
 
-/// Whole frames behind a mark, in and out of succession: the step, the same time again, two steps, a day off, a good
-/// frame across a bad one.
+/// Whole frames behind a mark, in and out of succession: the step, the same time again, two steps, a day off, a year off,
+/// a good frame across a bad one.
 fn successions(random: &mut Random, format: Format) -> Vec<u8> {
     let mut out = run(MARK, 1 + random.index(3));
     let mut at = time(random, format);
@@ -185,17 +226,22 @@ fn successions(random: &mut Random, format: Format) -> Vec<u8> {
             symbols[index] = random.below(4) as u8;
         }
         out.extend(symbols);
-        at = match random.below(8) {
+        at = match random.below(9) {
             0 => at,
             1 => {
                 let once = next(random, format, at);
                 next(random, format, once)
             }
             2 => Time {
-                day: 1 + at.day % 366,
+                day: 1 + at.day % last_day(format, at.year),
                 ..at
             },
-            3 => time(random, format),
+            3 => {
+                let year = year(random, format);
+                let day = at.day.min(last_day(format, year));
+                Time { year, day, ..at }
+            }
+            4 => time(random, format),
             _ => next(random, format, at),
         };
     }
