@@ -5,7 +5,7 @@ use std::env;
 use std::path::{Path, PathBuf};
 use std::process::{self, Command};
 
-const FUNCTIONS: [&str; 4] = ["write", "fresh", "feed", "feed_block"];
+const FUNCTIONS: [&str; 5] = ["write", "read", "fresh", "feed", "feed_block"];
 
 fn main() {
     println!("cargo:rerun-if-env-changed=DUSKVEYRA_BEFORE");

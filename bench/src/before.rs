@@ -2,10 +2,12 @@
 //! It is linked where DUSKVEYRA_BEFORE names its directory, under the names that build.rs gives its functions.
 
 use crate::plain::{Format, Time};
+use crate::Read;
 
-/// What is timed of it. Its reader has no setting: two frames in a row.
+/// What is timed of it. Its reader has no setting: two frames in a row. It has no year.
 pub struct Before {
     pub write: fn(Format, Time, u64, &mut [u8]) -> bool,
+    pub read: Read,
     pub feed: fn(Format, &[u8]) -> u64,
     pub feed_blocks: fn(Format, &[u8], usize) -> u64,
 }
@@ -16,13 +18,14 @@ pub const BEFORE: Option<Before> = None;
 #[cfg(before)]
 pub const BEFORE: Option<Before> = Some(Before {
     write: linked::write,
+    read: linked::read,
     feed: linked::feed,
     feed_blocks: linked::feed_blocks,
 });
 
 #[cfg(before)]
 mod linked {
-    use crate::plain::{Format, Time};
+    use crate::plain::{Format, Refusal, Time};
     use crate::streams::{with_report, ROOM};
 
     type Words = [u64; 10];
@@ -36,6 +39,17 @@ mod linked {
             control: u64,
             frame: *mut u8,
             frame_length: usize,
+        ) -> u8;
+
+        fn before_read(
+            letter: u8,
+            expression: u8,
+            frame: *const u8,
+            frame_length: usize,
+            day: *mut u16,
+            hundredths: *mut u32,
+            control: *mut u64,
+            index: *mut usize,
         ) -> u8;
 
         fn before_fresh(letter: u8, expression: u8, reader: *mut Words) -> u8;
@@ -69,10 +83,39 @@ mod linked {
 
     pub fn write(format: Format, time: Time, control: u64, frame: &mut [u8]) -> bool {
         let Format { letter, expression } = format;
-        let Time { day, hundredths } = time;
+        let Time {
+            day, hundredths, ..
+        } = time;
         let (bytes, length) = (frame.as_mut_ptr(), frame.len());
         // SAFETY: the pointer and the length are those of one slice.
         unsafe { before_write(letter, expression, day, hundredths, control, bytes, length) == 0 }
+    }
+
+    pub fn read(format: Format, frame: &[u8]) -> Result<(Time, u64), Refusal> {
+        let (mut day, mut hundredths, mut control, mut index) = (0, 0, 0, 0);
+        // SAFETY: every pointer points to a local of its own, or with its length to one slice.
+        let number = unsafe {
+            before_read(
+                format.letter,
+                format.expression,
+                frame.as_ptr(),
+                frame.len(),
+                &mut day,
+                &mut hundredths,
+                &mut control,
+                &mut index,
+            )
+        };
+        let time = Time {
+            year: 0,
+            day,
+            hundredths,
+        };
+        match number {
+            0 => Ok((time, control)),
+            6 => Err(Refusal::Element(index)),
+            _ => Err(Refusal::Reader),
+        }
     }
 
     fn fresh(format: Format) -> Words {
@@ -99,7 +142,7 @@ mod linked {
                 )
             };
             if refused == 0 && reported != 0 {
-                sum = with_report(sum, day, hundredths, control);
+                sum = with_report(sum, 0, day, hundredths, control);
             }
         }
         sum
@@ -132,7 +175,7 @@ mod linked {
                 );
             }
             for report in 0..reports {
-                sum = with_report(sum, days[report], hundredths[report], controls[report]);
+                sum = with_report(sum, 0, days[report], hundredths[report], controls[report]);
             }
         }
         sum

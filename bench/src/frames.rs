@@ -14,7 +14,12 @@ fn times() -> Vec<(Time, u64)> {
             let hundredths = (8_000_000 + frame) % 8_640_000;
             let day = 300 + ((8_000_000 + frame) / 8_640_000) as u16;
             let control = random(&mut state) & ((1 << 36) - 1);
-            (Time { day, hundredths }, control)
+            let time = Time {
+                year: 0,
+                day,
+                hundredths,
+            };
+            (time, control)
         })
         .collect()
 }

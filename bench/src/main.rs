@@ -9,6 +9,7 @@ mod plain;
 mod streams;
 mod tuned;
 
+use before::{Before, BEFORE};
 use plain::{Format, Time};
 use std::cell::RefCell;
 use std::hint::black_box;
@@ -106,10 +107,21 @@ fn row(name: &str, unit: &str, sides: Vec<Option<Side>>) {
 
 fn table(format: Format) -> (usize, u32, u32) {
     match format.letter {
+        b'B' if format.expression == 4 => (100, 100, 18),
         b'B' => (100, 100, 27),
         b'G' => (100, 1, 36),
         _ => (60, 6_000, 9),
     }
+}
+
+/// The earlier library, where it is linked and has the format: it has none with the year.
+fn before(format: Format) -> Option<Before> {
+    BEFORE.filter(|_| !has_year(format))
+}
+
+/// Whether a format of the tables carries the year.
+fn has_year(format: Format) -> bool {
+    format.expression >= 4
 }
 
 fn random(state: &mut u64) -> u64 {
@@ -124,6 +136,7 @@ fn stream(format: Format, length: usize) -> Vec<u8> {
     let (n, _, bits) = table(format);
     let mut state = 1;
     let mut time = Time {
+        year: if has_year(format) { 99 } else { 0 },
         day: 300,
         hundredths: 5_088_000,
     };
@@ -176,33 +189,58 @@ fn write_rust(format: Format, prepared: &[(Time, u64)], all: bool, n: usize, wri
     })
 }
 
-fn write(format: Format) -> Vec<Option<Side>> {
-    let (n, interval, bits) = table(format);
+/// Times of the format on any day, each with a control word.
+fn prepared_times(format: Format) -> Vec<(Time, u64)> {
+    let (_, interval, bits) = table(format);
     let mut state = 7;
-    let prepared: Vec<(Time, u64)> = (0..PREPARED)
+    (0..PREPARED)
         .map(|_| {
             let frame = random(&mut state) % u64::from(8_640_000 / interval);
+            // Every fourth year has every day.
+            let leap_year = (random(&mut state) % 25 * 4) as u8;
             let time = Time {
+                year: if has_year(format) { leap_year } else { 0 },
                 day: 1 + (random(&mut state) % 366) as u16,
                 hundredths: frame as u32 * interval,
             };
             (time, random(&mut state) & ((1 << bits) - 1))
         })
-        .collect();
+        .collect()
+}
+
+fn write(format: Format) -> Vec<Option<Side>> {
+    let (n, _, _) = table(format);
+    let prepared = prepared_times(format);
     let library = |all| {
         write_with(&prepared, all, n, |time, control, frame| {
             duskveyra::write(library_format(format), library_time(time), control, frame).is_ok()
         })
     };
     let rust = |all, write: Write| write_rust(format, &prepared, all, n, write);
+    let before = before(format).map(|before| {
+        let prepared = &prepared;
+        move |all| {
+            write_with(prepared, all, n, |time, control, frame| {
+                (before.write)(format, time, control, frame)
+            })
+        }
+    });
     assert!(library(true) == rust(true, plain::write));
     assert!(library(true) == rust(true, tuned::write));
+    assert!(before
+        .as_ref()
+        .is_none_or(|before| before(true) == library(true)));
     compare(
         PREPARED,
         &[
             Some(&|| library(false)),
             Some(&|| rust(false, plain::write)),
             Some(&|| rust(false, tuned::write)),
+            before
+                .as_ref()
+                .map(|before| move || before(false))
+                .as_ref()
+                .map(|work| work as _),
         ],
     )
 }
@@ -218,7 +256,10 @@ fn read_with(
         .fold(0, |sum, frame| match read(frame) {
             Ok((time, control)) => mix(
                 sum,
-                u64::from(time.day) << 32 ^ u64::from(time.hundredths) ^ control,
+                u64::from(time.year) << 48
+                    ^ u64::from(time.day) << 32
+                    ^ u64::from(time.hundredths)
+                    ^ control,
             ),
             Err(refusal) => mix(sum, u64::from(refusal.number())),
         })
@@ -235,9 +276,11 @@ fn read(format: Format, spoiled: Option<usize>) -> Vec<Option<Side>> {
             frame[index] = 3;
         }
     }
+    let frames = &frames[..];
     let library = |frame: &[u8]| match duskveyra::read(library_format(format), frame) {
         Ok(report) => Ok((
             Time {
+                year: report.time.year,
                 day: report.time.day,
                 hundredths: report.time.hundredths,
             },
@@ -248,14 +291,18 @@ fn read(format: Format, spoiled: Option<usize>) -> Vec<Option<Side>> {
     };
     let rust = |read: Read| {
         let read = black_box(read);
-        read_with(&frames, n, |frame| read(format, frame))
+        read_with(frames, n, |frame| read(format, frame))
     };
     compare(
         PREPARED,
         &[
-            Some(&|| read_with(&frames, n, library)),
+            Some(&|| read_with(frames, n, library)),
             Some(&|| rust(plain::read)),
             Some(&|| rust(tuned::read)),
+            before(format)
+                .map(|before| move || read_with(frames, n, |frame| (before.read)(format, frame)))
+                .as_ref()
+                .map(|work| work as _),
         ],
     )
 }
@@ -353,15 +400,17 @@ fn library_format(format: Format) -> duskveyra::Format {
 
 fn library_time(time: Time) -> duskveyra::Time {
     duskveyra::Time {
+        year: time.year,
         day: time.day,
         hundredths: time.hundredths,
     }
 }
 
 /// The formats of the tables, each with its last element that is a bit.
-fn formats() -> [(&'static str, Format, usize); 3] {
+fn formats() -> [(&'static str, Format, usize); 4] {
     [
         ("B0", format(b'B', 0), 97),
+        ("B4", format(b'B', 4), 97),
         ("G1", format(b'G', 1), 98),
         ("H1", format(b'H', 1), 58),
     ]

@@ -1,8 +1,7 @@
 //! Streams of every kind, fed singly and in blocks: the library, Rust and an earlier library by turns.
 
-use crate::before::BEFORE;
 use crate::plain::{self, Format, Refusal, Time};
-use crate::{compare, library_format, mix, random, row, stream, table, tuned, Side};
+use crate::{before, compare, library_format, mix, random, row, stream, table, tuned, Side};
 use duskveyra::{sys, READER_WORDS};
 use std::hint::black_box;
 
@@ -15,11 +14,9 @@ const BLOCKS: [(&str, usize); 4] = [("1", 1), ("8", 8), ("256", 256), ("4,096", 
 
 /// What every side does with a report.
 #[inline]
-pub fn with_report(sum: u64, day: u16, hundredths: u32, control: u64) -> u64 {
-    mix(
-        mix(sum, u64::from(day) << 32 | u64::from(hundredths)),
-        control,
-    )
+pub fn with_report(sum: u64, year: u8, day: u16, hundredths: u32, control: u64) -> u64 {
+    let date = u64::from(year) << 16 | u64::from(day);
+    mix(mix(sum, date << 32 | u64::from(hundredths)), control)
 }
 
 fn feed_library(format: Format, setting: u8, symbols: &[u8]) -> u64 {
@@ -31,7 +28,8 @@ fn feed_library(format: Format, setting: u8, symbols: &[u8]) -> u64 {
         for &symbol in symbols {
             let fed = sys::duskveyra_feed(&mut reader, symbol);
             if fed.reported != 0 {
-                sum = with_report(sum, fed.time.day, fed.time.hundredths, fed.control);
+                let time = fed.time;
+                sum = with_report(sum, time.year, time.day, time.hundredths, fed.control);
             }
         }
     }
@@ -46,7 +44,7 @@ fn feed_rust<R>(mut reader: R, symbols: &[u8], feed: fn(&mut R, u8) -> Fed) -> u
     let mut sum = 0;
     for &symbol in symbols {
         if let Ok(Some((time, control))) = feed(&mut reader, symbol) {
-            sum = with_report(sum, time.day, time.hundredths, control);
+            sum = with_report(sum, time.year, time.day, time.hundredths, control);
         }
     }
     sum
@@ -64,7 +62,7 @@ fn feed_tuned(format: Format, setting: u8, symbols: &[u8]) -> u64 {
 
 /// Single feeds with a setting; the earlier library has 2 alone.
 pub fn feed(format: Format, setting: u8, symbols: &[u8]) -> Vec<Option<Side>> {
-    let before = BEFORE.filter(|_| setting == 2);
+    let before = before(format).filter(|_| setting == 2);
     compare(
         symbols.len(),
         &[
@@ -84,7 +82,7 @@ pub fn feed(format: Format, setting: u8, symbols: &[u8]) -> Vec<Option<Side>> {
 fn blocks_library(format: Format, symbols: &[u8], size: usize, mut at: impl FnMut(usize)) -> u64 {
     let (format, setting) = (library_format(format), black_box(2));
     let mut reader = duskveyra::Reader::fresh(format, setting).expect("a format and a setting");
-    let (mut indexes, mut days) = ([0; ROOM], [0; ROOM]);
+    let (mut indexes, mut years, mut days) = ([0; ROOM], [0; ROOM], [0; ROOM]);
     let (mut hundredths, mut controls) = ([0; ROOM], [0; ROOM]);
     let (mut start, mut sum) = (0, 0);
     for block in symbols.chunks(size) {
@@ -92,6 +90,7 @@ fn blocks_library(format: Format, symbols: &[u8], size: usize, mut at: impl FnMu
             .feed_block(
                 block,
                 &mut indexes,
+                &mut years,
                 &mut days,
                 &mut hundredths,
                 &mut controls,
@@ -99,7 +98,13 @@ fn blocks_library(format: Format, symbols: &[u8], size: usize, mut at: impl FnMu
             .expect("a reader that feeding made");
         for report in 0..fed.reports {
             at(start + indexes[report]);
-            sum = with_report(sum, days[report], hundredths[report], controls[report]);
+            sum = with_report(
+                sum,
+                years[report],
+                days[report],
+                hundredths[report],
+                controls[report],
+            );
         }
         start += block.len();
     }
@@ -113,6 +118,7 @@ fn blocks_plain(format: Format, symbols: &[u8], size: usize, mut at: impl FnMut(
         plain::Reader::feed_block as fn(&mut plain::Reader, &[u8], &mut [plain::Record]) -> usize,
     );
     let empty = Time {
+        year: 0,
         day: 0,
         hundredths: 0,
     };
@@ -122,7 +128,7 @@ fn blocks_plain(format: Format, symbols: &[u8], size: usize, mut at: impl FnMut(
         let reports = feed_block(&mut reader, block, &mut records);
         for &(index, time, control) in &records[..reports] {
             at(start + index);
-            sum = with_report(sum, time.day, time.hundredths, control);
+            sum = with_report(sum, time.year, time.day, time.hundredths, control);
         }
         start += block.len();
     }
@@ -143,7 +149,7 @@ fn feed_blocks(format: Format, symbols: &[u8], size: usize) -> Vec<Option<Side>>
             Some(&|| blocks_library(format, symbols, size, read)),
             Some(&|| blocks_plain(format, symbols, size, read)),
             None,
-            BEFORE
+            before(format)
                 .map(|before| move || (before.feed_blocks)(format, symbols, size))
                 .as_ref()
                 .map(|work| work as _),

@@ -1,4 +1,4 @@
-//! Write, Read and the stream reader in Rust written for speed, for the formats B0, G1 and H1 of the benchmark.
+//! Write, Read and the stream reader in Rust written for speed, for the formats B0, B4, G1 and H1 of the benchmark.
 //! Digits move four elements at a time, and a frame is judged without a branch for each element.
 
 use crate::plain::{next_after, Format, Refusal, Time};
@@ -6,8 +6,9 @@ use crate::plain::{next_after, Format, Refusal, Time};
 struct Layout {
     n: usize,
     interval: u32,
-    /// Starts of the digits: units and tens of seconds, minutes, hours; days; tenths; hundredths. 96 is none.
-    digits: [usize; 11],
+    /// Starts of the digits: units and tens of seconds, minutes, hours; days; tenths; hundredths; units and tens of
+    /// years. 96 is none.
+    digits: [usize; DIGITS],
     /// Starts of the ranges of nine control bits.
     control: &'static [usize],
     has_binary_seconds: bool,
@@ -18,20 +19,21 @@ struct Layout {
     high: [u8; 100],
 }
 
-const WIDTHS: [usize; 11] = [4, 3, 4, 3, 4, 2, 4, 4, 2, 4, 4];
+const DIGITS: usize = 13;
+const WIDTHS: [usize; DIGITS] = [4, 3, 4, 3, 4, 2, 4, 4, 2, 4, 4, 4, 4];
 const NONE: usize = 96;
 
 const fn build(
     n: usize,
     interval: u32,
-    digits: [usize; 11],
+    digits: [usize; DIGITS],
     control: &'static [usize],
     has_binary_seconds: bool,
     has_leap_second: bool,
 ) -> Layout {
     let (mut low, mut high) = ([0; 100], [0; 100]);
     let mut i = 0;
-    while i < 11 {
+    while i < DIGITS {
         let mut bit = 0;
         while digits[i] != NONE && bit < WIDTHS[i] {
             high[digits[i] + bit] = 1;
@@ -72,15 +74,23 @@ const fn build(
 static B0: Layout = build(
     100,
     100,
-    [1, 6, 10, 15, 20, 25, 30, 35, 40, NONE, NONE],
+    [1, 6, 10, 15, 20, 25, 30, 35, 40, NONE, NONE, NONE, NONE],
     &[50, 60, 70],
+    true,
+    true,
+);
+static B4: Layout = build(
+    100,
+    100,
+    [1, 6, 10, 15, 20, 25, 30, 35, 40, NONE, NONE, 50, 55],
+    &[60, 70],
     true,
     true,
 );
 static G1: Layout = build(
     100,
     1,
-    [1, 6, 10, 15, 20, 25, 30, 35, 40, 45, 50],
+    [1, 6, 10, 15, 20, 25, 30, 35, 40, 45, 50, NONE, NONE],
     &[60, 70, 80, 90],
     false,
     true,
@@ -88,7 +98,9 @@ static G1: Layout = build(
 static H1: Layout = build(
     60,
     6_000,
-    [NONE, NONE, 10, 15, 20, 25, 30, 35, 40, NONE, NONE],
+    [
+        NONE, NONE, 10, 15, 20, 25, 30, 35, 40, NONE, NONE, NONE, NONE,
+    ],
     &[50],
     false,
     false,
@@ -97,9 +109,32 @@ static H1: Layout = build(
 fn layout_of(format: Format) -> Result<&'static Layout, Refusal> {
     match (format.letter, format.expression) {
         (b'B', 0) => Ok(&B0),
+        (b'B', 4) => Ok(&B4),
         (b'G', 1) => Ok(&G1),
         (b'H', 1) => Ok(&H1),
         _ => Err(Refusal::Format),
+    }
+}
+
+impl Layout {
+    fn has_year(&self) -> bool {
+        self.digits[DIGITS - 1] != NONE
+    }
+
+    fn last_year(&self) -> u8 {
+        if self.has_year() {
+            Time::LAST_YEAR
+        } else {
+            0
+        }
+    }
+
+    fn last_day(&self, year: u8) -> u16 {
+        if self.has_year() {
+            Time::days_in(year)
+        } else {
+            Time::LAST_DAY
+        }
     }
 }
 
@@ -115,7 +150,13 @@ fn gather(elements: u32) -> u32 {
 
 pub fn write(format: Format, time: Time, control: u64, frame: &mut [u8]) -> Result<(), Refusal> {
     let layout = layout_of(format)?;
-    if !time.in_range() || time.hundredths % layout.interval != 0 {
+    if time.year > layout.last_year() {
+        return Err(Refusal::Year);
+    }
+    if !time.in_range()
+        || time.day > layout.last_day(time.year)
+        || time.hundredths % layout.interval != 0
+    {
         return Err(Refusal::Time);
     }
     if time.in_added_second() && !layout.has_leap_second {
@@ -128,7 +169,7 @@ pub fn write(format: Format, time: Time, control: u64, frame: &mut [u8]) -> Resu
         return Err(Refusal::Length);
     }
     frame.copy_from_slice(&layout.low[..layout.n]);
-    let (c, day) = (time.hundredths, u32::from(time.day));
+    let (c, day, year) = (time.hundredths, u32::from(time.day), u32::from(time.year));
     let second_of_day = c / 100;
     // The added second is the 61st of the day's last minute.
     let minute_of_day = (second_of_day / 60).min(1_439);
@@ -146,6 +187,8 @@ pub fn write(format: Format, time: Time, control: u64, frame: &mut [u8]) -> Resu
         day / 100,
         c / 10 % 10,
         c % 10,
+        year % 10,
+        year / 10,
     ];
     for (&start, value) in layout.digits.iter().zip(values) {
         if start != NONE {
@@ -197,7 +240,7 @@ fn decode(layout: &Layout, frame: &[u8]) -> Result<(Time, u64), Refusal> {
             Refusal::Element(index)
         });
     }
-    let mut values = [0; 11];
+    let mut values = [0; DIGITS];
     for ((value, &start), width) in values.iter_mut().zip(&layout.digits).zip(WIDTHS) {
         if start != NONE {
             let four: [u8; 4] = frame[start..start + 4].try_into().expect("four elements");
@@ -208,12 +251,16 @@ fn decode(layout: &Layout, frame: &[u8]) -> Result<(Time, u64), Refusal> {
             }
         }
     }
-    let [s, ss, m, mm, h, hh, d, dd, ddd, tenths, hundredths] = values;
+    let [s, ss, m, mm, h, hh, d, dd, ddd, tenths, hundredths, y, yy] = values;
+    let year = (10 * yy + y) as u8;
     let (second, minute, hour) = (10 * ss + s, 10 * mm + m, 10 * hh + h);
     let day = 100 * ddd + 10 * dd + d;
     let minute_of_day = hour * 60 + minute;
     let last = 59 + u32::from(layout.has_leap_second && minute_of_day == 1_439);
-    if hour > 23 || minute > 59 || second > last || day == 0 || day > 366 {
+    if hour > 23 || minute > 59 || second > last || day == 0 {
+        return Err(Refusal::Digit);
+    }
+    if day > u32::from(layout.last_day(year)) {
         return Err(Refusal::Digit);
     }
     let second_of_day = minute_of_day * 60 + second;
@@ -232,6 +279,7 @@ fn decode(layout: &Layout, frame: &[u8]) -> Result<(Time, u64), Refusal> {
         .rev()
         .fold(0, |word, &start| word << 9 | bits(start, 9));
     let time = Time {
+        year,
         day: day as u16,
         hundredths: second_of_day * 100 + 10 * tenths + hundredths,
     };
