@@ -6,7 +6,7 @@ use Prim.Native.Nat.{ℕ}
 use lib.Dec.{eqb}
 use lib.IntN.{ℤ, pos}
 use lib.ListN.{getD}
-use Rattle.timecode.specs.Answers.{Result, refusalNumber, refusalResult, writtenResult, readingResult, steppedResult, subtractedResult, classifiedResult, scannedResult, answerResult}
+use Rattle.timecode.specs.Answers.{Result, refusalNumber, refusalResult, timeValues, writtenResult, readingResult, steppedResult, subtractedResult, classifiedResult, scannedResult, answerResult}
 use Rattle.timecode.specs.declared.Answer.{Answer}
 use Rattle.timecode.specs.declared.Answer.the-variants.{Quiet, Report}
 use Rattle.timecode.specs.declared.Classified.{Classified}
@@ -30,6 +30,8 @@ use Rattle.timecode.specs.declared.Refusal.the-variants.{
   InvalidReader,
   SecondNotCarried,
   InvalidKind,
+  InvalidYear,
+  YearPlaceTaken,
   InvalidSetting,
 }
 use Rattle.timecode.specs.declared.Scanned.{Scanned}
@@ -38,10 +40,9 @@ use Rattle.timecode.specs.declared.Stepped.{Stepped}
 use Rattle.timecode.specs.declared.Stepped.the-variants.{To}
 use Rattle.timecode.specs.declared.Subtracted.{Subtracted}
 use Rattle.timecode.specs.declared.Subtracted.the-variants.{Hundredths}
-use Rattle.timecode.specs.declared.Time.{Time}
 use Rattle.timecode.specs.declared.Written.{Written}
 use Rattle.timecode.specs.declared.Written.the-variants.{Done}
-use Rattle.ffi.specs.Structs.{refusalIndex, writeResultOf, readResultOf, stepResultOf, differenceResultOf, classifyResultOf, scanResultOf, feedResultOf}
+use Rattle.ffi.specs.Structs.{refusalIndex, writeResultOf, convertResultOf, readResultOf, stepResultOf, differenceResultOf, classifyResultOf, scanResultOf, feedResultOf}
 
 -- ---- a result's parts, with 0 for what it has not
 
@@ -86,6 +87,8 @@ refusal-numbered StartPastEnd = refl
 refusal-numbered InvalidReader = refl
 refusal-numbered SecondNotCarried = refl
 refusal-numbered InvalidKind = refl
+refusal-numbered InvalidYear = refl
+refusal-numbered YearPlaceTaken = refl
 refusal-numbered InvalidSetting = refl
 
 index-value : (x : Refusal) → pos (refusalIndex x) ≡ getD (refusalResult x .values) 0 (pos 0)
@@ -104,21 +107,29 @@ index-value StartPastEnd = refl
 index-value InvalidReader = refl
 index-value SecondNotCarried = refl
 index-value InvalidKind = refl
+index-value InvalidYear = refl
+index-value YearPlaceTaken = refl
 index-value InvalidSetting = refl
 
 -- ---- the values of the structs, in the order of the results' values
 
-abbrev pub timeValues : Time → List ℤ → List ℤ
-timeValues t others = pos (t .day) ∷ pos (t .hundredths) ∷ others
-
+-- those of a time, each zero
 abbrev pub timeZeros : List ℤ → List ℤ
-timeZeros others = pos 0 ∷ pos 0 ∷ others
+timeZeros others = pos 0 ∷ pos 0 ∷ pos 0 ∷ others
 
 -- ---- each struct against its answer's result
 
 pub write-number : (a : Written) → writeResultOf a .number ≡ writtenResult a .number
 write-number Done = refl
 write-number (Written.Refused x) = refl
+
+pub convert-number : (a : Written) → convertResultOf a .number ≡ writtenResult a .number
+convert-number Done = refl
+convert-number (Written.Refused x) = refl
+
+pub convert-index : (a : Written) → pos (convertResultOf a .index) ≡ indexIn (writtenResult a)
+convert-index Done = refl
+convert-index (Written.Refused x) = rw (refusal-numbered x) (index-value x)
 
 pub read-number : (a : Reading) → readResultOf a .number ≡ readingResult a .number
 read-number (Accepted t w) = refl

@@ -1,4 +1,4 @@
--- No call but Read refuses with 5 or 6: a struct without an index leaves out no value of a refusal.
+-- Read and the converters alone refuse with 5 or 6: a struct without an index leaves out no value of a refusal.
 use mathlib.Core.Path.{_≡_, refl}
 use mathlib.Core.Bool.{Bool, true, false, _&&_}
 use mathlib.Core.List.{List, []}
@@ -8,8 +8,8 @@ use lib.IntN.{ℤ}
 use lib.ListN.{getD, length}
 use Rattle.timecode.specs.Answers.{Result, writtenResult, steppedResult, subtractedResult, classifiedResult, scannedResult}
 use Rattle.timecode.specs.Calls.{isInterval, classifyOf, classifyListOf, differenceOf, found, lowestOf, scanOf, partAt, firstPlace}
-use Rattle.timecode.specs.Formats.{known, size, inRange, onFormat, secondCarried}
-use Rattle.timecode.specs.Frames.{inYear, onDay, controlFits, stepOf, stepBackOf, writeOf, readOf}
+use Rattle.timecode.specs.Formats.{known, size, lastDay, yearCarried, inRange, onFormat, secondCarried}
+use Rattle.timecode.specs.Frames.{lengthIn, inYear, yearOfTimeBefore, onDay, controlFits, stepOf, stepBackOf, writeOf, readOf}
 use Rattle.timecode.specs.Laws.Tests.{by-test}
 use Rattle.timecode.specs.declared.Format.{Format}
 use Rattle.timecode.specs.declared.Reading.{Reading}
@@ -24,19 +24,19 @@ refusedValues s = unlessRefused s [] (s .values)
 
 pub write-no-index : (f : Format) (t : Time) (w : ℕ) (lent : List ℕ) → refusedValues (writtenResult (writeOf f t w lent)) ≡ []
 unfolding writeOf
-write-no-index f t w lent = by-test (known f) (λ a. rw a (by-test (onFormat f t) (λ b. rw b (by-test (secondCarried f t) (λ d. rw d (by-test (controlFits f w) (λ g. rw g (by-test (eqb (length lent) (size f)) (λ h. rw h) (λ h. rw h))) (λ g. rw g))) (λ d. rw d))) (λ b. rw b))) (λ a. rw a)
+write-no-index f t w lent = by-test (known f) (λ a. rw a (by-test (yearCarried f (t .year)) (λ y. rw y (by-test (onFormat f t) (λ b. rw b (by-test (secondCarried f t) (λ d. rw d (by-test (controlFits f w) (λ g. rw g (by-test (eqb (length lent) (size f)) (λ h. rw h) (λ h. rw h))) (λ g. rw g))) (λ d. rw d))) (λ b. rw b))) (λ y. rw y))) (λ a. rw a)
 
 pub step-no-index : (f : Format) (t : Time) (year kind : ℕ) → refusedValues (steppedResult (stepOf f t year kind)) ≡ []
 unfolding stepOf
-step-no-index f t year kind = by-test (known f) (λ a. rw a (by-test (onFormat f t) (λ b. rw b (by-test (secondCarried f t) (λ d. rw d (by-test (inYear t year) (λ g. rw g (by-test (onDay f t kind) (λ h. rw h) (λ h. rw h))) (λ g. rw g))) (λ d. rw d))) (λ b. rw b))) (λ a. rw a)
+step-no-index f t year kind = by-test (known f) (λ a. rw a (by-test (yearCarried f (t .year)) (λ y. rw y (by-test (onFormat f t) (λ b. rw b (by-test (secondCarried f t) (λ d. rw d (by-test (inYear t (lengthIn f (t .year) year)) (λ g. rw g (by-test (onDay f t kind) (λ h. rw h) (λ h. rw h))) (λ g. rw g))) (λ d. rw d))) (λ b. rw b))) (λ y. rw y))) (λ a. rw a)
 
 pub step-back-no-index : (f : Format) (t : Time) (year kind : ℕ) → refusedValues (steppedResult (stepBackOf f t year kind)) ≡ []
 unfolding stepBackOf
-step-back-no-index f t year kind = by-test (known f) (λ a. rw a (by-test (onFormat f t) (λ b. rw b (by-test (secondCarried f t) (λ d. rw d (by-test (inYear t year) (λ g. rw g (by-test (onDay f t kind) (λ h. rw h) (λ h. rw h))) (λ g. rw g))) (λ d. rw d))) (λ b. rw b))) (λ a. rw a)
+step-back-no-index f t year kind = by-test (known f) (λ a. rw a (by-test (yearCarried f (t .year)) (λ y. rw y (by-test (onFormat f t) (λ b. rw b (by-test (secondCarried f t) (λ d. rw d (by-test (inYear t (lengthIn f (yearOfTimeBefore f t) year)) (λ g. rw g (by-test (onDay f t kind) (λ h. rw h) (λ h. rw h))) (λ g. rw g))) (λ d. rw d))) (λ b. rw b))) (λ y. rw y))) (λ a. rw a)
 
 pub difference-no-index : (t u : Time) → refusedValues (subtractedResult (differenceOf t u)) ≡ []
 unfolding differenceOf
-difference-no-index t u = by-test (inRange t && inRange u) (λ a. rw a) (λ a. rw a)
+difference-no-index t u = by-test (inRange lastDay t && inRange lastDay u) (λ a. rw a) (λ a. rw a)
 
 pub classify-no-index : (T width period : ℕ) → refusedValues (classifiedResult (classifyOf T width period)) ≡ []
 unfolding classifyOf

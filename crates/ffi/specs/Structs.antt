@@ -1,7 +1,8 @@
--- The struct of each answer: its number first, with Read's the index, then its values; a field for which the answer has no value is 0.
+-- The struct of each answer: its number first, with Read's and the converters' the index, then its values; a field for which the answer has no value is 0.
 use Prim.Native.Nat.{ℕ}
 use lib.IntN.{pos}
 use Rattle.timecode.specs.Answers.{refusalNumber}
+use Rattle.timecode.specs.Frames.{noTime}
 use Rattle.timecode.specs.declared.Answer.{Answer}
 use Rattle.timecode.specs.declared.Answer.the-variants.{Quiet, Report}
 use Rattle.timecode.specs.declared.Classified.{Classified}
@@ -25,6 +26,8 @@ use Rattle.timecode.specs.declared.Refusal.the-variants.{
   InvalidReader,
   SecondNotCarried,
   InvalidKind,
+  InvalidYear,
+  YearPlaceTaken,
   InvalidSetting,
 }
 use Rattle.timecode.specs.declared.Scanned.{Scanned}
@@ -33,19 +36,16 @@ use Rattle.timecode.specs.declared.Stepped.{Stepped}
 use Rattle.timecode.specs.declared.Stepped.the-variants.{To}
 use Rattle.timecode.specs.declared.Subtracted.{Subtracted}
 use Rattle.timecode.specs.declared.Subtracted.the-variants.{Hundredths}
-use Rattle.timecode.specs.declared.Time.{Time}
 use Rattle.timecode.specs.declared.Written.{Written}
 use Rattle.timecode.specs.declared.Written.the-variants.{Done}
 use Rattle.ffi.specs.declared.ClassifyResult.{ClassifyResult}
+use Rattle.ffi.specs.declared.ConvertResult.{ConvertResult}
 use Rattle.ffi.specs.declared.DifferenceResult.{DifferenceResult}
 use Rattle.ffi.specs.declared.FeedResult.{FeedResult}
 use Rattle.ffi.specs.declared.ReadResult.{ReadResult}
 use Rattle.ffi.specs.declared.ScanResult.{ScanResult}
 use Rattle.ffi.specs.declared.StepResult.{StepResult}
 use Rattle.ffi.specs.declared.WriteResult.{WriteResult}
-
-abbrev pub zeroTime : Time
-zeroTime = record { day = 0; hundredths = 0 }
 
 -- the index that goes with 5 and 6; with every other number 0
 abbrev pub refusalIndex : Refusal → ℕ
@@ -64,19 +64,25 @@ refusalIndex StartPastEnd = 0
 refusalIndex InvalidReader = 0
 refusalIndex SecondNotCarried = 0
 refusalIndex InvalidKind = 0
+refusalIndex InvalidYear = 0
+refusalIndex YearPlaceTaken = 0
 refusalIndex InvalidSetting = 0
 
 abbrev pub writeResultOf : Written → WriteResult
 writeResultOf Done = record { number = 0 }
 writeResultOf (Written.Refused x) = record { number = refusalNumber x }
 
+abbrev pub convertResultOf : Written → ConvertResult
+convertResultOf Done = record { number = 0; index = 0 }
+convertResultOf (Written.Refused x) = record { number = refusalNumber x; index = refusalIndex x }
+
 abbrev pub readResultOf : Reading → ReadResult
 readResultOf (Accepted t w) = record { number = 0; index = 0; time = t; control = w }
-readResultOf (Reading.Refused x) = record { number = refusalNumber x; index = refusalIndex x; time = zeroTime; control = 0 }
+readResultOf (Reading.Refused x) = record { number = refusalNumber x; index = refusalIndex x; time = noTime; control = 0 }
 
 abbrev pub stepResultOf : Stepped → StepResult
 stepResultOf (To t) = record { number = 0; time = t }
-stepResultOf (Stepped.Refused x) = record { number = refusalNumber x; time = zeroTime }
+stepResultOf (Stepped.Refused x) = record { number = refusalNumber x; time = noTime }
 
 abbrev pub differenceResultOf : Subtracted → DifferenceResult
 differenceResultOf (Hundredths d) = record { number = 0; hundredths = d }
@@ -89,11 +95,11 @@ classifyResultOf (Classified.Refused x) = record { number = refusalNumber x; sym
 -- found: 1 with a frame, else 0
 abbrev pub scanResultOf : Scanned → ScanResult
 scanResultOf (Found a t w) = record { number = 0; found = 1; start = a; time = t; control = w }
-scanResultOf None = record { number = 0; found = 0; start = 0; time = zeroTime; control = 0 }
-scanResultOf (Scanned.Refused x) = record { number = refusalNumber x; found = 0; start = 0; time = zeroTime; control = 0 }
+scanResultOf None = record { number = 0; found = 0; start = 0; time = noTime; control = 0 }
+scanResultOf (Scanned.Refused x) = record { number = refusalNumber x; found = 0; start = 0; time = noTime; control = 0 }
 
 -- reported: 1 with a report, else 0
 abbrev pub feedResultOf : Answer → FeedResult
-feedResultOf Quiet = record { number = 0; reported = 0; time = zeroTime; control = 0 }
+feedResultOf Quiet = record { number = 0; reported = 0; time = noTime; control = 0 }
 feedResultOf (Report t w) = record { number = 0; reported = 1; time = t; control = w }
-feedResultOf (Answer.Refused x) = record { number = refusalNumber x; reported = 0; time = zeroTime; control = 0 }
+feedResultOf (Answer.Refused x) = record { number = refusalNumber x; reported = 0; time = noTime; control = 0 }

@@ -1,7 +1,8 @@
-// The answers as C's structs, by value: the number of the refusal or 0 first, with Read's the index, then the values.
+// The answers as C's structs, by value: the number of the refusal or 0 first, with Read's and the converters' the index, then the values.
 // A field for which an answer has no value is 0. Which struct belongs to which answer, and that it has the answer's number and values, stands in specs/.
 ghost use mathlib.Core.Path.{_≡_};
-ghost use Rattle.ffi.specs.Structs.{zeroTime, refusalIndex, writeResultOf, readResultOf, stepResultOf, differenceResultOf, classifyResultOf, scanResultOf, feedResultOf};
+ghost use Rattle.timecode.specs.Frames.{noTime};
+ghost use Rattle.ffi.specs.Structs.{refusalIndex, writeResultOf, convertResultOf, readResultOf, stepResultOf, differenceResultOf, classifyResultOf, scanResultOf, feedResultOf};
 use refusals::number_of;
 use timecode::Answer;
 use timecode::Classified;
@@ -17,6 +18,13 @@ use timecode::Written;
 #[repr(C)]
 pub struct WriteResult {
     pub number: u8,
+}
+
+// The converters between the editions, which refuse as Read does: with 5 and 6 goes the index.
+#[repr(C)]
+pub struct ConvertResult {
+    pub number: u8,
+    pub index: usize,
 }
 
 #[repr(C)]
@@ -63,9 +71,10 @@ pub struct FeedResult {
 }
 
 pub fn zero_time() -> Time
-    ensures { λ r. ⌜ r ≡ zeroTime ⌝ }
+    ensures { λ r. ⌜ r ≡ noTime ⌝ }
 {
     Time {
+        year: 0,
         day: 0,
         hundredths: 0,
     }
@@ -91,6 +100,8 @@ pub fn index_of(refusal: Refusal) -> usize
         Refusal::InvalidReader => 0,
         Refusal::SecondNotCarried => 0,
         Refusal::InvalidKind => 0,
+        Refusal::InvalidYear => 0,
+        Refusal::YearPlaceTaken => 0,
         Refusal::InvalidSetting => 0,
     }
 }
@@ -102,6 +113,21 @@ pub fn write_result(written: Written) -> WriteResult
         Written::Done => WriteResult { number: 0 },
         Written::Refused(refusal) => WriteResult {
             number: number_of(refusal),
+        },
+    }
+}
+
+pub fn convert_result(written: Written) -> ConvertResult
+    ensures { λ r. ⌜ r ≡ convertResultOf written ⌝ }
+{
+    match written {
+        Written::Done => ConvertResult {
+            number: 0,
+            index: 0,
+        },
+        Written::Refused(refusal) => ConvertResult {
+            number: number_of(refusal),
+            index: index_of(refusal),
         },
     }
 }

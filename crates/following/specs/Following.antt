@@ -5,7 +5,7 @@ use Prim.Native.Nat.{ℕ, _+_}
 use lib.Dec.{leb, ltb, eqb}
 use lib.ListN.{length}
 use Rattle.timecode.specs.Formats.{size}
-use Rattle.timecode.specs.Frames.{nextAfter, readOf}
+use Rattle.timecode.specs.Frames.{noTime, nextAfter, readOf}
 use Rattle.timecode.specs.declared.Answer.{Answer}
 use Rattle.timecode.specs.declared.Answer.the-variants.{Quiet, Report}
 use Rattle.timecode.specs.declared.Format.{Format}
@@ -21,9 +21,6 @@ pub record Following : Type 0 where
   pub row : ℕ
   pub time : Time
   pub control : ℕ
-
-abbrev pub noTime : Time
-noTime = record { day = 0; hundredths = 0 }
 
 abbrev pub nothingReceived : Following
 nothingReceived = record { last = 3; frame = []; row = 0; time = noTime; control = 0 }

@@ -22,6 +22,8 @@ pub fn number_of(refusal: Refusal) -> u8
         Refusal::InvalidReader => 13,
         Refusal::SecondNotCarried => 14,
         Refusal::InvalidKind => 15,
+        Refusal::InvalidYear => 17,
+        Refusal::YearPlaceTaken => 18,
         Refusal::InvalidSetting => 26,
     }
 }
