@@ -1,17 +1,17 @@
--- The rows of the six letters are the table's by computation. Here is what computation leaves: expressions in a row, other letters, and what each expression carries.
-use mathlib.Core.Path.{_≡_, refl, sym}
-use mathlib.Core.Bool.{false, _&&_}
+-- The rows of the six letters are the table's by computation. Here is what computation leaves: expressions in a row, editions, other letters, and what each expression carries.
+use mathlib.Core.Path.{_≡_, refl, sym, subst, _∙_}
+use mathlib.Core.Bool.{true, false, _&&_, _||_}
 use mathlib.Core.List.{[], _∷_}
-use Prim.Native.Nat.{ℕ, zero, suc, _+_}
+use Prim.Native.Nat.{ℕ, zero, suc, _+_, _≤_}
 use native.Mathlib.Omega.{arith}
 use borrow.Author.Tests.{eqb-true, eqb-false, ne-eqb, leb-true, leb-false, le-leb, lt-leb}
 use lib.Dec.{leb, eqb}
-use Rattle.timecode.specs.Formats.{member, carriesLeap, A, B, D, E, G, H, table, noRow, lookUp, rowOf, carriesControl, carriesSeconds}
-use Rattle.timecode.specs.Laws.Tests.{by-test}
-use Rattle.timecode.specs.Layout.{tabulate, seconds, minutes, hours, days, tenths, hundredthsDigit, hasSeconds, straightSeconds, timeFields}
+use Rattle.timecode.specs.Formats.{member, carriesLeap, carriesYear, A, B, D, E, G, H, table, noRow, lookUp, rowOf, carriesControl, carriesSeconds, controlPlaces}
+use Rattle.timecode.specs.Laws.Tests.{by-test, clash, and-left, or-second}
+use Rattle.timecode.specs.Layout.{tabulate, seconds, minutes, hours, days, tenths, hundredthsDigit, hasSeconds, straightSeconds, years, timeFields}
 use Rattle.timecode.specs.declared.Format.{Format}
 use Rattle.layout.specs.Runs.{codeRange, codeControl, codeFields, codeRuns}
-use Rattle.layout.specs.Tables.{startsOf, widthsOf, with-letter, runStarts, clearSeconds, clearControl, carriedIn}
+use Rattle.layout.specs.Tables.{startsOf, widthsOf, with-letter, fullOf, runStarts, clearSeconds, clearControl, carriedIn, hasYear, withoutYear}
 
 -- e is one of the n numbers from a on, of which last is the last
 pub in-row : (n a last : ℕ) → a + n ≡ suc last → (e : ℕ) → member e (tabulate n a (λ (j : ℕ). j)) ≡ (leb a e && leb e last)
@@ -30,6 +30,40 @@ in-row (suc n) a last q e =
     (by-test (leb a e)
     (λ y. let u = leb-true a e y in rw (y, le-leb (suc a) e (omega arith)))
     (λ w. let u = leb-false a e w in rw (w, lt-leb (suc a) e (omega arith)))))
+
+-- of the expressions 0 to 7 the first four have no year, the last four have it
+pub earlier-row : (e : ℕ) → hasYear e ≡ false → member e (0 ∷ 1 ∷ 2 ∷ 3 ∷ 4 ∷ 5 ∷ 6 ∷ 7 ∷ []) ≡ (leb 0 e && leb e 3)
+unfolding hasYear
+earlier-row e n = rw n (in-row 4 0 3 refl e)
+
+pub later-row : (e : ℕ) → hasYear e ≡ true → member e (0 ∷ 1 ∷ 2 ∷ 3 ∷ 4 ∷ 5 ∷ 6 ∷ 7 ∷ []) ≡ (leb 4 e && leb e 7)
+unfolding hasYear
+later-row e y =
+    let three = member e (3 ∷ 4 ∷ 5 ∷ 6 ∷ 7 ∷ []) in
+    let two = eqb e 2 || three in
+    or-second (eqb e 0) (eqb e 1 || two) (or-second (eqb e 1) two (or-second (eqb e 2) three (or-second (eqb e 3) (member e (4 ∷ 5 ∷ 6 ∷ 7 ∷ [])) y))) ∙ sym (sym (in-row 4 4 7 refl e) ∙ y)
+
+-- a letter that takes the year has none where its format has none
+pub no-year : (l e : ℕ) → member l (A ∷ B ∷ []) ≡ true → carriesYear (with-letter l e) ≡ false → hasYear e ≡ false
+unfolding carriesYear hasYear
+no-year l e y n = by-test (hasYear e) (λ h. clash {b = true} refl (rw (h, y) at n)) (λ m. m)
+
+pub with-year : (l e : ℕ) → member l (A ∷ B ∷ []) ≡ true → hasYear e ≡ true → carriesYear (with-letter l e) ≡ true
+unfolding carriesYear hasYear
+with-year l e y h = rw (h, y)
+
+pub without-year : (l e : ℕ) → hasYear e ≡ false → carriesYear (with-letter l e) ≡ false
+unfolding carriesYear hasYear
+without-year l e n = rw n
+
+pub other-year : (l e : ℕ) → (l ≡ A → ⊥) → (l ≡ B → ⊥) → carriesYear (with-letter l e) ≡ false
+unfolding carriesYear
+other-year l e a b = by-test (member e (4 ∷ 5 ∷ 6 ∷ 7 ∷ [])) (λ y. rw (y, ne-eqb l A a, ne-eqb l B b)) (λ n. rw n)
+
+-- the numbers of an expression with the year
+pub year-from-4 : (e : ℕ) → hasYear e ≡ true → 4 ≤ e
+unfolding hasYear
+year-from-4 e y = leb-true 4 e (and-left (leb 4 e) (leb e 7) (sym (in-row 4 4 7 refl e) ∙ y))
 
 -- a letter that is none of the six
 pub record Other (l : ℕ) : Type 0 where
@@ -52,8 +86,8 @@ other-row l o =
       ne-eqb H l (λ q. o .not-h (sym q)),
     )
 
-pub other-widths : (l : ℕ) → Other l → widthsOf (with-letter l 0) ≡ 0 ∷ 0 ∷ 0 ∷ 0 ∷ 4 ∷ 2 ∷ 4 ∷ 4 ∷ 2 ∷ 0 ∷ 0 ∷ 0 ∷ 0 ∷ 0 ∷ 0 ∷ 0 ∷ 0 ∷ 0 ∷ []
-unfolding widthsOf codeRuns codeFields timeFields seconds minutes hours days tenths hundredthsDigit straightSeconds hasSeconds carriesSeconds codeControl codeRange carriesControl rowOf
+pub other-widths : (l : ℕ) → Other l → widthsOf (with-letter l 0) ≡ 0 ∷ 0 ∷ 0 ∷ 0 ∷ 4 ∷ 2 ∷ 4 ∷ 4 ∷ 2 ∷ 0 ∷ 0 ∷ 0 ∷ 0 ∷ 0 ∷ 0 ∷ 0 ∷ 0 ∷ 0 ∷ 0 ∷ 0 ∷ []
+unfolding widthsOf codeRuns codeFields timeFields seconds minutes hours days tenths hundredthsDigit straightSeconds hasSeconds carriesSeconds codeControl codeRange carriesControl carriesYear controlPlaces years rowOf
 other-widths l o =
     rw (
       other-row l o,
@@ -64,35 +98,68 @@ other-widths l o =
       ne-eqb l H (o .not-h),
     )
 
--- ---- what each expression carries, from what expression 0 does
+-- ---- what each expression carries, from what its edition's first does
+
+abbrev Carried : ℕ → ℕ → Type 0
+Carried l e = carriedIn (withoutYear e) (widthsOf (fullOf (with-letter l e))) ≡ widthsOf (with-letter l e)
+
+as-it-is : (e : ℕ) → (e ≡ 4 → ⊥) → (e ≡ 5 → ⊥) → (e ≡ 6 → ⊥) → (e ≡ 7 → ⊥) → withoutYear e ≡ e
+unfolding withoutYear hasYear
+as-it-is e p q r s = rw (ne-eqb e 4 p, ne-eqb e 5 q, ne-eqb e 6 r, ne-eqb e 7 s)
 
 module _ (l : ℕ) where
-  pub widths-1 : clearSeconds (widthsOf (with-letter l 0)) ≡ widthsOf (with-letter l 1)
-  unfolding widthsOf codeRuns codeFields timeFields seconds minutes hours days tenths hundredthsDigit straightSeconds hasSeconds carriesSeconds codeControl codeRange carriesControl rowOf
-  widths-1 = refl
+  carried-4 : Carried l 4
+  unfolding widthsOf codeRuns codeFields timeFields seconds minutes hours days tenths hundredthsDigit straightSeconds hasSeconds carriesSeconds codeControl codeRange carriesControl carriesYear controlPlaces years rowOf carriedIn withoutYear hasYear
+  carried-4 = by-test (member l (A ∷ B ∷ [])) (λ y. rw y) (λ n. rw n)
 
-  pub widths-3 : clearControl (widthsOf (with-letter l 0)) ≡ widthsOf (with-letter l 3)
-  unfolding widthsOf codeRuns codeFields timeFields seconds minutes hours days tenths hundredthsDigit straightSeconds hasSeconds carriesSeconds codeControl codeRange carriesControl rowOf
-  widths-3 = refl
+  carried-5 : Carried l 5
+  unfolding widthsOf codeRuns codeFields timeFields seconds minutes hours days tenths hundredthsDigit straightSeconds hasSeconds carriesSeconds codeControl codeRange carriesControl carriesYear controlPlaces years rowOf carriedIn withoutYear hasYear
+  carried-5 = by-test (member l (A ∷ B ∷ [])) (λ y. rw y) (λ n. rw n)
 
-  pub widths-other : (e : ℕ) → (e ≡ 0 → ⊥) → (e ≡ 1 → ⊥) → (e ≡ 3 → ⊥) → clearControl (clearSeconds (widthsOf (with-letter l 0))) ≡ widthsOf (with-letter l e)
-  unfolding widthsOf codeRuns codeFields timeFields seconds minutes hours days tenths hundredthsDigit straightSeconds hasSeconds carriesSeconds codeControl codeRange carriesControl rowOf
-  widths-other e a b c = rw (ne-eqb e 0 a, ne-eqb e 1 b, ne-eqb e 3 c)
+  carried-6 : Carried l 6
+  unfolding widthsOf codeRuns codeFields timeFields seconds minutes hours days tenths hundredthsDigit straightSeconds hasSeconds carriesSeconds codeControl codeRange carriesControl carriesYear controlPlaces years rowOf carriedIn withoutYear hasYear
+  carried-6 = by-test (member l (A ∷ B ∷ [])) (λ y. rw y) (λ n. rw n)
 
-  pub carried-widths : (e : ℕ) → carriedIn e (widthsOf (with-letter l 0)) ≡ widthsOf (with-letter l e)
-  unfolding carriedIn
+  carried-7 : Carried l 7
+  unfolding widthsOf codeRuns codeFields timeFields seconds minutes hours days tenths hundredthsDigit straightSeconds hasSeconds carriesSeconds codeControl codeRange carriesControl carriesYear controlPlaces years rowOf carriedIn withoutYear hasYear
+  carried-7 = by-test (member l (A ∷ B ∷ [])) (λ y. rw y) (λ n. rw n)
+
+  carried-0 : Carried l 0
+  unfolding widthsOf codeRuns codeFields timeFields seconds minutes hours days tenths hundredthsDigit straightSeconds hasSeconds carriesSeconds codeControl codeRange carriesControl carriesYear controlPlaces years rowOf carriedIn withoutYear hasYear
+  carried-0 = refl
+
+  carried-1 : Carried l 1
+  unfolding widthsOf codeRuns codeFields timeFields seconds minutes hours days tenths hundredthsDigit straightSeconds hasSeconds carriesSeconds codeControl codeRange carriesControl carriesYear controlPlaces years rowOf carriedIn withoutYear hasYear
+  carried-1 = refl
+
+  carried-3 : Carried l 3
+  unfolding widthsOf codeRuns codeFields timeFields seconds minutes hours days tenths hundredthsDigit straightSeconds hasSeconds carriesSeconds codeControl codeRange carriesControl carriesYear controlPlaces years rowOf carriedIn withoutYear hasYear
+  carried-3 = refl
+
+  carried-other : (e : ℕ) → (e ≡ 0 → ⊥) → (e ≡ 1 → ⊥) → (e ≡ 3 → ⊥) → (e ≡ 4 → ⊥) → (e ≡ 5 → ⊥) → (e ≡ 6 → ⊥) → (e ≡ 7 → ⊥) → Carried l e
+  unfolding widthsOf codeRuns codeFields timeFields seconds minutes hours days tenths hundredthsDigit straightSeconds hasSeconds carriesSeconds codeControl codeRange carriesControl carriesYear controlPlaces years rowOf carriedIn
+  carried-other e a b c p q r s = rw (as-it-is e p q r s, ne-eqb e 0 a, ne-eqb e 1 b, ne-eqb e 3 c, ne-eqb e 4 p, ne-eqb e 5 q, ne-eqb e 6 r, ne-eqb e 7 s)
+
+  -- it is one of these numbers, or none of them
+  or-else : (P : ℕ → Type 0) (e k : ℕ) → P k → ((e ≡ k → ⊥) → P e) → P e
+  or-else P e k h o = by-test (eqb e k) (λ y. subst P (sym (eqb-true e k y)) h) (λ n. o (eqb-false e k n))
+
+  pub carried-widths : (e : ℕ) → Carried l e
   carried-widths e =
-      by-test (eqb e 0)
-      (λ y. rw (y, eqb-true e 0 y))
+      or-else (Carried l) e 0 carried-0
       (λ a.
-      rw a
-      (by-test (eqb e 1)
-      (λ y. rw (y, eqb-true e 1 y) widths-1)
+      or-else (Carried l) e 1 carried-1
       (λ b.
-      rw b
-      (by-test (eqb e 3)
-      (λ y. rw (y, eqb-true e 3 y) widths-3)
-      (λ d. rw d (widths-other e (eqb-false e 0 a) (eqb-false e 1 b) (eqb-false e 3 d)))))))
+      or-else (Carried l) e 3 carried-3
+      (λ c.
+      or-else (Carried l) e 4 carried-4
+      (λ p.
+      or-else (Carried l) e 5 carried-5
+      (λ q.
+      or-else (Carried l) e 6 carried-6
+      (λ r.
+      or-else (Carried l) e 7 carried-7
+      (λ s. carried-other e a b c p q r s)))))))
 
 -- a letter that is none of the six carries no leap second
 pub other-leap : (l e : ℕ) → Other l → carriesLeap (with-letter l e) ≡ false
@@ -101,5 +168,5 @@ other-leap l e o = rw (ne-eqb l A (o .not-a), ne-eqb l B (o .not-b), ne-eqb l G 
 
 -- the runs start where the layout says, in every format
 pub same-starts : (f : Format) → startsOf f ≡ runStarts
-unfolding startsOf codeRuns codeFields timeFields seconds minutes hours days tenths hundredthsDigit straightSeconds codeControl codeRange
+unfolding startsOf codeRuns codeFields timeFields seconds minutes hours days tenths hundredthsDigit straightSeconds codeControl codeRange years
 same-starts f = refl

@@ -1,4 +1,4 @@
--- The code's runs: eighteen in every format. They are the layout's, and a range of control bits that the table does not list has no elements.
+-- The code's runs: twenty in every format. They are the layout's, and a range of control bits that the table does not list has no elements.
 -- So the digits at them are written and read as at the layout's runs.
 use mathlib.Core.Path.{_≡_, refl, sym, ap, _∙_}
 use mathlib.Core.Bool.{Bool, true, false, cond, _&&_, _||_}
@@ -9,7 +9,7 @@ use native.Mathlib.Omega.{arith}
 use borrow.Author.Tests.{eqb-true}
 use lib.Dec.{eqb}
 use lib.ListN.{getD, length}
-use Rattle.timecode.specs.Formats.{member, table, lookUp, rowOf, known, size, carriesControl, carriesSeconds}
+use Rattle.timecode.specs.Formats.{member, table, lookUp, rowOf, known, size, carriesControl, carriesSeconds, carriesYear, controlPlaces}
 use Rattle.timecode.specs.Frames.{Valid, totalWidth, written, covered, marksAgree, elementFits, checkElements}
 use Rattle.timecode.specs.Laws.Fields.{Binary, binary-small}
 use Rattle.timecode.specs.Laws.Reading.{straight-binary, control-binary}
@@ -17,6 +17,7 @@ use Rattle.timecode.specs.Laws.Runs.{in-run, proper, clear, small-append}
 use Rattle.timecode.specs.Laws.Table.{in-lines, everyFormat, of-every}
 use Rattle.timecode.specs.Laws.Tests.{by-test}
 use Rattle.timecode.specs.Laws.Times.{time-small}
+use Rattle.timecode.specs.Laws.Writing.{years-small}
 use Rattle.timecode.specs.Layout.{
   Run,
   Field,
@@ -30,6 +31,7 @@ use Rattle.timecode.specs.Layout.{
   hasSeconds,
   straightSeconds,
   control,
+  years,
   timeFields,
   fields,
   flatten,
@@ -55,15 +57,15 @@ use Rattle.timecode.specs.declared.Format.{Format}
 use Rattle.timecode.specs.declared.Reading.{Reading}
 use Rattle.timecode.specs.declared.Time.{Time}
 
--- nine control bits, where the table lists them
+-- nine control bits, where the format has them
 unfoldable pub codeRange : Format → ℕ → Run
-codeRange f start = binaryIf (carriesControl f && member start (rowOf f .control)) start 9
+codeRange f start = binaryIf (carriesControl f && member start (controlPlaces f)) start 9
 
 unfoldable pub codeControl : Format → Field
 codeControl f = map (codeRange f) (50 ∷ 60 ∷ 70 ∷ 80 ∷ 90 ∷ [])
 
 unfoldable pub codeFields : Format → List Field
-codeFields f = timeFields f ++ (straightSeconds f ∷ codeControl f ∷ [])
+codeFields f = timeFields f ++ (straightSeconds f ∷ codeControl f ∷ years f ∷ [])
 
 unfoldable pub codeRuns : Format → List Run
 codeRuns f = flatten (codeFields f)
@@ -120,9 +122,9 @@ symbol-carried fillers (r ∷ rs) x i b =
 
 -- ---- the control ranges that have elements are the table's
 
-same-carried : (f : Format) → carriedRuns (codeControl f) ≡ carriedRuns (control f)
-unfolding codeControl codeRange control rowOf table
-same-carried f =
+listed-carried : (f : Format) → carriedRuns (map (λ (start : ℕ). binaryIf (carriesControl f && member start (rowOf f .control)) start 9) (50 ∷ 60 ∷ 70 ∷ 80 ∷ 90 ∷ [])) ≡ carriedRuns (map (λ (start : ℕ). binaryIf (carriesControl f) start 9) (rowOf f .control))
+unfolding rowOf table
+listed-carried f =
     in-lines
     (λ r. (b : Bool) → carriedRuns (map (λ (start : ℕ). binaryIf (b && member start (r .control)) start 9) (50 ∷ 60 ∷ 70 ∷ 80 ∷ 90 ∷ [])) ≡ carriedRuns (map (λ (start : ℕ). binaryIf b start 9) (r .control)))
     (λ b. by-test b (λ y. rw y) (λ n. rw n)) table (
@@ -146,6 +148,13 @@ same-carried f =
     )
     (f .letter) (carriesControl f)
 
+same-carried : (f : Format) → carriedRuns (codeControl f) ≡ carriedRuns (control f)
+unfolding codeControl codeRange control controlPlaces
+same-carried f =
+    by-test (carriesYear f)
+    (λ y. rw y (by-test (carriesControl f) (λ y. rw y) (λ n. rw n)))
+    (λ n. rw n (listed-carried f))
+
 pub code-binary : (f : Format) → Binary (codeControl f)
 unfolding codeControl codeRange
 code-binary f = (refl, (refl, (refl, (refl, (refl, tt)))))
@@ -156,17 +165,21 @@ code-width f = sym (width-carried (codeControl f)) ∙ ap totalWidth (same-carri
 pub code-number : (f : Format) (frame : List ℕ) → numberIn frame (codeControl f) ≡ numberIn frame (control f)
 code-number f frame = sym (number-carried frame (codeControl f) (code-binary f)) ∙ ap (numberIn frame) (same-carried f) ∙ number-carried frame (control f) (control-binary f)
 
-control-symbol : (f : Format) (w i : ℕ) → symbolAt (filler f) (codeControl f) (fieldDigits (codeControl f) w) i ≡ symbolAt (filler f) (control f) (fieldDigits (control f) w) i
-control-symbol f w i =
-    sym (symbol-carried (filler f) (codeControl f) w i (code-binary f))
-    ∙ ap (λ (rs : Field). symbolAt (filler f) rs (fieldDigits rs w) i) (same-carried f)
-    ∙ symbol-carried (filler f) (control f) w i (control-binary f)
+control-symbol : (f : Format) (fillers : ℕ → ℕ) (w i : ℕ) → symbolAt fillers (codeControl f) (fieldDigits (codeControl f) w) i ≡ symbolAt fillers (control f) (fieldDigits (control f) w) i
+control-symbol f fillers w i =
+    sym (symbol-carried fillers (codeControl f) w i (code-binary f))
+    ∙ ap (λ (rs : Field). symbolAt fillers rs (fieldDigits rs w) i) (same-carried f)
+    ∙ symbol-carried fillers (control f) w i (control-binary f)
 
--- ---- behind the same runs
+-- ---- behind the same runs, and before them
 
 held-front : (ps rs qs : List Run) (i : ℕ) → covered rs i ≡ covered qs i → covered (ps ++ rs) i ≡ covered (ps ++ qs) i
 held-front [] rs qs i h = h
 held-front (p ∷ ps) rs qs i h = ap (λ (b : Bool). inRun p i || b) (held-front ps rs qs i h)
+
+held-parts : (rs ps : List Run) (i : ℕ) → covered (rs ++ ps) i ≡ (covered rs i || covered ps i)
+held-parts [] ps i = refl
+held-parts (r ∷ rs) ps i = by-test (inRun r i) (λ y. rw y) (λ n. rw n (held-parts rs ps i))
 
 symbol-front : (fillers : ℕ → ℕ) (ps rs qs : List Run) (xs ys zs : List ℕ) (i : ℕ) → length xs ≡ length ps → symbolAt fillers rs ys i ≡ symbolAt fillers qs zs i
     → symbolAt fillers (ps ++ rs) (xs ++ ys) i ≡ symbolAt fillers (ps ++ qs) (xs ++ zs) i
@@ -176,22 +189,31 @@ symbol-front fillers [] rs qs (x ∷ xs) ys zs i l h = let z : ⊥ = omega arith
 symbol-front fillers (p ∷ ps) rs qs [] ys zs i l h = let z : ⊥ = omega arith in absurd z
 symbol-front fillers (p ∷ ps) rs qs (x ∷ xs) ys zs i l h = ap (λ (k : ℕ). cond (inRun p i) (x / 2 ^ bitOf p i % 2) k) (symbol-front fillers ps rs qs xs ys zs i (omega arith) h)
 
+-- the runs behind a field are what fills the rest
+symbol-parts : (fillers : ℕ → ℕ) (rs : Field) (ps : List Run) (x : ℕ) (ys : List ℕ) (i : ℕ) → symbolAt fillers (rs ++ ps) (fieldDigits rs x ++ ys) i ≡ symbolAt (symbolAt fillers ps ys) rs (fieldDigits rs x) i
+unfolding symbolAt
+symbol-parts fillers [] ps x ys i = refl
+symbol-parts fillers (r ∷ rs) ps x ys i = ap (λ (k : ℕ). cond (inRun r i) (x % r .radix / 2 ^ bitOf r i % 2) k) (symbol-parts fillers rs ps (x / r .radix) ys i)
+
 pub code-held : (f : Format) (i : ℕ) → covered (codeRuns f) i ≡ covered (runs f) i
 unfolding codeRuns codeFields runs fields timeFields seconds minutes hours days tenths hundredthsDigit straightSeconds
 code-held f i =
-    let last : covered (codeControl f ++ []) i ≡ covered (control f ++ []) i =
-    rw (append-nil (codeControl f), append-nil (control f)) (sym (held-carried (codeControl f) i) ∙ ap (λ (rs : Field). covered rs i) (same-carried f) ∙ held-carried (control f) i) in
-    held-front (flatten (timeFields f)) (straightSeconds f ++ (codeControl f ++ [])) (straightSeconds f ++ (control f ++ [])) i
-    (held-front (straightSeconds f) (codeControl f ++ []) (control f ++ []) i last)
+    let same : covered (codeControl f) i ≡ covered (control f) i = sym (held-carried (codeControl f) i) ∙ ap (λ (rs : Field). covered rs i) (same-carried f) ∙ held-carried (control f) i in
+    let last : covered (codeControl f ++ (years f ++ [])) i ≡ covered (control f ++ (years f ++ [])) i =
+    held-parts (codeControl f) (years f ++ []) i ∙ ap (λ (b : Bool). b || covered (years f ++ []) i) same ∙ sym (held-parts (control f) (years f ++ []) i) in
+    held-front (flatten (timeFields f)) (straightSeconds f ++ (codeControl f ++ (years f ++ []))) (straightSeconds f ++ (control f ++ (years f ++ []))) i
+    (held-front (straightSeconds f) (codeControl f ++ (years f ++ [])) (control f ++ (years f ++ [])) i last)
 
 code-symbol : (f : Format) (t : Time) (w i : ℕ) → symbolAt (filler f) (codeRuns f) (allDigits (codeFields f) (numbers t w)) i ≡ symbolAt (filler f) (runs f) (allDigits (fields f) (numbers t w)) i
 unfolding codeRuns codeFields runs fields timeFields seconds minutes hours days tenths hundredthsDigit straightSeconds numbers timeNumbers
 code-symbol f t w i =
-    let last : symbolAt (filler f) (codeControl f ++ []) (fieldDigits (codeControl f) w ++ []) i ≡ symbolAt (filler f) (control f ++ []) (fieldDigits (control f) w ++ []) i =
-    rw (append-nil (codeControl f), append-nil (control f), append-nil (fieldDigits (codeControl f) w), append-nil (fieldDigits (control f) w)) (control-symbol f w i) in
-    symbol-front (filler f) (flatten (timeFields f)) (straightSeconds f ++ (codeControl f ++ [])) (straightSeconds f ++ (control f ++ [])) (allDigits (timeFields f) (timeNumbers t))
-    (fieldDigits (straightSeconds f) (t .hundredths / 100) ++ (fieldDigits (codeControl f) w ++ [])) (fieldDigits (straightSeconds f) (t .hundredths / 100) ++ (fieldDigits (control f) w ++ [])) i refl
-    (symbol-front (filler f) (straightSeconds f) (codeControl f ++ []) (control f ++ []) (fieldDigits (straightSeconds f) (t .hundredths / 100)) (fieldDigits (codeControl f) w ++ []) (fieldDigits (control f) w ++ []) i refl last)
+    let year = fieldDigits (years f) (t .year) ++ [] in
+    let behind = symbolAt (filler f) (years f ++ []) year in
+    let last : symbolAt (filler f) (codeControl f ++ (years f ++ [])) (fieldDigits (codeControl f) w ++ year) i ≡ symbolAt (filler f) (control f ++ (years f ++ [])) (fieldDigits (control f) w ++ year) i =
+    symbol-parts (filler f) (codeControl f) (years f ++ []) w year i ∙ control-symbol f behind w i ∙ sym (symbol-parts (filler f) (control f) (years f ++ []) w year i) in
+    symbol-front (filler f) (flatten (timeFields f)) (straightSeconds f ++ (codeControl f ++ (years f ++ []))) (straightSeconds f ++ (control f ++ (years f ++ []))) (allDigits (timeFields f) (timeNumbers t))
+    (fieldDigits (straightSeconds f) (t .hundredths / 100) ++ (fieldDigits (codeControl f) w ++ year)) (fieldDigits (straightSeconds f) (t .hundredths / 100) ++ (fieldDigits (control f) w ++ year)) i refl
+    (symbol-front (filler f) (straightSeconds f) (codeControl f ++ (years f ++ [])) (control f ++ (years f ++ [])) (fieldDigits (straightSeconds f) (t .hundredths / 100)) (fieldDigits (codeControl f) w ++ year) (fieldDigits (control f) w ++ year) i refl last)
 
 same-tabulate : (n i : ℕ) (g h : ℕ → ℕ) → ((k : ℕ) → g k ≡ h k) → tabulate n i g ≡ tabulate n i h
 same-tabulate zero i g h e = refl
@@ -211,13 +233,14 @@ code-elements f i (s ∷ ss) a = rw (code-held f i, code-elements f (suc i) ss a
 pub code-small : (f : Format) (t : Time) (w : ℕ) → Valid f t w → Small (codeRuns f) (allDigits (codeFields f) (numbers t w))
 unfolding codeRuns codeFields timeFields numbers timeNumbers seconds minutes hours days tenths hundredthsDigit
 code-small f t w v =
-    small-append (flatten (timeFields f)) (straightSeconds f ++ (codeControl f ++ [])) (allDigits (timeFields f) (timeNumbers t)) (fieldDigits (straightSeconds f) (t .hundredths / 100) ++ (fieldDigits (codeControl f) w ++ []))
+    let year = fieldDigits (years f) (t .year) ++ [] in
+    small-append (flatten (timeFields f)) (straightSeconds f ++ (codeControl f ++ (years f ++ []))) (allDigits (timeFields f) (timeNumbers t)) (fieldDigits (straightSeconds f) (t .hundredths / 100) ++ (fieldDigits (codeControl f) w ++ year))
     (time-small f t (v .format) (v .time))
-    (small-append (straightSeconds f) (codeControl f ++ []) (fieldDigits (straightSeconds f) (t .hundredths / 100)) (fieldDigits (codeControl f) w ++ []) (binary-small (straightSeconds f) (t .hundredths / 100) (straight-binary f))
-    (small-append (codeControl f) [] (fieldDigits (codeControl f) w) [] (binary-small (codeControl f) w (code-binary f)) tt))
+    (small-append (straightSeconds f) (codeControl f ++ (years f ++ [])) (fieldDigits (straightSeconds f) (t .hundredths / 100)) (fieldDigits (codeControl f) w ++ year) (binary-small (straightSeconds f) (t .hundredths / 100) (straight-binary f))
+    (small-append (codeControl f) (years f ++ []) (fieldDigits (codeControl f) w) year (binary-small (codeControl f) w (code-binary f)) (small-append (years f) [] (fieldDigits (years f) (t .year)) [] (years-small f t (v .time)) tt)))
 
 all-proper : everyFormat (λ f. proper (size f) (filler f) (codeRuns f)) ≡ true
-unfolding everyFormat table proper clear size rowOf lookUp filler isMark codeRuns codeFields timeFields seconds minutes hours days tenths hundredthsDigit straightSeconds hasSeconds carriesSeconds codeControl codeRange carriesControl
+unfolding everyFormat table proper clear size rowOf lookUp filler isMark codeRuns codeFields timeFields seconds minutes hours days tenths hundredthsDigit straightSeconds hasSeconds carriesSeconds codeControl codeRange carriesControl carriesYear controlPlaces years
 all-proper = refl
 
 pub code-proper : (f : Format) → known f ≡ true → proper (size f) (filler f) (codeRuns f) ≡ true

@@ -1,11 +1,11 @@
--- What the code's tables promise: for each letter what document 01's table and layout say.
+-- What the code's tables promise: for each letter what document 01's table and layout say, with document 02's year.
 use mathlib.Core.Path.{_≡_}
-use mathlib.Core.Bool.{cond, _&&_}
+use mathlib.Core.Bool.{Bool, cond, _&&_}
 use mathlib.Core.List.{List, [], _∷_, map}
-use Prim.Native.Nat.{ℕ}
+use Prim.Native.Nat.{ℕ, _-_}
 use lib.Dec.{leb, eqb}
 use lib.ListN.{set}
-use Rattle.timecode.specs.Formats.{known, size, interval, carriesLeap}
+use Rattle.timecode.specs.Formats.{member, known, size, interval, carriesLeap, carriesYear}
 use Rattle.timecode.specs.Layout.{Run}
 use Rattle.timecode.specs.declared.Format.{Format}
 use Rattle.layout.specs.Runs.{codeRuns}
@@ -17,7 +17,7 @@ markPlaces = 0 ∷ 9 ∷ 19 ∷ 29 ∷ 39 ∷ 49 ∷ 59 ∷ 69 ∷ 79 ∷ 89 ∷
 
 -- where the runs start, in every format
 abbrev pub runStarts : List ℕ
-runStarts = 1 ∷ 6 ∷ 10 ∷ 15 ∷ 20 ∷ 25 ∷ 30 ∷ 35 ∷ 40 ∷ 45 ∷ 50 ∷ 80 ∷ 90 ∷ 50 ∷ 60 ∷ 70 ∷ 80 ∷ 90 ∷ []
+runStarts = 1 ∷ 6 ∷ 10 ∷ 15 ∷ 20 ∷ 25 ∷ 30 ∷ 35 ∷ 40 ∷ 45 ∷ 50 ∷ 80 ∷ 90 ∷ 50 ∷ 60 ∷ 70 ∷ 80 ∷ 90 ∷ 50 ∷ 55 ∷ []
 
 -- where the runs of a format start, and how wide they are
 unfoldable pub startsOf : Format → List ℕ
@@ -33,21 +33,33 @@ clearSeconds ws = set (set ws 11 0) 12 0
 abbrev pub clearControl : List ℕ → List ℕ
 clearControl ws = set (set (set (set (set ws 13 0) 14 0) 15 0) 16 0) 17 0
 
--- what of a letter's widths an expression carries. 0 = BCD, CF, SBS; 1 = BCD, CF; 2 = BCD; 3 = BCD, SBS
+-- what of an edition's widths an expression carries. 0 = BCD, CF, SBS; 1 = BCD, CF; 2 = BCD; 3 = BCD, SBS
 unfoldable pub carriedIn : ℕ → List ℕ → List ℕ
 carriedIn e ws = cond (eqb e 0) ws (cond (eqb e 1) (clearSeconds ws) (cond (eqb e 3) (clearControl ws) (clearControl (clearSeconds ws))))
+
+-- 4 to 7 are 0 to 3 with the year
+unfoldable pub hasYear : ℕ → Bool
+hasYear e = member e (4 ∷ 5 ∷ 6 ∷ 7 ∷ [])
+
+unfoldable pub withoutYear : ℕ → ℕ
+withoutYear e = cond (hasYear e) (e - 4) e
 
 abbrev pub with-letter : ℕ → ℕ → Format
 with-letter l e = record { letter = l; expression = e }
 
--- the row of a letter says what document 01's table and layout say of it; its widths are those of expression 0
-pub record RowFor (l : ℕ) (r : Row) : Type 0 where
-  pub elements-are : (e : ℕ) → size (with-letter l e) ≡ r .elements
-  pub interval-is : (e : ℕ) → interval (with-letter l e) ≡ r .interval
-  pub expressions-are : (e : ℕ) → known (with-letter l e) ≡ (leb (r .first) e && leb e (r .last))
-  pub leap-is : (e : ℕ) → carriesLeap (with-letter l e) ≡ r .leap
+-- the expression of a format's edition that carries everything
+abbrev pub fullOf : Format → Format
+fullOf f = with-letter (f .letter) (cond (carriesYear f) 4 0)
+
+-- the row of a format's edition says what document 01's table and layout say of it; its widths are those of the expression that carries everything
+pub record RowFor (f : Format) (r : Row) : Type 0 where
+  pub elements-are : size f ≡ r .elements
+  pub interval-is : interval f ≡ r .interval
+  pub expressions-are : known f ≡ (leb (r .first) (f .expression) && leb (f .expression) (r .last))
+  pub leap-is : carriesLeap f ≡ r .leap
+  pub year-is : carriesYear f ≡ r .year
   pub starts-are : r .starts ≡ runStarts
-  pub widths-are : widthsOf (with-letter l 0) ≡ r .widths
+  pub widths-are : widthsOf (fullOf f) ≡ r .widths
 
 -- the row of a format
 pub record RowOf (f : Format) (r : Row) : Type 0 where
@@ -55,6 +67,7 @@ pub record RowOf (f : Format) (r : Row) : Type 0 where
   pub interval-is : r .interval ≡ interval f
   pub known-is : (leb (r .first) (f .expression) && leb (f .expression) (r .last)) ≡ known f
   pub leap-is : r .leap ≡ carriesLeap f
+  pub year-is : r .year ≡ carriesYear f
   pub starts-are : r .starts ≡ runStarts
   pub widths-are : r .widths ≡ widthsOf f
 

@@ -5,15 +5,15 @@ use Rattle.timecode.specs.Laws.Table.{interval-range}
 use Rattle.layout.proofs.frame_interval.Statement.{statement}
 use Rattle.layout.proofs.frame_interval.Tie as tie
 
-letter-row-requires : tie.Need-letter-row-requires
-letter-row-requires c κs = search needs
+edition-row-requires : tie.Need-edition-row-requires
+edition-row-requires c κs = search needs
 
 returns : tie.Need-returns
 returns c =
     let f = c .before .args .format in
-    let same = c .letter-row .ensures .interval-is (f .expression) in
+    let same = c .edition-row .ensures .interval-is in
     let range = interval-range f in
     (sym same, rw same at (range .0), rw same at (range .1))
 
 pub frame-interval-spec : {M : Type 1} → statement M
-frame-interval-spec = tie.close (tie.spec letter-row-requires returns)
+frame-interval-spec = tie.close (tie.spec edition-row-requires returns)

@@ -4,14 +4,14 @@ use mathlib.Core.Path.{sym, _∙_}
 use Rattle.layout.proofs.is_known.Statement.{statement}
 use Rattle.layout.proofs.is_known.Tie as tie
 
-letter-row-requires : tie.Need-letter-row-requires
-letter-row-requires c κs = search needs
+edition-row-requires : tie.Need-edition-row-requires
+edition-row-requires c κs = search needs
 
 takes-requires : tie.Need-takes-requires
 takes-requires c κs = search needs
 
 returns : tie.Need-returns
-returns c = c .takes .ensures ∙ sym (c .before .letter-row .ensures .expressions-are (c .before .before .args .format .expression))
+returns c = c .takes .ensures ∙ sym (c .before .edition-row .ensures .expressions-are)
 
 pub is-known-spec : {M : Type 1} → statement M
-is-known-spec = tie.close (tie.spec letter-row-requires takes-requires returns)
+is-known-spec = tie.close (tie.spec edition-row-requires takes-requires returns)

@@ -1,36 +1,36 @@
--- `letter_row` gives each letter the row of document 01's table: by computation for the six, and for any other letter by what is left of the table.
+-- `letter_row` gives each letter the row of document 01's table, where it has no year: by computation for the six, and for any other letter by what is left of the table.
 use mathlib.Core.Path.{refl, ap}
-use Rattle.timecode.specs.Formats.{Row, table, lookUp, rowOf, known, size, interval, carriesLeap, carriesControl, carriesSeconds}
-use Rattle.timecode.specs.Layout.{seconds, minutes, hours, days, tenths, hundredthsDigit, hasSeconds, straightSeconds, timeFields}
+use Rattle.timecode.specs.Formats.{Row, A, B, table, lookUp, rowOf, known, size, interval, carriesLeap, carriesYear, carriesControl, carriesSeconds, controlPlaces}
+use Rattle.timecode.specs.Layout.{seconds, minutes, hours, days, tenths, hundredthsDigit, hasSeconds, straightSeconds, years, timeFields}
 use Rattle.layout.specs.Runs.{codeRange, codeControl, codeFields, codeRuns}
 use Rattle.layout.specs.Tables.{widthsOf}
-use Rattle.layout.specs.Letters.{in-row, Other, other-row, other-widths, other-leap}
+use Rattle.layout.specs.Letters.{in-row, earlier-row, no-year, Other, other-row, other-widths, other-leap}
 use Rattle.layout.proofs.letter_row.Statement.{statement}
 use Rattle.layout.proofs.letter_row.Tie as tie
 
 returns : tie.Need-returns
-unfolding known size interval carriesLeap rowOf lookUp table widthsOf codeRuns codeFields timeFields seconds minutes hours days tenths hundredthsDigit straightSeconds hasSeconds carriesSeconds codeControl codeRange carriesControl
-returns c = rw (c .if1 .taken) (record { elements-are = λ e. refl; interval-is = λ e. refl; leap-is = λ e. refl; starts-are = refl; expressions-are = in-row 4 0 3 refl; widths-are = refl })
+unfolding known size interval carriesLeap rowOf lookUp table widthsOf codeRuns codeFields timeFields seconds minutes hours days tenths hundredthsDigit straightSeconds hasSeconds carriesSeconds codeControl codeRange carriesControl carriesYear controlPlaces years
+returns c = rw (c .if1 .taken) (λ e n. record { elements-are = refl; interval-is = refl; expressions-are = earlier-row e (no-year A e refl n); leap-is = refl; year-is = n; starts-are = refl; widths-are = rw n refl })
 
 returns-2 : tie.Need-returns-2
-unfolding known size interval carriesLeap rowOf lookUp table widthsOf codeRuns codeFields timeFields seconds minutes hours days tenths hundredthsDigit straightSeconds hasSeconds carriesSeconds codeControl codeRange carriesControl
-returns-2 c = rw (c .if2 .taken) (record { elements-are = λ e. refl; interval-is = λ e. refl; leap-is = λ e. refl; starts-are = refl; expressions-are = in-row 4 0 3 refl; widths-are = refl })
+unfolding known size interval carriesLeap rowOf lookUp table widthsOf codeRuns codeFields timeFields seconds minutes hours days tenths hundredthsDigit straightSeconds hasSeconds carriesSeconds codeControl codeRange carriesControl carriesYear controlPlaces years
+returns-2 c = rw (c .if2 .taken) (λ e n. record { elements-are = refl; interval-is = refl; expressions-are = earlier-row e (no-year B e refl n); leap-is = refl; year-is = n; starts-are = refl; widths-are = rw n refl })
 
 returns-3 : tie.Need-returns-3
-unfolding known size interval carriesLeap rowOf lookUp table widthsOf codeRuns codeFields timeFields seconds minutes hours days tenths hundredthsDigit straightSeconds hasSeconds carriesSeconds codeControl codeRange carriesControl
-returns-3 c = rw (c .if3 .taken) (record { elements-are = λ e. refl; interval-is = λ e. refl; leap-is = λ e. refl; starts-are = refl; expressions-are = in-row 2 1 2 refl; widths-are = refl })
+unfolding known size interval carriesLeap rowOf lookUp table widthsOf codeRuns codeFields timeFields seconds minutes hours days tenths hundredthsDigit straightSeconds hasSeconds carriesSeconds codeControl codeRange carriesControl carriesYear controlPlaces years
+returns-3 c = rw (c .if3 .taken) (λ e n. record { elements-are = refl; interval-is = refl; expressions-are = in-row 2 1 2 refl e; leap-is = refl; year-is = n; starts-are = refl; widths-are = rw n refl })
 
 returns-4 : tie.Need-returns-4
-unfolding known size interval carriesLeap rowOf lookUp table widthsOf codeRuns codeFields timeFields seconds minutes hours days tenths hundredthsDigit straightSeconds hasSeconds carriesSeconds codeControl codeRange carriesControl
-returns-4 c = rw (c .if4 .taken) (record { elements-are = λ e. refl; interval-is = λ e. refl; leap-is = λ e. refl; starts-are = refl; expressions-are = in-row 2 1 2 refl; widths-are = refl })
+unfolding known size interval carriesLeap rowOf lookUp table widthsOf codeRuns codeFields timeFields seconds minutes hours days tenths hundredthsDigit straightSeconds hasSeconds carriesSeconds codeControl codeRange carriesControl carriesYear controlPlaces years
+returns-4 c = rw (c .if4 .taken) (λ e n. record { elements-are = refl; interval-is = refl; expressions-are = in-row 2 1 2 refl e; leap-is = refl; year-is = n; starts-are = refl; widths-are = rw n refl })
 
 returns-5 : tie.Need-returns-5
-unfolding known size interval carriesLeap rowOf lookUp table widthsOf codeRuns codeFields timeFields seconds minutes hours days tenths hundredthsDigit straightSeconds hasSeconds carriesSeconds codeControl codeRange carriesControl
-returns-5 c = rw (c .if5 .taken) (record { elements-are = λ e. refl; interval-is = λ e. refl; leap-is = λ e. refl; starts-are = refl; expressions-are = in-row 2 1 2 refl; widths-are = refl })
+unfolding known size interval carriesLeap rowOf lookUp table widthsOf codeRuns codeFields timeFields seconds minutes hours days tenths hundredthsDigit straightSeconds hasSeconds carriesSeconds codeControl codeRange carriesControl carriesYear controlPlaces years
+returns-5 c = rw (c .if5 .taken) (λ e n. record { elements-are = refl; interval-is = refl; expressions-are = in-row 2 1 2 refl e; leap-is = refl; year-is = n; starts-are = refl; widths-are = rw n refl })
 
 returns-6 : tie.Need-returns-6
-unfolding known size interval carriesLeap rowOf lookUp table widthsOf codeRuns codeFields timeFields seconds minutes hours days tenths hundredthsDigit straightSeconds hasSeconds carriesSeconds codeControl codeRange carriesControl
-returns-6 c = rw (c .if6 .taken) (record { elements-are = λ e. refl; interval-is = λ e. refl; leap-is = λ e. refl; starts-are = refl; expressions-are = in-row 2 1 2 refl; widths-are = refl })
+unfolding known size interval carriesLeap rowOf lookUp table widthsOf codeRuns codeFields timeFields seconds minutes hours days tenths hundredthsDigit straightSeconds hasSeconds carriesSeconds codeControl codeRange carriesControl carriesYear controlPlaces years
+returns-6 c = rw (c .if6 .taken) (λ e n. record { elements-are = refl; interval-is = refl; expressions-are = in-row 2 1 2 refl e; leap-is = refl; year-is = n; starts-are = refl; widths-are = rw n refl })
 
 returns-7 : tie.Need-returns-7
 unfolding known size interval rowOf
@@ -46,13 +46,15 @@ returns-7 c =
       not-h = c .if6 .left;
     } in
     let none = other-row l o in
+    λ e n.
     record {
-      elements-are = λ e. ap (λ (r : Row). r .elements) none;
-      interval-is = λ e. ap (λ (r : Row). r .interval) none;
-      expressions-are = λ e. rw none (in-row 0 1 0 refl e);
-      leap-is = λ e. other-leap l e o;
+      elements-are = ap (λ (r : Row). r .elements) none;
+      interval-is = ap (λ (r : Row). r .interval) none;
+      expressions-are = rw none (in-row 0 1 0 refl e);
+      leap-is = other-leap l e o;
+      year-is = n;
       starts-are = refl;
-      widths-are = other-widths l o;
+      widths-are = rw n (other-widths l o);
     }
 
 pub letter-row-spec : {M : Type 1} → statement M

@@ -52,7 +52,7 @@ unfolding written encode
 written-symbols f t w = symbols-tabulate (size f) 0 (symbolAt (filler f) (runs f) (allDigits (fields f) (numbers t w))) (symbol-small f (runs f) (allDigits (fields f) (numbers t w)))
 
 -- the year's digits fit their runs
-years-small : (f : Format) (t : Time) → OnFormat f t → Small (years f) (fieldDigits (years f) (t .year))
+pub years-small : (f : Format) (t : Time) → OnFormat f t → Small (years f) (fieldDigits (years f) (t .year))
 unfolding years
 years-small f t o =
     by-test (carriesYear f)
