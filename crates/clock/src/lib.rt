@@ -1,16 +1,24 @@
 // Times: whether one lies on a format, Step, step back, next after, and Difference.
 ghost use mathlib.Core.Path.{_≡_};
 ghost use mathlib.Core.Bool.{true, cond, _&&_};
-ghost use Prim.Native.Nat.{_+_, _*_, _%_, _<_, _≤_};
+ghost use Prim.Native.Nat.{ℕ, _+_, _*_, _%_, _<_, _≤_};
 ghost use lib.Dec.{ltb, eqb};
 ghost use lib.IntN.{pos, _-ℤ_};
 ghost use Rattle.timecode.specs.Answers.{check};
 ghost use Rattle.timecode.specs.Calls.{differenceOf};
-ghost use Rattle.timecode.specs.Formats.{known, dayLength, inRange, onFormat, secondCarried};
+ghost use Rattle.timecode.specs.Formats.{known, dayLength, inRange, yearCarried, onFormat, secondCarried};
 ghost use Rattle.timecode.specs.Frames.{inYear, kinds, dayEnd, onDay, following, checkStep, stepOf, sameTime, stepsTo, any, nextAfter, preceding, stepBackOf};
 ghost use Rattle.timecode.specs.declared.Refusal.the-variants.{InvalidYearLength, InvalidKind};
 ghost use Rattle.timecode.specs.declared.Stepped.the-variants.{To, Refused};
+use dates::day_after;
+use dates::day_before;
+use dates::last_day_in;
+use dates::length_in;
+use dates::year_carried;
+use dates::year_of_day_after;
+use dates::year_of_time_before;
 use layout::carries_leap;
+use layout::carries_year;
 use layout::frame_interval;
 use layout::is_known;
 use timecode::Format;
@@ -19,23 +27,24 @@ use timecode::Stepped;
 use timecode::Subtracted;
 use timecode::Time;
 
-fn in_range(time: Time) -> bool
-    ensures { λ r. ⌜ r ≡ inRange time ⌝ }
+// The day is at most the last one, and both day and hundredths are in range.
+fn in_range(last: u16, time: Time) -> bool
+    ensures { λ r. ⌜ r ≡ inRange last time ⌝ }
 {
     if Time::FIRST_DAY <= time.day {
-        if time.day <= Time::LAST_DAY {
+        if time.day <= last {
             return time.hundredths <= Time::LAST_HUNDREDTH;
         }
     }
     false
 }
 
-// The time is in range, and the frame interval divides its hundredths.
-pub fn lies_on(interval: u32, time: Time) -> bool
+// The time is in range, up to the last day of its year, and the frame interval divides its hundredths.
+pub fn lies_on(interval: u32, last: u16, time: Time) -> bool
     requires { ⌜ 1 ≤ interval ⌝ }
-    ensures { λ r. ⌜ r ≡ (inRange time && eqb (time .hundredths % interval) 0) ⌝ }
+    ensures { λ r. ⌜ r ≡ (inRange last time && eqb (time .hundredths % interval) 0) ⌝ }
 {
-    if in_range(time) {
+    if in_range(last, time) {
         return time.hundredths % interval == 0;
     }
     false
@@ -44,7 +53,14 @@ pub fn lies_on(interval: u32, time: Time) -> bool
 fn on_format(format: Format, time: Time) -> bool
     ensures { λ r. ⌜ r ≡ onFormat format time ⌝ }
 {
-    lies_on(frame_interval(format), time)
+    let last = last_day_in(carries_year(format), time.year);
+    lies_on(frame_interval(format), last, time)
+}
+
+fn year_on_format(format: Format, time: Time) -> bool
+    ensures { λ r. ⌜ r ≡ yearCarried format (time .year) ⌝ }
+{
+    year_carried(carries_year(format), time.year)
 }
 
 // The time is not in the added second, or the leap second is carried.
@@ -64,14 +80,14 @@ fn second_carried(format: Format, time: Time) -> bool
 }
 
 // The year's length is 365 or 366, and the day is not beyond it.
-fn in_year(time: Time, year: u16) -> bool
-    ensures { λ r. ⌜ r ≡ inYear time year ⌝ }
+fn in_year(time: Time, length: u16) -> bool
+    ensures { λ r. ⌜ r ≡ inYear time length ⌝ }
 {
-    if year == 365 {
-        return time.day <= year;
+    if length == 365 {
+        return time.day <= length;
     }
-    if year == 366 {
-        return time.day <= year;
+    if length == 366 {
+        return time.day <= length;
     }
     false
 }
@@ -102,101 +118,102 @@ fn on_day(format: Format, time: Time, kind: u8) -> bool
 }
 
 // The time one frame interval later, in a year of that length and after a day of that kind.
-fn later(format: Format, time: Time, year: u16, kind: u8) -> Time
-    requires { ⌜ (onFormat format time ≡ true) × (secondCarried format time ≡ true) ⌝ }
-    ensures { λ r. ⌜ r ≡ following format time year kind ⌝ }
+fn later(format: Format, time: Time, length: u16, kind: u8) -> Time
+    requires { ⌜ (onFormat format time ≡ true) × (secondCarried format time ≡ true) × (yearCarried format (time .year) ≡ true) ⌝ }
+    ensures { λ r. ⌜ r ≡ following format time length kind ⌝ }
 {
     let hundredths = time.hundredths + frame_interval(format);
     if hundredths != day_end(format, kind) {
         return Time {
+            year: time.year,
             day: time.day,
             hundredths: hundredths,
         };
     }
-    if time.day == year {
-        return Time {
-            day: Time::FIRST_DAY,
-            hundredths: 0,
-        };
-    }
+    let year = year_of_day_after(carries_year(format), time, length);
+    let day = day_after(time.day, length);
     Time {
-        day: time.day + 1,
+        year: year,
+        day: day,
         hundredths: 0,
     }
 }
 
 // The time one frame interval earlier; it belongs to a year of that length and to a day of that kind.
-fn earlier(format: Format, time: Time, year: u16, kind: u8) -> Time
-    requires { ⌜ (onFormat format time ≡ true) × (secondCarried format time ≡ true) ⌝ }
-    ensures { λ r. ⌜ r ≡ preceding format time year kind ⌝ }
+fn earlier(format: Format, time: Time, length: u16, kind: u8) -> Time
+    requires { ⌜ (onFormat format time ≡ true) × (secondCarried format time ≡ true) × (yearCarried format (time .year) ≡ true) ⌝ }
+    ensures { λ r. ⌜ r ≡ preceding format time length kind ⌝ }
 {
     let interval = frame_interval(format);
     if time.hundredths != 0 {
         return Time {
+            year: time.year,
             day: time.day,
             hundredths: time.hundredths - interval,
         };
     }
-    let hundredths = day_end(format, kind) - interval;
-    if time.day == Time::FIRST_DAY {
-        return Time {
-            day: year,
-            hundredths: hundredths,
-        };
-    }
+    let year = year_of_time_before(carries_year(format), time);
+    let day = day_before(time.day, length);
     Time {
-        day: time.day - 1,
-        hundredths: hundredths,
+        year: year,
+        day: day,
+        hundredths: day_end(format, kind) - interval,
     }
 }
 
-// The time itself, where the year and the day's kind are right for it.
-fn check_day(format: Format, time: Time, year: u16, kind: u8) -> Stepped
-    ensures { λ r. ⌜ r ≡ check Refused InvalidYearLength (inYear time year) (check Refused InvalidKind (onDay format time kind) (To time)) ⌝ }
+// The time itself, where the year's length and the day's kind are right for it.
+fn check_day(format: Format, time: Time, length: u16, kind: u8) -> Stepped
+    ensures { λ r. ⌜ r ≡ check Refused InvalidYearLength (inYear time length) (check Refused InvalidKind (onDay format time kind) (To time)) ⌝ }
 {
-    if in_year(time, year) {
-        if on_day(format, time, kind) {
-            return Stepped::To(time);
-        }
+    if !in_year(time, length) {
+        return Stepped::Refused(Refusal::InvalidYearLength);
+    }
+    if !on_day(format, time, kind) {
         return Stepped::Refused(Refusal::InvalidKind);
     }
-    Stepped::Refused(Refusal::InvalidYearLength)
+    Stepped::To(time)
 }
 
-// The checks of both steps: the time itself, where it passes them.
-fn check_step(format: Format, time: Time, year: u16, kind: u8) -> Stepped
-    ensures { λ r. ⌜ r ≡ checkStep format time year kind (To time) ⌝ }
+// The checks of both steps, in a year of that length: the time itself, where it passes them.
+fn check_step(format: Format, time: Time, length: u16, kind: u8) -> Stepped
+    ensures { λ r. ⌜ r ≡ checkStep format time length kind (To time) ⌝ }
 {
-    if is_known(format) {
-        if on_format(format, time) {
-            if second_carried(format, time) {
-                return check_day(format, time, year, kind);
-            }
-            return Stepped::Refused(Refusal::SecondNotCarried);
-        }
+    if !is_known(format) {
+        return Stepped::Refused(Refusal::UnknownFormat);
+    }
+    if !year_on_format(format, time) {
+        return Stepped::Refused(Refusal::InvalidYear);
+    }
+    if !on_format(format, time) {
         return Stepped::Refused(Refusal::InvalidTime);
     }
-    Stepped::Refused(Refusal::UnknownFormat)
+    if !second_carried(format, time) {
+        return Stepped::Refused(Refusal::SecondNotCarried);
+    }
+    check_day(format, time, length, kind)
 }
 
-// The kind is that of the given time's day.
-pub fn step(format: Format, time: Time, year: u16, kind: u8) -> Stepped
-    ensures { λ r. ⌜ r ≡ stepOf format time year kind ⌝ }
+// The kind is that of the given time's day. Where the format carries the year, the length is its own and not the given one.
+pub fn step(format: Format, time: Time, given: u16, kind: u8) -> Stepped
+    ensures { λ r. ⌜ r ≡ stepOf format time given kind ⌝ }
 {
-    let checked = check_step(format, time, year, kind);
+    let length = length_in(carries_year(format), time.year, given);
+    let checked = check_step(format, time, length, kind);
     match checked {
-        Stepped::To(_) => Stepped::To(later(format, time, year, kind)),
+        Stepped::To(_) => Stepped::To(later(format, time, length, kind)),
         Stepped::Refused(refusal) => Stepped::Refused(refusal),
     }
 }
 
 // The year and the kind are those of the time before; the checks look at the time that is given.
-pub fn step_back(format: Format, time: Time, year: u16, kind: u8) -> Stepped
-    ensures { λ r. ⌜ r ≡ stepBackOf format time year kind ⌝ }
+pub fn step_back(format: Format, time: Time, given: u16, kind: u8) -> Stepped
+    ensures { λ r. ⌜ r ≡ stepBackOf format time given kind ⌝ }
 {
-    let given = check_step(format, time, year, kind);
-    match given {
-        Stepped::To(_) => Stepped::To(earlier(format, time, year, kind)),
+    let carried = carries_year(format);
+    let length = length_in(carried, year_of_time_before(carried, time), given);
+    let checked = check_step(format, time, length, kind);
+    match checked {
+        Stepped::To(_) => Stepped::To(earlier(format, time, length, kind)),
         Stepped::Refused(refusal) => Stepped::Refused(refusal),
     }
 }
@@ -204,10 +221,13 @@ pub fn step_back(format: Format, time: Time, year: u16, kind: u8) -> Stepped
 fn same_time(first: Time, second: Time) -> bool
     ensures { λ r. ⌜ r ≡ sameTime first second ⌝ }
 {
-    if first.day == second.day {
-        return first.hundredths == second.hundredths;
+    if first.year != second.year {
+        return false;
     }
-    false
+    if first.day != second.day {
+        return false;
+    }
+    first.hundredths == second.hundredths
 }
 
 fn leads_to(stepped: Stepped, time: Time) -> bool
@@ -220,19 +240,19 @@ fn leads_to(stepped: Stepped, time: Time) -> bool
 }
 
 // In a year of that length, without a known kind: one of the three gives it.
-fn next_in_year(format: Format, first: Time, second: Time, year: u16) -> bool
-    ensures { λ r. ⌜ r ≡ any (λ kind. stepsTo (stepOf format first year kind) second) kinds ⌝ }
+fn next_in_year(format: Format, first: Time, second: Time, length: u16) -> bool
+    ensures { λ r. ⌜ r ≡ any (λ kind. stepsTo (stepOf format first length kind) second) kinds ⌝ }
 {
-    if leads_to(step(format, first, year, Time::USUAL_DAY), second) {
+    if leads_to(step(format, first, length, Time::USUAL_DAY), second) {
         return true;
     }
-    if leads_to(step(format, first, year, Time::SECOND_ADDED), second) {
+    if leads_to(step(format, first, length, Time::SECOND_ADDED), second) {
         return true;
     }
-    leads_to(step(format, first, year, Time::SECOND_TAKEN), second)
+    leads_to(step(format, first, length, Time::SECOND_TAKEN), second)
 }
 
-// Without a known year: one of the two lengths gives it.
+// Without a known length: one of the two gives it. Where the format carries the year, both give what its own does.
 pub fn next_after(format: Format, first: Time, second: Time) -> bool
     ensures { λ r. ⌜ r ≡ nextAfter format first second ⌝ }
 {
@@ -260,12 +280,12 @@ fn minus(first: u64, second: u64) -> i64
     a - b
 }
 
-// The first time less the second, within one year, in signed hundredths.
+// The first time less the second, within one year, in signed hundredths. It passes over the years.
 pub fn difference(first: Time, second: Time) -> Subtracted
     ensures { λ r. ⌜ r ≡ differenceOf first second ⌝ }
 {
-    if in_range(first) {
-        if in_range(second) {
+    if in_range(Time::LAST_DAY, first) {
+        if in_range(Time::LAST_DAY, second) {
             return Subtracted::Hundredths(minus(total(first), total(second)));
         }
     }

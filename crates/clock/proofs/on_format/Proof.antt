@@ -1,8 +1,14 @@
--- `on_format` meets its contract: the row's interval.
-use borrow.Author.Needs.{needs}
+-- `on_format` meets its contract: the format's interval, up to its year's last day.
 use Rattle.timecode.specs.Formats.{onFormat}
+use borrow.Author.Needs.{needs}
 use Rattle.clock.proofs.on_format.Statement.{statement}
 use Rattle.clock.proofs.on_format.Tie as tie
+
+carries-year-requires : tie.Need-carries-year-requires
+carries-year-requires c κs = search needs
+
+last-day-in-requires : tie.Need-last-day-in-requires
+last-day-in-requires c κs = search needs
 
 frame-interval-requires : tie.Need-frame-interval-requires
 frame-interval-requires c κs = search needs
@@ -12,7 +18,14 @@ lies-on-requires c κs = search needs
 
 returns : tie.Need-returns
 unfolding onFormat
-returns c = rw (← c .before .frame-interval .ensures .0) (c .lies-on .ensures)
+returns c = rw (← c .before .frame-interval .ensures .0, ← c .before .before .last-day-in .ensures (c .before .before .before .before .args .format) (c .before .before .before .carries-year .ensures)) (c .lies-on .ensures)
 
 pub on-format-spec : {M : Type 1} → statement M
-on-format-spec = tie.close (tie.spec frame-interval-requires lies-on-requires returns)
+on-format-spec =
+    tie.close
+    (tie.spec
+    carries-year-requires
+    last-day-in-requires
+    frame-interval-requires
+    lies-on-requires
+    returns)

@@ -4,10 +4,13 @@ use Rattle.clock.proofs.same_time.Statement.{statement}
 use Rattle.clock.proofs.same_time.Tie as tie
 
 returns : tie.Need-returns
-returns c = rw (eq-eqb _ _ (c .before .before .if1 .taken))
+returns c = rw (ne-eqb _ _ (c .if1 .taken))
 
 returns-2 : tie.Need-returns-2
-returns-2 c = rw (ne-eqb _ _ (c .if1 .left))
+returns-2 c = rw (eq-eqb _ _ (c .before .before .before .if1 .left), ne-eqb _ _ (c .if2 .taken))
+
+returns-3 : tie.Need-returns-3
+returns-3 c = rw (eq-eqb _ _ (c .before .before .before .before .before .if1 .left), eq-eqb _ _ (c .before .before .if2 .left))
 
 pub same-time-spec : {M : Type 1} → statement M
-same-time-spec = tie.close (tie.spec returns returns-2)
+same-time-spec = tie.close (tie.spec returns returns-2 returns-3)
