@@ -19,7 +19,7 @@ use Rattle.layout.specs.Letters.{same-starts}
 use Rattle.layout.specs.Runs.{codeRuns}
 use Rattle.layout.specs.Tables.{runStarts, startsOf}
 use Rattle.elements.specs.RunBits.{placedAt, packed, elementAt, putIn, put-at, low-bit}
-use Rattle.elements.specs.RunLoops.{Narrow, runs-narrow}
+use Rattle.elements.specs.RunLoops.{roomAt, Narrow, runs-narrow}
 
 -- ---- one digit
 
@@ -70,10 +70,10 @@ module _ (from m : ℕ) (f : from ≤ m) (s : ℕ) (l : from ≤ s) where
       let t : m - from ≡ m - s + (s - from) = omega arith in
       rw t (moved-mod x (m - s) (s - from) ∙ ap (λ (n : ℕ). n * 2 ^ (s - from)) e ∙ sym (moved-mod y (m - s) (s - from)))
 
-nine-low : (x d : ℕ) → d ≤ 9 → x % 512 % 2 ^ d ≡ x % 2 ^ d
-nine-low x d h =
-    let n : 9 - d + d ≡ 9 = omega arith in
-    ap (λ (k : ℕ). x % 2 ^ k % 2 ^ d) (sym n) ∙ mod-mod-pow x (9 - d) d
+room-low : (x room d : ℕ) → d ≤ room → x % 2 ^ room % 2 ^ d ≡ x % 2 ^ d
+room-low x room d h =
+    let n : room - d + d ≡ room = omega arith in
+    ap (λ (k : ℕ). x % 2 ^ k % 2 ^ d) (sym n) ∙ mod-mod-pow x (room - d) d
 
 -- ---- all digits
 
@@ -82,27 +82,28 @@ abbrev pub AgreeBelow : ℕ → List Run → List ℕ → List ℕ → Type 0
 AgreeBelow m rs xs ys = (k : ℕ) → k < m → covered rs k ≡ true → getD xs k 0 ≡ getD ys k 0
 
 module _ (from to m : ℕ) (f : from ≤ m) (xs ys : List ℕ) where
-  run-low : (r : Run) → r .width ≤ 9 → ((k : ℕ) → k < m → inRun r k ≡ true → getD xs k 0 ≡ getD ys k 0) → from ≤ r .start
-      → digitIn xs r % 512 * 2 ^ (r .start - from) % 2 ^ (m - from) ≡ digitIn ys r % 512 * 2 ^ (r .start - from) % 2 ^ (m - from)
+  run-low : (r : Run) → r .width ≤ roomAt (r .start) → ((k : ℕ) → k < m → inRun r k ≡ true → getD xs k 0 ≡ getD ys k 0) → from ≤ r .start
+      → digitIn xs r % 2 ^ roomAt (r .start) * 2 ^ (r .start - from) % 2 ^ (m - from) ≡ digitIn ys r % 2 ^ roomAt (r .start) * 2 ^ (r .start - from) % 2 ^ (m - from)
   run-low r w e l =
       let x = digitIn xs r in
       let y = digitIn ys r in
+      let room = roomAt (r .start) in
       by-test (leb m (r .start))
-      (λ a. later-low from m f (r .start) l (leb-true m (r .start) a) (x % 512) (y % 512))
+      (λ a. later-low from m f (r .start) l (leb-true m (r .start) a) (x % 2 ^ room) (y % 2 ^ room))
       (λ a.
       let s : r .start < m = leb-false m (r .start) a in
-      earlier-low from m f (r .start) l s (x % 512) (y % 512)
+      earlier-low from m f (r .start) l s (x % 2 ^ room) (y % 2 ^ room)
       (by-test (leb (r .width) (m - r .start))
       (λ b.
       let h = leb-true (r .width) (m - r .start) b in
-      ap (λ (n : ℕ). n % 512 % 2 ^ (m - r .start)) (value-below (r .width) (λ b. getD xs (placeOf r b) 0) (λ b. getD ys (placeOf r b) 0) (λ b k. e (placeOf r b) (omega arith) (place-in r b k))))
+      ap (λ (n : ℕ). n % 2 ^ room % 2 ^ (m - r .start)) (value-below (r .width) (λ b. getD xs (placeOf r b) 0) (λ b. getD ys (placeOf r b) 0) (λ b k. e (placeOf r b) (omega arith) (place-in r b k))))
       (λ b.
       let h = leb-false (r .width) (m - r .start) b in
-      nine-low x (m - r .start) (omega arith)
+      room-low x room (m - r .start) (omega arith)
       ∙ value-low (r .width) (m - r .start) (λ b. getD xs (placeOf r b) 0) (λ b. getD ys (placeOf r b) 0) (λ b k. e (placeOf r b) (omega arith) (place-in r b (omega arith)))
-      ∙ sym (nine-low y (m - r .start) (omega arith)))))
+      ∙ sym (room-low y room (m - r .start) (omega arith)))))
 
-  placed-low : (r : Run) → r .width ≤ 9 → ((k : ℕ) → k < m → inRun r k ≡ true → getD xs k 0 ≡ getD ys k 0)
+  placed-low : (r : Run) → r .width ≤ roomAt (r .start) → ((k : ℕ) → k < m → inRun r k ≡ true → getD xs k 0 ≡ getD ys k 0)
       → placedAt from to (r .start) (digitIn xs r) % 2 ^ (m - from) ≡ placedAt from to (r .start) (digitIn ys r) % 2 ^ (m - from)
   placed-low r w e =
       by-test (ltb (r .start) from)

@@ -9,26 +9,26 @@ use borrow.Author.Tests.{ltb-true, ltb-false, leb-true, leb-false}
 use lib.Dec.{leb, ltb}
 use lib.ListN.{getD, length}
 use lib.Pow.{field, high, low, mod-mod-pow, pow-mono, pow-pos, shr-shr, split}
-use Rattle.timecode.specs.Formats.{table, lookUp, rowOf, known, size, carriesControl, carriesSeconds}
+use Rattle.timecode.specs.Formats.{table, lookUp, rowOf, known, size, carriesControl, carriesSeconds, carriesYear, controlPlaces}
 use Rattle.timecode.specs.Frames.{covered}
 use Rattle.timecode.specs.Laws.Bits.{value-of-bits}
 use Rattle.timecode.specs.Laws.Runs.{in-run, proper, covered-once, later-proper, covered-inside, symbol-free, place-in, length-tabulate, getD-tabulate, tabulate-same, tabulate-self}
 use Rattle.timecode.specs.Laws.Table.{everyFormat, of-every}
 use Rattle.timecode.specs.Laws.Tests.{by-test, clash, and-left, and-right}
-use Rattle.timecode.specs.Layout.{Run, seconds, minutes, hours, days, tenths, hundredthsDigit, hasSeconds, straightSeconds, timeFields, inRun, bitOf, placeOf, isMark, filler, symbolAt, tabulate, encode, value, Small}
+use Rattle.timecode.specs.Layout.{Run, seconds, minutes, hours, days, tenths, hundredthsDigit, hasSeconds, straightSeconds, years, timeFields, inRun, bitOf, placeOf, isMark, filler, symbolAt, tabulate, encode, value, Small}
 use Rattle.timecode.specs.declared.Format.{Format}
 use Rattle.layout.specs.Letters.{same-starts}
 use Rattle.layout.specs.Tables.{runStarts, startsOf}
 use Rattle.layout.specs.Runs.{codeRange, codeControl, codeFields, codeRuns, code-proper}
-use Rattle.elements.specs.RunLoops.{Narrow, runs-narrow}
+use Rattle.elements.specs.RunLoops.{roomAt, Narrow, runs-narrow}
 
 -- the filler where a mark counts as 0
 abbrev zeros : ℕ → ℕ
 zeros i = 0
 
--- the low nine bits of the digit x, where its run begins at s, from one index on and before the other
+-- the low bits of the digit x, as many as there is room for, where its run begins at s, from one index on and before the other
 abbrev pub placedAt : ℕ → ℕ → ℕ → ℕ → ℕ
-placedAt from to s x = cond (ltb s from) 0 (cond (leb to s) 0 (x % 512 * 2 ^ (s - from)))
+placedAt from to s x = cond (ltb s from) 0 (cond (leb to s) 0 (x % 2 ^ roomAt s * 2 ^ (s - from)))
 
 -- the bits of all digits whose runs begin there
 unfoldable pub packed : ℕ → ℕ → List ℕ → List ℕ → ℕ
@@ -36,10 +36,13 @@ packed from to [] xs = 0
 packed from to (s ∷ ss) [] = 0
 packed from to (s ∷ ss) (x ∷ xs) = placedAt from to s x + packed from to ss xs
 
--- the same by the number of a run: n runs from j on, each counted from an index
+-- the same by the number of a run: n runs of nine from j on, each counted from an index; and the year's two
 unfoldable pub packedRuns : ℕ → List ℕ → ℕ → ℕ → ℕ
 packedRuns from xs j zero = 0
 packedRuns from xs j (suc n) = getD xs j 0 % 512 * 2 ^ (getD runStarts j 0 - from) + packedRuns from xs (suc j) n
+
+unfoldable pub packedYear : List ℕ → ℕ
+packedYear xs = getD xs 18 0 % 512 * 2 ^ 50 + getD xs 19 0 % 16 * 2 ^ 55
 
 -- element i of a frame: bit i of the head, or from 60 on bit i - 60 of the tail; a mark counts as 0 there
 unfoldable pub elementAt : ℕ → ℕ → ℕ → ℕ
@@ -63,17 +66,17 @@ packed-turn from xs first j last a b =
     let h : suc (j - 1) ≡ j = omega arith in
     rw (n, h) (add-comm (packedRuns from xs j (last - j)) (getD xs (j - 1) 0 % 512 * 2 ^ (getD runStarts (j - 1) 0 - from)))
 
--- the digits of the time and the first control range stand below 60, straight binary seconds and the other ranges from 60 on
-module _ (xs : List ℕ) (l : length xs ≡ 18) where
-  same-digits : xs ≡ tabulate 18 0 (λ j. getD xs j 0)
+-- the digits of the time, the first control range and the year stand below 60, straight binary seconds and the other ranges from 60 on
+module _ (xs : List ℕ) (l : length xs ≡ 20) where
+  same-digits : xs ≡ tabulate 20 0 (λ j. getD xs j 0)
   same-digits = sym (tabulate-self xs) ∙ ap (λ (n : ℕ). tabulate n 0 (λ j. getD xs j 0)) l
 
-  pub head-packed : packedRuns 0 xs 0 11 + packedRuns 0 xs 13 1 ≡ packed 0 60 runStarts xs
-  unfolding packed packedRuns
+  pub head-packed : packedRuns 0 xs 0 11 + packedRuns 0 xs 13 1 + packedYear xs ≡ packed 0 60 runStarts xs
+  unfolding packed packedRuns packedYear roomAt
   head-packed = omega arith ∙ ap (packed 0 60 runStarts) (sym same-digits)
 
   pub tail-packed : packedRuns 60 xs 11 2 + packedRuns 60 xs 14 4 ≡ packed 60 100 runStarts xs
-  unfolding packed packedRuns
+  unfolding packed packedRuns roomAt
   tail-packed = omega arith ∙ ap (packed 60 100 runStarts) (sym same-digits)
 
 -- ---- bits of a sum
@@ -177,7 +180,7 @@ module _ (n : ℕ) (fillers : ℕ → ℕ) (from to : ℕ) where
       rw (y, z, zero-add m, not-in r (from + b) (λ u v. omega arith)) (later b h))
       (λ z.
       let ends : r .start + r .width ≤ to = leb-true (r .start + r .width) to (rw (y, z) at here) in
-      let fits : x < 512 = omega (arith, s .0, pow-mono {i = r .width} {j = 9} (w .0)) in
+      let fits : x < 2 ^ roomAt (r .start) = omega (arith, s .0, pow-mono {i = r .width} {j = roomAt (r .start)} (w .0)) in
       rw (y, z, mod-eq-of-lt fits) (sum-bit r from m x b (symbolAt zeros rs xs (from + b)) begins (s .0) (free r rs xs p m begins ends later) (later b h))))
     where
       free : (r : Run) (rs : List Run) (xs : List ℕ) → proper n fillers (r ∷ rs) ≡ true → (m : ℕ) → from ≤ r .start → r .start + r .width ≤ to
@@ -212,7 +215,7 @@ symbol-marks f k xs i =
     (λ m. rw m (symbol-fillers (filler f) zeros (codeRuns f) xs i (rw m)))
 
 parts-apart : everyFormat (λ f. allApart 0 60 (codeRuns f) && allApart 60 100 (codeRuns f)) ≡ true
-unfolding everyFormat table codeRuns codeFields timeFields seconds minutes hours days tenths hundredthsDigit straightSeconds hasSeconds carriesSeconds codeControl codeRange carriesControl rowOf lookUp
+unfolding everyFormat table codeRuns codeFields timeFields seconds minutes hours days tenths hundredthsDigit straightSeconds hasSeconds carriesSeconds codeControl codeRange carriesControl carriesYear controlPlaces years rowOf lookUp
 parts-apart = refl
 
 module _ (f : Format) (k : known f ≡ true) (xs : List ℕ) where

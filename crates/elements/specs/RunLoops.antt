@@ -5,13 +5,13 @@ use mathlib.Core.List.{List, [], _∷_, map}
 use Prim.Native.Nat.{ℕ, zero, suc, _+_, _*_, _-_, _<_, _≤_}
 use native.Mathlib.Omega.{arith}
 use borrow.Author.Tests.{leb-true}
-use lib.Dec.{leb}
-use lib.ListN.{getD, length, List·getD-map}
+use lib.Dec.{leb, eqb}
+use lib.ListN.{getD, length, take, set, length-set, List·getD-map}
 use lib.Pow.{pow-mono}
-use Rattle.timecode.specs.Formats.{A, B, E, G, H, member, rowOf, known, size, carriesControl}
-use Rattle.timecode.specs.Laws.Runs.{place-in, covered-inside, covered-at}
+use Rattle.timecode.specs.Formats.{A, B, E, G, H, member, known, size, carriesControl, carriesYear, controlPlaces}
+use Rattle.timecode.specs.Laws.Runs.{place-in, covered-inside, covered-at, fill-step, fill-end}
 use Rattle.timecode.specs.Laws.Tests.{by-test, and-left, and-right, everyBelow, below-every}
-use Rattle.timecode.specs.Layout.{Run, seconds, minutes, hours, days, tenths, hundredthsDigit, hasSeconds, straightSeconds, timeFields, filler, tabulate, value, Small, decode}
+use Rattle.timecode.specs.Layout.{Run, seconds, minutes, hours, days, tenths, hundredthsDigit, hasSeconds, straightSeconds, years, timeFields, filler, tabulate, value, Small, decode}
 use Rattle.timecode.specs.declared.Format.{Format}
 use Rattle.layout.specs.Letters.{same-starts}
 use Rattle.layout.specs.Tables.{runStarts, startsOf, widthsOf}
@@ -23,12 +23,12 @@ noRun = record { start = 0; width = 0; radix = 1 }
 abbrev runAt : Format → ℕ → Run
 runAt f j = getD (codeRuns f) j noRun
 
-pub length-runs : (f : Format) → length (codeRuns f) ≡ 18
-unfolding codeRuns codeFields timeFields seconds minutes hours days tenths hundredthsDigit straightSeconds codeControl
+pub length-runs : (f : Format) → length (codeRuns f) ≡ 20
+unfolding codeRuns codeFields timeFields seconds minutes hours days tenths hundredthsDigit straightSeconds codeControl years
 length-runs f = refl
 
-pub length-widths : (f : Format) → length (widthsOf f) ≡ 18
-unfolding widthsOf codeRuns codeFields timeFields seconds minutes hours days tenths hundredthsDigit straightSeconds codeControl
+pub length-widths : (f : Format) → length (widthsOf f) ≡ 20
+unfolding widthsOf codeRuns codeFields timeFields seconds minutes hours days tenths hundredthsDigit straightSeconds codeControl years
 length-widths f = refl
 
 start-at : (f : Format) (j : ℕ) → getD (startsOf f) j 0 ≡ runAt f j .start
@@ -41,23 +41,31 @@ width-at f j = List·getD-map (λ (r : Run). r .width) (codeRuns f) j noRun
 
 -- ---- each run lies in the frame, and is at most 9 wide
 
--- every run is at most 9 wide
+-- how many elements a run has room for: nine, and the tens of the year, which begin at 55, four
+unfoldable pub roomAt : ℕ → ℕ
+roomAt s = cond (eqb s 55) 4 9
+
+pub room-small : (s : ℕ) → roomAt s ≤ 9
+unfolding roomAt
+room-small s = by-test (eqb s 55) (λ y. rw y (omega arith)) (λ n. rw n (omega arith))
+
+-- every run has room
 abbrev pub Narrow : List Run → Type 0
 Narrow [] = Unit
-Narrow (r ∷ rs) = (r .width ≤ 9) × Narrow rs
+Narrow (r ∷ rs) = (r .width ≤ roomAt (r .start)) × Narrow rs
 
 -- so wide, or not carried
-carried-small : (b : Bool) (w : ℕ) → w ≤ 9 → cond b w 0 ≤ 9
-carried-small b w h = by-test b (λ y. rw y h) (λ n. rw n (omega arith))
+carried-small : (b : Bool) (w room : ℕ) → w ≤ room → cond b w 0 ≤ room
+carried-small b w room h = by-test b (λ y. rw y h) (λ n. rw n (omega arith))
 
 pub runs-narrow : (f : Format) → Narrow (codeRuns f)
-unfolding codeRuns codeFields timeFields seconds minutes hours days tenths hundredthsDigit straightSeconds codeControl codeRange
+unfolding codeRuns codeFields timeFields seconds minutes hours days tenths hundredthsDigit straightSeconds codeControl codeRange years roomAt
 runs-narrow f =
-    (carried-small (member (f .letter) (A ∷ B ∷ G ∷ [])) 4 (omega arith), (carried-small (member (f .letter) (A ∷ B ∷ E ∷ G ∷ [])) 3 (omega arith), (carried-small (member (f .letter) (A ∷ B ∷ E ∷ G ∷ H ∷ [])) 4 (omega arith), (carried-small (member (f .letter) (A ∷ B ∷ E ∷ G ∷ H ∷ [])) 3 (omega arith), (omega arith, (omega arith, (omega arith, (omega arith, (omega arith, (carried-small (member (f .letter) (A ∷ G ∷ [])) 4 (omega arith), (carried-small (member (f .letter) (G ∷ [])) 4 (omega arith), (carried-small (hasSeconds f) 9 (omega arith), (carried-small (hasSeconds f) 8 (omega arith), (carried-small (carriesControl f && member 50 (rowOf f .control)) 9 (omega arith), (carried-small (carriesControl f && member 60 (rowOf f .control)) 9 (omega arith), (carried-small (carriesControl f && member 70 (rowOf f .control)) 9 (omega arith), (carried-small (carriesControl f && member 80 (rowOf f .control)) 9 (omega arith), (carried-small (carriesControl f && member 90 (rowOf f .control)) 9 (omega arith), tt))))))))))))))))))
+    (carried-small (member (f .letter) (A ∷ B ∷ G ∷ [])) 4 9 (omega arith), (carried-small (member (f .letter) (A ∷ B ∷ E ∷ G ∷ [])) 3 9 (omega arith), (carried-small (member (f .letter) (A ∷ B ∷ E ∷ G ∷ H ∷ [])) 4 9 (omega arith), (carried-small (member (f .letter) (A ∷ B ∷ E ∷ G ∷ H ∷ [])) 3 9 (omega arith), (omega arith, (omega arith, (omega arith, (omega arith, (omega arith, (carried-small (member (f .letter) (A ∷ G ∷ [])) 4 9 (omega arith), (carried-small (member (f .letter) (G ∷ [])) 4 9 (omega arith), (carried-small (hasSeconds f) 9 9 (omega arith), (carried-small (hasSeconds f) 8 9 (omega arith), (carried-small (carriesControl f && member 50 (controlPlaces f)) 9 9 (omega arith), (carried-small (carriesControl f && member 60 (controlPlaces f)) 9 9 (omega arith), (carried-small (carriesControl f && member 70 (controlPlaces f)) 9 9 (omega arith), (carried-small (carriesControl f && member 80 (controlPlaces f)) 9 9 (omega arith), (carried-small (carriesControl f && member 90 (controlPlaces f)) 9 9 (omega arith), (carried-small (carriesYear f) 4 9 (omega arith), (carried-small (carriesYear f) 4 4 (omega arith), tt))))))))))))))))))))
 
 narrow-at : (rs : List Run) → Narrow rs → (j : ℕ) → getD (map (λ (r : Run). r .width) rs) j 0 ≤ 9
 narrow-at [] h j = omega arith
-narrow-at (r ∷ rs) h zero = h .0
+narrow-at (r ∷ rs) h zero = omega (arith, h .0, room-small (r .start))
 narrow-at (r ∷ rs) h (suc j) = narrow-at rs (h .1) j
 
 pub width-small : (f : Format) (j : ℕ) → getD (widthsOf f) j 0 ≤ 9
@@ -68,10 +76,10 @@ pub small-digit : (rs : List Run) (xs : List ℕ) → Narrow rs → Small rs xs 
 small-digit [] [] n s j = omega arith
 small-digit [] (x ∷ xs) n s j = absurd s
 small-digit (r ∷ rs) [] n s j = omega arith
-small-digit (r ∷ rs) (x ∷ xs) n s zero = omega (arith, s .0, pow-mono {i = r .width} {j = 9} (n .0))
+small-digit (r ∷ rs) (x ∷ xs) n s zero = omega (arith, s .0, pow-mono {i = r .width} {j = 9} (omega (arith, n .0, room-small (r .start))))
 small-digit (r ∷ rs) (x ∷ xs) n s (suc j) = small-digit rs xs (n .1) (s .1) j
 
-pub run-inside : (f : Format) → known f ≡ true → (j k : ℕ) → j < 18 → k < getD (widthsOf f) j 0 → getD (startsOf f) j 0 + k < size f
+pub run-inside : (f : Format) → known f ≡ true → (j k : ℕ) → j < 20 → k < getD (widthsOf f) j 0 → getD (startsOf f) j 0 + k < size f
 run-inside f h j k b l =
     let w : k < runAt f j .width = rw (width-at f j) at l in
     rw (start-at f j)
@@ -79,10 +87,10 @@ run-inside f h j k b l =
 
 -- a row's runs lie in a frame of n elements
 pub record RunsInside (starts widths : List ℕ) (n : ℕ) : Type 0 where
-  pub starts-long : length starts ≡ 18
-  pub widths-long : length widths ≡ 18
+  pub starts-long : length starts ≡ 20
+  pub widths-long : length widths ≡ 20
   pub narrow : (j : ℕ) → getD widths j 0 ≤ 9
-  pub inside : (j k : ℕ) → j < 18 → k < getD widths j 0 → getD starts j 0 + k < n
+  pub inside : (j k : ℕ) → j < 20 → k < getD widths j 0 → getD starts j 0 + k < n
 
 pub runs-inside : (f : Format) → known f ≡ true → RunsInside runStarts (widthsOf f) (size f)
 runs-inside f h =
@@ -114,10 +122,17 @@ runDigit starts widths frame j = value (getD widths j 0) (λ b. getD frame (getD
 
 -- the digits at all runs
 unfoldable pub digitsAt : List ℕ → List ℕ → List ℕ → List ℕ
-digitsAt starts widths frame = tabulate 18 0 (runDigit starts widths frame)
+digitsAt starts widths frame = tabulate 20 0 (runDigit starts widths frame)
+
+-- two more stores end a list of twenty
+pub two-more : (ds : List ℕ) (g : ℕ → ℕ) (a b : ℕ) → length ds ≡ 20 → take 18 ds ≡ tabulate 18 0 g → a ≡ g 18 → b ≡ g 19 → set (set ds 18 a) 19 b ≡ tabulate 20 0 g
+two-more ds g a b l h p q =
+    let first : take 19 (set ds 18 (g 18)) ≡ tabulate 19 0 g = fill-step ds g 18 (omega arith) h in
+    let n : length (set ds 18 (g 18)) ≡ 20 = length-set ds 18 (g 18) ∙ l in
+    rw (p, q) (fill-end (set (set ds 18 (g 18)) 19 (g 19)) g 20 (length-set (set ds 18 (g 18)) 19 (g 19) ∙ n) (fill-step (set ds 18 (g 18)) g 19 (omega arith) first))
 
 pub digits-at : (f : Format) (frame : List ℕ) → digitsAt runStarts (widthsOf f) frame ≡ decode (codeRuns f) frame
-unfolding digitsAt widthsOf codeRuns codeFields timeFields seconds minutes hours days tenths hundredthsDigit straightSeconds codeControl codeRange
+unfolding digitsAt widthsOf codeRuns codeFields timeFields seconds minutes hours days tenths hundredthsDigit straightSeconds codeControl codeRange years
 digits-at f frame = refl
 
 -- ---- the bits of one digit, from the highest to the lowest

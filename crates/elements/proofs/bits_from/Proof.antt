@@ -20,7 +20,7 @@ sub-j : tie.Need-sub-j Inv-loop μ-loop
 sub-j c = omega arith
 
 shared-slice-read-placed : tie.Need-shared-slice-read-placed Inv-loop μ-loop
-shared-slice-read-placed c = let n : length (c .before .before .before .before .before .args .starts .now) ≡ 18 = rw (c .before .before .before .before .before .pre .0) refl in omega arith
+shared-slice-read-placed c = let n : length (c .before .before .before .before .before .args .starts .now) ≡ 20 = rw (c .before .before .before .before .before .pre .0) refl in omega arith
 
 mul-placed : tie.Need-mul-placed Inv-loop μ-loop
 mul-placed c = omega arith
