@@ -1,8 +1,9 @@
 // Days and years: how long a year is, which year a format takes, and the day and the year after and before.
 // The calls here are the clock's and the frame's own; they take whether a format carries the year.
 ghost use mathlib.Core.Path.{_≡_};
+ghost use mathlib.Core.Bool.{cond};
 ghost use Prim.Native.Nat.{_≤_};
-ghost use Rattle.timecode.specs.Formats.{carriesYear, daysIn, yearCarried, lastDayIn};
+ghost use Rattle.timecode.specs.Formats.{carriesYear, daysIn, lastDay, yearCarried};
 ghost use Rattle.timecode.specs.Frames.{lengthIn, dayAfter, yearAfter, yearOfDayAfter, dayBefore, yearBefore, yearOfTimeBefore};
 ghost use Rattle.timecode.specs.declared.Format.{Format};
 use timecode::Time;
@@ -29,7 +30,7 @@ pub fn year_carried(carried: bool, year: u8) -> bool
 
 // The last day of a year: where the format carries the year, that year's own.
 pub fn last_day_in(carried: bool, year: u8) -> u16
-    ensures { λ r. ⌜ ((f : Format) → carried ≡ carriesYear f → r ≡ lastDayIn f year) ⌝ }
+    ensures { λ r. ⌜ r ≡ cond carried (daysIn year) lastDay ⌝ }
 {
     if carried {
         return days_in(year);

@@ -1,4 +1,4 @@
--- A time and a control word as digits, one for each run of the format: the decimal digits of the time, straight binary seconds and the control word.
+-- A time and a control word as digits, one for each run of the format: the decimal digits of the time, straight binary seconds, the control word and the year.
 use mathlib.Core.Path.{_≡_, refl, sym, ap, ap₂, _∙_}
 use mathlib.Core.Bool.{Bool, true, cond, _&&_}
 use mathlib.Core.List.{List, [], _∷_, _++_}
@@ -9,12 +9,13 @@ use borrow.Author.Tests.{ltb-true, ltb-false, eqb-true, ne-eqb}
 use lib.Dec.{ltb, eqb}
 use lib.ListN.{getD, length, drop}
 use lib.Pow.{pow-pos, pow-mono, shl-exact, shr-lt}
-use Rattle.timecode.specs.Formats.{table, lookUp, rowOf, known, carriesControl, OnFormat}
+use Rattle.timecode.specs.Formats.{table, lookUp, rowOf, known, carriesControl, carriesYear, controlPlaces, OnFormat}
 use Rattle.timecode.specs.Frames.{totalWidth, Valid}
 use Rattle.timecode.specs.Laws.Fields.{Binary}
 use Rattle.timecode.specs.Laws.Table.{everyFormat, of-every}
 use Rattle.timecode.specs.Laws.Tests.{by-test, and-left, and-right}
-use Rattle.timecode.specs.Layout.{Run, Field, seconds, minutes, hours, days, tenths, hundredthsDigit, hasSeconds, straightSeconds, control, timeFields, second, minute, hour, timeNumbers, numbers, fieldDigits, allDigits}
+use Rattle.timecode.specs.Laws.Times.{year-below}
+use Rattle.timecode.specs.Layout.{Run, Field, seconds, minutes, hours, days, tenths, hundredthsDigit, hasSeconds, straightSeconds, control, years, timeFields, second, minute, hour, timeNumbers, numbers, fieldDigits, allDigits}
 use Rattle.timecode.specs.declared.Format.{Format}
 use Rattle.timecode.specs.declared.Time.{Time}
 use Rattle.layout.specs.Tables.{widthsOf}
@@ -22,11 +23,11 @@ use Rattle.layout.specs.Runs.{codeRange, codeControl, codeFields, codeRuns, cod
 
 -- a list of the widths of runs, and one of the digits that stand at them
 pub record Widths (ws : List ℕ) : Type 0 where
-  pub long : length ws ≡ 18
+  pub long : length ws ≡ 20
   pub small : (j : ℕ) → getD ws j 0 ≤ 9
 
 pub record Digits (ds : List ℕ) : Type 0 where
-  pub long : length ds ≡ 18
+  pub long : length ds ≡ 20
   pub small : (j : ℕ) → getD ds j 0 < 512
 
 -- ---- the digits of the time
@@ -50,7 +51,7 @@ time-part f t o =
 -- ---- straight binary seconds, where they are carried
 
 pub straight-width : (f : Format) → getD (widthsOf f) 11 0 ≡ cond (hasSeconds f) 9 0
-unfolding widthsOf codeRuns codeFields timeFields seconds minutes hours days tenths hundredthsDigit straightSeconds codeControl
+unfolding widthsOf codeRuns codeFields timeFields seconds minutes hours days tenths hundredthsDigit straightSeconds codeControl years
 straight-width f = refl
 
 straight-part : (f : Format) (x straight : ℕ) → x < 131072 → straight ≡ cond (eqb (getD (widthsOf f) 11 0) 0) 0 x → straight % 512 ∷ straight / 512 ∷ [] ≡ fieldDigits (straightSeconds f) x
@@ -127,13 +128,21 @@ moved-nines r rs b h w word l e =
     (ap (ninesOf (length rs)) (mul-div-cancel w (omega arith) ∙ sym (div-one w)) ∙ sym (nines rs (b .1) (and-right (eqb (r .width) 0) (carriedFirst rs) both) (w / 1) (rw (div-one w, ← all) l)))))
 
 all-in-row : everyFormat (λ f. inRow (codeControl f)) ≡ true
-unfolding everyFormat table codeControl codeRange carriesControl rowOf lookUp
+unfolding everyFormat table codeControl codeRange carriesControl carriesYear controlPlaces rowOf lookUp
 all-in-row = refl
 
 control-part : (f : Format) → known f ≡ true → (w word : ℕ) → w < 2 ^ totalWidth (control f) → word ≡ w * 2 ^ (9 - getD (widthsOf f) 13 0)
     → word % 512 ∷ word / 512 % 512 ∷ word / 512 / 512 % 512 ∷ word / 512 / 512 / 512 % 512 ∷ word / 512 / 512 / 512 / 512 % 512 ∷ [] ≡ fieldDigits (codeControl f) w
-unfolding widthsOf codeRuns codeFields timeFields seconds minutes hours days tenths hundredthsDigit straightSeconds codeControl
+unfolding widthsOf codeRuns codeFields timeFields seconds minutes hours days tenths hundredthsDigit straightSeconds codeControl years
 control-part f k w word l e = moved-nines (codeRange f 50) (drop 1 (codeControl f)) (code-binary f) (of-every (λ f. inRow (codeControl f)) all-in-row f k) w word (rw (code-width f) l) e
+
+-- ---- the year
+
+year-part : (f : Format) (t : Time) → OnFormat f t → t .year % 10 ∷ t .year / 10 ∷ [] ≡ fieldDigits (years f) (t .year)
+unfolding years
+year-part f t o =
+    let tens : t .year / 10 ≡ t .year / 10 % 10 = omega (arith, year-below f (t .year) (o .year-is)) in
+    λ i. t .year % 10 ∷ tens i ∷ []
 
 -- ---- all digits
 
@@ -143,16 +152,17 @@ splitDigits t straight word =
     second (t .hundredths) % 10 ∷ second (t .hundredths) / 10 ∷ minute (t .hundredths) % 10 ∷ minute (t .hundredths) / 10 ∷ hour (t .hundredths) % 10 ∷ hour (t .hundredths) / 10
     ∷ t .day % 10 ∷ t .day / 10 % 10 ∷ t .day / 10 / 10 ∷ t .hundredths / 10 % 10 ∷ t .hundredths % 10
     ∷ straight % 512 ∷ straight / 512
-    ∷ word % 512 ∷ word / 512 % 512 ∷ word / 512 / 512 % 512 ∷ word / 512 / 512 / 512 % 512 ∷ word / 512 / 512 / 512 / 512 % 512 ∷ []
+    ∷ word % 512 ∷ word / 512 % 512 ∷ word / 512 / 512 % 512 ∷ word / 512 / 512 / 512 % 512 ∷ word / 512 / 512 / 512 / 512 % 512
+    ∷ t .year % 10 ∷ t .year / 10 ∷ []
 
 pub split-digits : (f : Format) (t : Time) (w straight word : ℕ) → Valid f t w → straight ≡ cond (eqb (getD (widthsOf f) 11 0) 0) 0 (t .hundredths / 100) → word ≡ w * 2 ^ (9 - getD (widthsOf f) 13 0)
     → splitDigits t straight word ≡ allDigits (codeFields f) (numbers t w)
-unfolding splitDigits codeFields timeFields numbers timeNumbers seconds minutes hours days tenths hundredthsDigit codeControl
+unfolding splitDigits codeFields timeFields numbers timeNumbers seconds minutes hours days tenths hundredthsDigit codeControl years
 split-digits f t w straight word v p q =
-    λ i. time-part f t (v .time) i ++ (straight-part f (t .hundredths / 100) straight (omega (arith, v .time .below)) p i ++ control-part f (v .format) w word (v .room) q i)
+    λ i. time-part f t (v .time) i ++ (straight-part f (t .hundredths / 100) straight (omega (arith, v .time .below)) p i ++ (control-part f (v .format) w word (v .room) q i ++ year-part f t (v .time) i))
 
 code-total : (f : Format) → totalWidth (codeControl f) ≡ getD (widthsOf f) 13 0 + getD (widthsOf f) 14 0 + getD (widthsOf f) 15 0 + getD (widthsOf f) 16 0 + getD (widthsOf f) 17 0
-unfolding widthsOf codeRuns codeFields timeFields seconds minutes hours days tenths hundredthsDigit straightSeconds codeControl
+unfolding widthsOf codeRuns codeFields timeFields seconds minutes hours days tenths hundredthsDigit straightSeconds codeControl years
 code-total f = omega arith
 
 pub total-control : (f : Format) → totalWidth (control f) ≡ getD (widthsOf f) 13 0 + getD (widthsOf f) 14 0 + getD (widthsOf f) 15 0 + getD (widthsOf f) 16 0 + getD (widthsOf f) 17 0

@@ -12,6 +12,7 @@ ghost use Rattle.layout.specs.Tables.{widthsOf};
 ghost use Rattle.layout.specs.Runs.{codeFields};
 ghost use Rattle.digits.specs.Meaning.{pairAt, dayFrom, digitsFrom, lastSecondOf, isTimeOf, timeFrom, agreeOf, controlFrom, meaningOf, Bounds};
 ghost use Rattle.digits.specs.Splitting.{Widths, Digits};
+use dates::last_day_in;
 use layout::CONTROL_1;
 use layout::CONTROL_2;
 use layout::CONTROL_3;
@@ -28,13 +29,15 @@ use layout::SECOND;
 use layout::STRAIGHT_HIGH;
 use layout::STRAIGHT_LOW;
 use layout::TENTH;
+use layout::YEAR_TENS;
+use layout::YEAR_UNITS;
 use timecode::Reading;
 use timecode::Refusal;
 use timecode::Time;
 
 // The width of run j.
 fn width(widths: &[u8], j: usize) -> usize
-    requires { ⌜ Widths (now widths) × (j < 18) ⌝ }
+    requires { ⌜ Widths (now widths) × (j < 20) ⌝ }
     ensures { λ r. ⌜ (r ≡ getD (now (widths .entry)) j 0) × (r ≤ 9) ⌝ }
 {
     widths[j] as usize
@@ -55,7 +58,7 @@ pub fn control_fits(widths: &[u8], control: u64) -> bool
 
 // The number where run j is carried, else 0.
 fn carried(widths: &[u8], j: usize, x: u64) -> u64
-    requires { ⌜ Widths (now widths) × (j < 18) ⌝ }
+    requires { ⌜ Widths (now widths) × (j < 20) ⌝ }
     ensures { λ r. ⌜ r ≡ cond (eqb (getD (now (widths .entry)) j 0) 0) 0 x ⌝ }
 {
     if width(widths, j) == 0 {
@@ -67,10 +70,11 @@ fn carried(widths: &[u8], j: usize, x: u64) -> u64
 // The digits of a time and a control word. The added second is one more than the second before it: 23:59:60.
 // Where the first of its ranges is not carried, the control word is moved up to the second; a word that fits has no bits for
 // ranges behind the last that is carried.
-pub fn digits_of(widths: &[u8], time: Time, control: u64) -> [u64; 18]
+pub fn digits_of(widths: &[u8], time: Time, control: u64) -> [u64; 20]
     requires { ⌜ Widths (now widths) ⌝ }
     ensures { λ r. ⌜ ((f : Format) → now (widths .entry) ≡ widthsOf f → Valid f time control → r ≡ allDigits (codeFields f) (numbers time control)) ⌝ }
 {
+    let year = time.year as u64;
     let day = time.day as u64;
     let c = time.hundredths as u64;
     let seconds = c / 100;
@@ -100,12 +104,14 @@ pub fn digits_of(widths: &[u8], time: Time, control: u64) -> [u64; 18]
         word / 512 / 512 % 512,
         word / 512 / 512 / 512 % 512,
         word / 512 / 512 / 512 / 512 % 512,
+        year % 10,
+        year / 10,
     ]
 }
 
 // The number of two decimal digits.
 fn pair(digits: &[u64], at: usize) -> u64
-    requires { ⌜ Digits (now digits) × (at < 17) ⌝ }
+    requires { ⌜ Digits (now digits) × (at < 19) ⌝ }
     ensures { λ r. ⌜ (r ≡ pairAt (now (digits .entry)) at) × (r < 6000) ⌝ }
 {
     digits[at] + 10 * digits[at + 1]
@@ -120,7 +126,7 @@ fn day_in(digits: &[u64]) -> u64
 
 // No digit of the time is over 9.
 fn are_digits(digits: &[u64]) -> bool
-    requires { ⌜ length (now digits) ≡ 18 ⌝ }
+    requires { ⌜ length (now digits) ≡ 20 ⌝ }
     ensures { λ r. ⌜ r ≡ digitsFrom 11 0 (now (digits .entry)) ⌝ }
 {
     let mut j = 0;
@@ -131,6 +137,24 @@ fn are_digits(digits: &[u64]) -> bool
         j += 1;
     }
     true
+}
+
+// No digit of the year is over 9; they are 0 where it is not carried.
+fn are_year_digits(digits: &[u64]) -> bool
+    requires { ⌜ length (now digits) ≡ 20 ⌝ }
+    ensures { λ r. ⌜ r ≡ digitsFrom 2 18 (now (digits .entry)) ⌝ }
+{
+    if 9 < digits[YEAR_UNITS] {
+        return false;
+    }
+    digits[YEAR_TENS] <= 9
+}
+
+fn year_in(digits: &[u64]) -> u8
+    requires { ⌜ Digits (now digits) × (digitsFrom 2 18 (now digits) ≡ true) ⌝ }
+    ensures { λ r. ⌜ r ≡ pairAt (now (digits .entry)) 18 ⌝ }
+{
+    pair(digits, YEAR_UNITS) as u8
 }
 
 // The last second of a minute: the 61st at 23:59 only, where the leap second is carried.
@@ -147,30 +171,34 @@ fn last_second(leap: bool, hour: u64, minute: u64) -> u64
     59
 }
 
-// Number 7: no digit over 9, hours over 23, minutes over 59, seconds over the minute's last, day 0 or over 366.
-fn is_time(leap: bool, digits: &[u64]) -> bool
+// Number 7: no digit over 9, hours over 23, minutes over 59, seconds over the minute's last, day 0 or over the year's last.
+fn is_time(leap: bool, year: bool, digits: &[u64]) -> bool
     requires { ⌜ Digits (now digits) ⌝ }
-    ensures { λ r. ⌜ r ≡ isTimeOf leap (now (digits .entry)) ⌝ }
+    ensures { λ r. ⌜ r ≡ isTimeOf leap year (now (digits .entry)) ⌝ }
 {
-    if are_digits(digits) {
-        let hour = pair(digits, HOUR);
-        if 23 < hour {
-            return false;
-        }
-        let minute = pair(digits, MINUTE);
-        if 59 < minute {
-            return false;
-        }
-        if last_second(leap, hour, minute) < pair(digits, SECOND) {
-            return false;
-        }
-        let day = day_in(digits);
-        if day < (Time::FIRST_DAY as u64) {
-            return false;
-        }
-        return day <= (Time::LAST_DAY as u64);
+    if !are_digits(digits) {
+        return false;
     }
-    false
+    if !are_year_digits(digits) {
+        return false;
+    }
+    let hour = pair(digits, HOUR);
+    if 23 < hour {
+        return false;
+    }
+    let minute = pair(digits, MINUTE);
+    if 59 < minute {
+        return false;
+    }
+    if last_second(leap, hour, minute) < pair(digits, SECOND) {
+        return false;
+    }
+    let day = day_in(digits);
+    if day < (Time::FIRST_DAY as u64) {
+        return false;
+    }
+    let last = last_day_in(year, year_in(digits));
+    day <= last as u64
 }
 
 fn time_in(digits: &[u64]) -> Time
@@ -182,7 +210,9 @@ fn time_in(digits: &[u64]) -> Time
         + digits[TENTH] * 10
         + digits[HUNDREDTH];
     let day = day_in(digits);
+    let year = year_in(digits);
     Time {
+        year: year,
         day: day as u16,
         hundredths: hundredths as u32,
     }
@@ -224,11 +254,11 @@ fn control_in(widths: &[u8], digits: &[u64]) -> u64
 }
 
 // What digits say that come from a frame in which nothing offends.
-pub fn meaning(leap: bool, widths: &[u8], digits: &[u64]) -> Reading
+pub fn meaning(leap: bool, year: bool, widths: &[u8], digits: &[u64]) -> Reading
     requires { ⌜ Widths (now widths) × Digits (now digits) ⌝ }
-    ensures { λ r. ⌜ r ≡ meaningOf leap (now (widths .entry)) (now (digits .entry)) ⌝ }
+    ensures { λ r. ⌜ r ≡ meaningOf leap year (now (widths .entry)) (now (digits .entry)) ⌝ }
 {
-    if is_time(leap, digits) {
+    if is_time(leap, year, digits) {
         let time = time_in(digits);
         if seconds_agree(widths, digits, time) {
             let control = control_in(widths, digits);

@@ -1,5 +1,5 @@
 -- `on_format` meets its contract: the format's interval, up to its year's last day.
-use Rattle.timecode.specs.Formats.{onFormat}
+use Rattle.timecode.specs.Formats.{lastDayIn, onFormat}
 use borrow.Author.Needs.{needs}
 use Rattle.clock.proofs.on_format.Statement.{statement}
 use Rattle.clock.proofs.on_format.Tie as tie
@@ -17,8 +17,8 @@ lies-on-requires : tie.Need-lies-on-requires
 lies-on-requires c κs = search needs
 
 returns : tie.Need-returns
-unfolding onFormat
-returns c = rw (← c .before .frame-interval .ensures .0, ← c .before .before .last-day-in .ensures (c .before .before .before .before .args .format) (c .before .before .before .carries-year .ensures)) (c .lies-on .ensures)
+unfolding onFormat lastDayIn
+returns c = rw (← c .before .frame-interval .ensures .0, ← c .before .before .before .carries-year .ensures, ← c .before .before .last-day-in .ensures) (c .lies-on .ensures)
 
 pub on-format-spec : {M : Type 1} → statement M
 on-format-spec =

@@ -10,6 +10,9 @@ use Rattle.digits.specs.Splitting.{Widths, splitDigits, split-digits, mo
 use Rattle.digits.proofs.digits_of.Statement.{statement}
 use Rattle.digits.proofs.digits_of.Tie as tie
 
+cast-year : tie.Need-cast-year
+cast-year c = search needs
+
 cast-day : tie.Need-cast-day
 cast-day c = search needs
 
@@ -40,18 +43,19 @@ shl-word c = search needs
 returns : tie.Need-returns
 unfolding splitDigits
 returns c =
-    let a = c .before .before .before .before .before .before .args in
+    let a = c .before .before .before .before .before .before .before .args in
     let w = a .control in
     λ f same valid.
     let width : c .width .result ≡ getD (widthsOf f) 13 0 = c .width .ensures .0 ∙ ap (λ ws. getD ws 13 0) same in
     split-digits f (a .time) w (c .before .carried .result) _ valid
     (c .before .carried .ensures ∙ ap (λ ws. cond (eqb (getD ws 11 0) 0) 0 (a .time .hundredths / 100)) same)
-    (moved-fits f w (c .width .result) (subst Widths same (c .before .before .before .before .before .before .pre)) (valid .room) (c .width .ensures .1) ∙ ap (λ n. w * 2 ^ (9 - n)) width)
+    (moved-fits f w (c .width .result) (subst Widths same (c .before .before .before .before .before .before .before .pre)) (valid .room) (c .width .ensures .1) ∙ ap (λ n. w * 2 ^ (9 - n)) width)
 
 pub digits-of-spec : {M : Type 1} → statement M
 digits-of-spec =
     tie.close
     (tie.spec
+    cast-year
     cast-day
     cast-c
     cast-added

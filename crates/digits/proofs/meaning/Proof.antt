@@ -11,7 +11,7 @@ is-time-requires c κs = search needs
 time-in-requires : tie.Need-time-in-requires
 time-in-requires c κs =
     let start = c .before .before .before .before in
-    (start .pre .1, time-bounds (start .args .leap) (start .args .digits .now) (sym (c .before .is-time .ensures) ∙ c .if1 .taken))
+    (start .pre .1, time-bounds (start .args .leap) (start .args .year) (start .args .digits .now) (sym (c .before .is-time .ensures) ∙ c .if1 .taken))
 
 seconds-agree-requires : tie.Need-seconds-agree-requires
 seconds-agree-requires c κs = search needs

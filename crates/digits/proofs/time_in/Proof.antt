@@ -47,15 +47,18 @@ add-hundredths-4 c = omega (arith, c .before .before .before .before .before .be
 day-in-requires : tie.Need-day-in-requires
 day-in-requires c κs = search needs
 
-cast-t18 : tie.Need-cast-t18
-cast-t18 c = let b = c .before .before .before .before .before .before .before .pre .1 in omega (arith, b .day, c .day-in .ensures)
+year-in-requires : tie.Need-year-in-requires
+year-in-requires c κs = (c .before .before .before .before .before .before .before .pre .0, c .before .before .before .before .before .before .before .pre .1 .year)
 
 cast-t19 : tie.Need-cast-t19
-cast-t19 c = let b = c .before .before .before .before .before .before .before .pre .1 in omega (arith, b .hour, b .minute, b .second, b .tenth, b .hundredth, c .before .before .before .before .before .pair .ensures, c .before .before .before .before .pair2 .ensures, c .before .before .before .pair3 .ensures)
+cast-t19 c = let b = c .before .before .before .before .before .before .before .before .pre .1 in omega (arith, b .day, c .before .day-in .ensures)
+
+cast-t20 : tie.Need-cast-t20
+cast-t20 c = let b = c .before .before .before .before .before .before .before .before .pre .1 in omega (arith, b .hour, b .minute, b .second, b .tenth, b .hundredth, c .before .before .before .before .before .before .pair .ensures, c .before .before .before .before .before .pair2 .ensures, c .before .before .before .before .pair3 .ensures)
 
 returns : tie.Need-returns
 unfolding timeFrom
-returns c = rw (c .before .before .before .before .before .pair .ensures .0, c .before .before .before .before .pair2 .ensures .0, c .before .before .before .pair3 .ensures .0, c .day-in .ensures)
+returns c = rw (c .before .before .before .before .before .before .pair .ensures .0, c .before .before .before .before .before .pair2 .ensures .0, c .before .before .before .before .pair3 .ensures .0, c .before .day-in .ensures, c .year-in .ensures)
 
 pub time-in-spec : {M : Type 1} → statement M
 time-in-spec =
@@ -75,6 +78,7 @@ time-in-spec =
     shared-slice-read-hundredths-2
     add-hundredths-4
     day-in-requires
-    cast-t18
+    year-in-requires
     cast-t19
+    cast-t20
     returns)
