@@ -8,7 +8,7 @@ use native.Mathlib.Omega.{arith}
 use borrow.Author.Tests.{eq-eqb, le-leb, ltb-true, ltb-false}
 use lib.Dec.{leb, ltb, eqb}
 use lib.ListN.{getD, length}
-use Rattle.timecode.specs.Formats.{known, size, interval, dayLength, inRange, onFormat, carriesLeap, secondCarried}
+use Rattle.timecode.specs.Formats.{known, size, interval, dayLength, lastDay, daysIn, lastDayIn, inRange, onFormat, carriesLeap, carriesYear, secondCarried}
 use Rattle.timecode.specs.Frames.{areSymbols, readOf}
 use Rattle.timecode.specs.Laws.Runs.{Clean, clean-bits, small-decoded, small-length}
 use Rattle.timecode.specs.Laws.Table.{size-range, interval-range, two-sizes}
@@ -56,9 +56,9 @@ module _ (f : Format) (row : Row) (o : RowOf f row) where
   pub row-known : (e : ℕ) (r : Bool) → f .expression ≡ e → r ≡ (leb (row .first) e && leb e (row .last)) → known f ≡ r
   row-known e r q h = sym (o .known-is) ∙ ap (λ (x : ℕ). leb (row .first) x && leb x (row .last)) q ∙ sym h
 
-  pub row-on : (t : Time) (r : Bool) → r ≡ (inRange t && eqb (t .hundredths % row .interval) 0) → onFormat f t ≡ r
-  unfolding onFormat
-  row-on t r h = ap (λ (x : ℕ). inRange t && eqb (t .hundredths % x) 0) (sym (o .interval-is)) ∙ sym h
+  pub row-on : (t : Time) (last : ℕ) (r : Bool) → last ≡ cond (row .year) (daysIn (t .year)) lastDay → r ≡ (inRange last t && eqb (t .hundredths % row .interval) 0) → onFormat f t ≡ r
+  unfolding onFormat lastDayIn
+  row-on t last r q h = rw (← o .interval-is, ← o .year-is, ← q) (sym h)
 
   pub row-carries : (t : Time) (r : Bool) → r ≡ cond (row .leap) true (ltb (t .hundredths) dayLength) → secondCarried f t ≡ r
   unfolding secondCarried
@@ -86,7 +86,7 @@ module _ (f : Format) (frame : List ℕ) (k : known f ≡ true) (n : length fram
       record { long = small-length (codeRuns f) (decode (codeRuns f) frame) small ∙ length-runs f; small = small-digit (codeRuns f) (decode (codeRuns f) frame) (runs-narrow f) small }
 
   -- Read is what offends, or what the digits say
-  pub read-refused-or : readOf f frame ≡ refusedOr (offenceIn (putIn 100 (decode (codeRuns f) frame)) frame) (meaningOf (carriesLeap f) (widthsOf f) (decode (codeRuns f) frame))
+  pub read-refused-or : readOf f frame ≡ refusedOr (offenceIn (putIn 100 (decode (codeRuns f) frame)) frame) (meaningOf (carriesLeap f) (carriesYear f) (widthsOf f) (decode (codeRuns f) frame))
   unfolding readOf offenceIn
   read-refused-or =
       rw (k, eq-eqb (length frame) (size f) n)

@@ -15,6 +15,8 @@ ghost use Rattle.frame.specs.Offences.{offenceAt, offendedOf, offenceIn}
 ghost use Rattle.frame.specs.Exits.{FrameOf};
 use clock::lies_on;
 use clock::second_allowed;
+use dates::last_day_in;
+use dates::year_carried;
 use digits::control_fits;
 use digits::digits_of;
 use digits::meaning;
@@ -45,7 +47,11 @@ fn check_write(row: Row, expression: u8, time: Time, control: u64, bytes: usize)
     if !takes(row, expression) {
         return Written::Refused(Refusal::UnknownFormat);
     }
-    if !lies_on(row.interval, time) {
+    if !year_carried(row.year, time.year) {
+        return Written::Refused(Refusal::InvalidYear);
+    }
+    let last = last_day_in(row.year, time.year);
+    if !lies_on(row.interval, last, time) {
         return Written::Refused(Refusal::InvalidTime);
     }
     if !second_allowed(row.leap, time) {
@@ -177,7 +183,7 @@ fn read_frame(row: Row, frame: &[u8]) -> Reading
     let offence = offence_in(&again, frame);
     match offence {
         Offence::At(refusal) => Reading::Refused(refusal),
-        Offence::Nothing => meaning(row.leap, &widths, &digits),
+        Offence::Nothing => meaning(row.leap, row.year, &widths, &digits),
     }
 }
 

@@ -18,71 +18,59 @@ returns c =
     λ f lent o e b.
     rw (row-known f (c .before .before .args .row) o (c .before .before .args .expression) (c .before .takes .result) e (c .before .takes .ensures) ∙ not-true (c .before .takes .result) (c .if1 .taken))
 
-lies-on-requires : tie.Need-lies-on-requires
-lies-on-requires c κs = row-interval (c .before .before .args .row) (c .before .before .pre)
+year-carried-requires : tie.Need-year-carried-requires
+year-carried-requires c κs = search needs
 
 returns-2 : tie.Need-returns-2
 unfolding writeOf
 returns-2 c =
     λ f lent o e b.
-    rw (
-      row-known f (c .before .before .before .before .args .row) o (c .before .before .before .before .args .expression) (c .before .before .before .takes .result) e (c .before .before .before .takes .ensures) ∙ not-false (c .before .before .before .takes .result) (c .before .before .if1 .left),
-      row-on f (c .before .before .before .before .args .row) o (c .before .before .before .before .args .time) (c .before .lies-on .result) (c .before .lies-on .ensures) ∙ not-true (c .before .lies-on .result) (c .if2 .taken),
-    )
+    rw (row-known f (c .before .before .before .before .args .row) o (c .before .before .before .before .args .expression) (c .before .before .before .takes .result) e (c .before .before .before .takes .ensures) ∙ not-false (c .before .before .before .takes .result) (c .before .before .if1 .left), sym (c .before .year-carried .ensures f (o .year-is)) ∙ not-true (c .before .year-carried .result) (c .if2 .taken))
 
-second-allowed-requires : tie.Need-second-allowed-requires
-second-allowed-requires c κs = search needs
+last-day-in-requires : tie.Need-last-day-in-requires
+last-day-in-requires c κs = search needs
+
+lies-on-requires : tie.Need-lies-on-requires
+lies-on-requires c κs = row-interval (c .before .before .before .before .before .args .row) (c .before .before .before .before .before .pre)
 
 returns-3 : tie.Need-returns-3
 unfolding writeOf
 returns-3 c =
     λ f lent o e b.
-    rw (
-      row-known f (c .before .before .before .before .before .before .args .row) o (c .before .before .before .before .before .before .args .expression) (c .before .before .before .before .before .takes .result) e (c .before .before .before .before .before .takes .ensures) ∙ not-false (c .before .before .before .before .before .takes .result) (c .before .before .before .before .if1 .left),
-      row-on f (c .before .before .before .before .before .before .args .row) o (c .before .before .before .before .before .before .args .time) (c .before .before .before .lies-on .result) (c .before .before .before .lies-on .ensures) ∙ not-false (c .before .before .before .lies-on .result) (c .before .before .if2 .left),
-      row-carries f (c .before .before .before .before .before .before .args .row) o (c .before .before .before .before .before .before .args .time) (c .before .second-allowed .result) (c .before .second-allowed .ensures) ∙ not-true (c .before .second-allowed .result) (c .if3 .taken),
-    )
+    rw (row-known f (c .before .before .before .before .before .before .before .args .row) o (c .before .before .before .before .before .before .before .args .expression) (c .before .before .before .before .before .before .takes .result) e (c .before .before .before .before .before .before .takes .ensures) ∙ not-false (c .before .before .before .before .before .before .takes .result) (c .before .before .before .before .before .if1 .left), sym (c .before .before .before .before .year-carried .ensures f (o .year-is)) ∙ not-false (c .before .before .before .before .year-carried .result) (c .before .before .before .if2 .left), row-on f (c .before .before .before .before .before .before .before .args .row) o (c .before .before .before .before .before .before .before .args .time) (c .before .before .last-day-in .result) (c .before .lies-on .result) (c .before .before .last-day-in .ensures) (c .before .lies-on .ensures) ∙ not-true (c .before .lies-on .result) (c .if3 .taken))
 
-slice-aggregate-control-fits : tie.Need-slice-aggregate-control-fits
-slice-aggregate-control-fits c = search needs
-
-control-fits-requires : tie.Need-control-fits-requires
-control-fits-requires c κs = row-widths (c .before .before .before .before .before .before .before .before .args .row) (c .before .before .before .before .before .before .before .before .pre)
+second-allowed-requires : tie.Need-second-allowed-requires
+second-allowed-requires c κs = search needs
 
 returns-4 : tie.Need-returns-4
 unfolding writeOf
 returns-4 c =
     λ f lent o e b.
-    rw (
-      row-known f (c .before .before .before .before .before .before .before .before .before .before .args .row) o (c .before .before .before .before .before .before .before .before .before .before .args .expression) (c .before .before .before .before .before .before .before .before .before .takes .result) e (c .before .before .before .before .before .before .before .before .before .takes .ensures) ∙ not-false (c .before .before .before .before .before .before .before .before .before .takes .result) (c .before .before .before .before .before .before .before .before .if1 .left),
-      row-on f (c .before .before .before .before .before .before .before .before .before .before .args .row) o (c .before .before .before .before .before .before .before .before .before .before .args .time) (c .before .before .before .before .before .before .before .lies-on .result) (c .before .before .before .before .before .before .before .lies-on .ensures) ∙ not-false (c .before .before .before .before .before .before .before .lies-on .result) (c .before .before .before .before .before .before .if2 .left),
-      row-carries f (c .before .before .before .before .before .before .before .before .before .before .args .row) o (c .before .before .before .before .before .before .before .before .before .before .args .time) (c .before .before .before .before .before .second-allowed .result) (c .before .before .before .before .before .second-allowed .ensures) ∙ not-false (c .before .before .before .before .before .second-allowed .result) (c .before .before .before .before .if3 .left),
-      sym (c .before .control-fits .ensures f (o .widths-are)) ∙ not-true (c .before .control-fits .result) (c .if4 .taken),
-    )
+    rw (row-known f (c .before .before .before .before .before .before .before .before .before .args .row) o (c .before .before .before .before .before .before .before .before .before .args .expression) (c .before .before .before .before .before .before .before .before .takes .result) e (c .before .before .before .before .before .before .before .before .takes .ensures) ∙ not-false (c .before .before .before .before .before .before .before .before .takes .result) (c .before .before .before .before .before .before .before .if1 .left), sym (c .before .before .before .before .before .before .year-carried .ensures f (o .year-is)) ∙ not-false (c .before .before .before .before .before .before .year-carried .result) (c .before .before .before .before .before .if2 .left), row-on f (c .before .before .before .before .before .before .before .before .before .args .row) o (c .before .before .before .before .before .before .before .before .before .args .time) (c .before .before .before .before .last-day-in .result) (c .before .before .before .lies-on .result) (c .before .before .before .before .last-day-in .ensures) (c .before .before .before .lies-on .ensures) ∙ not-false (c .before .before .before .lies-on .result) (c .before .before .if3 .left), row-carries f (c .before .before .before .before .before .before .before .before .before .args .row) o (c .before .before .before .before .before .before .before .before .before .args .time) (c .before .second-allowed .result) (c .before .second-allowed .ensures) ∙ not-true (c .before .second-allowed .result) (c .if4 .taken))
+
+slice-aggregate-control-fits : tie.Need-slice-aggregate-control-fits
+slice-aggregate-control-fits c = search needs
+
+control-fits-requires : tie.Need-control-fits-requires
+control-fits-requires c κs = row-widths (c .before .before .before .before .before .before .before .before .before .before .before .args .row) (c .before .before .before .before .before .before .before .before .before .before .before .pre)
 
 returns-5 : tie.Need-returns-5
 unfolding writeOf
 returns-5 c =
     λ f lent o e b.
-    rw (
-      row-known f (c .before .before .before .before .before .before .before .before .before .before .before .before .args .row) o (c .before .before .before .before .before .before .before .before .before .before .before .before .args .expression) (c .before .before .before .before .before .before .before .before .before .before .before .takes .result) e (c .before .before .before .before .before .before .before .before .before .before .before .takes .ensures) ∙ not-false (c .before .before .before .before .before .before .before .before .before .before .before .takes .result) (c .before .before .before .before .before .before .before .before .before .before .if1 .left),
-      row-on f (c .before .before .before .before .before .before .before .before .before .before .before .before .args .row) o (c .before .before .before .before .before .before .before .before .before .before .before .before .args .time) (c .before .before .before .before .before .before .before .before .before .lies-on .result) (c .before .before .before .before .before .before .before .before .before .lies-on .ensures) ∙ not-false (c .before .before .before .before .before .before .before .before .before .lies-on .result) (c .before .before .before .before .before .before .before .before .if2 .left),
-      row-carries f (c .before .before .before .before .before .before .before .before .before .before .before .before .args .row) o (c .before .before .before .before .before .before .before .before .before .before .before .before .args .time) (c .before .before .before .before .before .before .before .second-allowed .result) (c .before .before .before .before .before .before .before .second-allowed .ensures) ∙ not-false (c .before .before .before .before .before .before .before .second-allowed .result) (c .before .before .before .before .before .before .if3 .left),
-      sym (c .before .before .before .control-fits .ensures f (o .widths-are)) ∙ not-false (c .before .before .before .control-fits .result) (c .before .before .if4 .left),
-      ne-eqb (length lent) (size f) (λ q. c .if5 .taken (b ∙ q ∙ sym (o .elements-are))),
-    )
+    rw (row-known f (c .before .before .before .before .before .before .before .before .before .before .before .before .before .args .row) o (c .before .before .before .before .before .before .before .before .before .before .before .before .before .args .expression) (c .before .before .before .before .before .before .before .before .before .before .before .before .takes .result) e (c .before .before .before .before .before .before .before .before .before .before .before .before .takes .ensures) ∙ not-false (c .before .before .before .before .before .before .before .before .before .before .before .before .takes .result) (c .before .before .before .before .before .before .before .before .before .before .before .if1 .left), sym (c .before .before .before .before .before .before .before .before .before .before .year-carried .ensures f (o .year-is)) ∙ not-false (c .before .before .before .before .before .before .before .before .before .before .year-carried .result) (c .before .before .before .before .before .before .before .before .before .if2 .left), row-on f (c .before .before .before .before .before .before .before .before .before .before .before .before .before .args .row) o (c .before .before .before .before .before .before .before .before .before .before .before .before .before .args .time) (c .before .before .before .before .before .before .before .before .last-day-in .result) (c .before .before .before .before .before .before .before .lies-on .result) (c .before .before .before .before .before .before .before .before .last-day-in .ensures) (c .before .before .before .before .before .before .before .lies-on .ensures) ∙ not-false (c .before .before .before .before .before .before .before .lies-on .result) (c .before .before .before .before .before .before .if3 .left), row-carries f (c .before .before .before .before .before .before .before .before .before .before .before .before .before .args .row) o (c .before .before .before .before .before .before .before .before .before .before .before .before .before .args .time) (c .before .before .before .before .before .second-allowed .result) (c .before .before .before .before .before .second-allowed .ensures) ∙ not-false (c .before .before .before .before .before .second-allowed .result) (c .before .before .before .before .if4 .left), sym (c .before .control-fits .ensures f (o .widths-are)) ∙ not-true (c .before .control-fits .result) (c .if5 .taken))
 
 returns-6 : tie.Need-returns-6
 unfolding writeOf
 returns-6 c =
     λ f lent o e b.
-    rw (
-      row-known f (c .before .before .before .before .before .before .before .before .before .before .before .before .args .row) o (c .before .before .before .before .before .before .before .before .before .before .before .before .args .expression) (c .before .before .before .before .before .before .before .before .before .before .before .takes .result) e (c .before .before .before .before .before .before .before .before .before .before .before .takes .ensures) ∙ not-false (c .before .before .before .before .before .before .before .before .before .before .before .takes .result) (c .before .before .before .before .before .before .before .before .before .before .if1 .left),
-      row-on f (c .before .before .before .before .before .before .before .before .before .before .before .before .args .row) o (c .before .before .before .before .before .before .before .before .before .before .before .before .args .time) (c .before .before .before .before .before .before .before .before .before .lies-on .result) (c .before .before .before .before .before .before .before .before .before .lies-on .ensures) ∙ not-false (c .before .before .before .before .before .before .before .before .before .lies-on .result) (c .before .before .before .before .before .before .before .before .if2 .left),
-      row-carries f (c .before .before .before .before .before .before .before .before .before .before .before .before .args .row) o (c .before .before .before .before .before .before .before .before .before .before .before .before .args .time) (c .before .before .before .before .before .before .before .second-allowed .result) (c .before .before .before .before .before .before .before .second-allowed .ensures) ∙ not-false (c .before .before .before .before .before .before .before .second-allowed .result) (c .before .before .before .before .before .before .if3 .left),
-      sym (c .before .before .before .control-fits .ensures f (o .widths-are)) ∙ not-false (c .before .before .before .control-fits .result) (c .before .before .if4 .left),
-      eq-eqb (length lent) (size f) (sym b ∙ c .if5 .left ∙ o .elements-are),
-    )
+    rw (row-known f (c .before .before .before .before .before .before .before .before .before .before .before .before .before .before .before .args .row) o (c .before .before .before .before .before .before .before .before .before .before .before .before .before .before .before .args .expression) (c .before .before .before .before .before .before .before .before .before .before .before .before .before .before .takes .result) e (c .before .before .before .before .before .before .before .before .before .before .before .before .before .before .takes .ensures) ∙ not-false (c .before .before .before .before .before .before .before .before .before .before .before .before .before .before .takes .result) (c .before .before .before .before .before .before .before .before .before .before .before .before .before .if1 .left), sym (c .before .before .before .before .before .before .before .before .before .before .before .before .year-carried .ensures f (o .year-is)) ∙ not-false (c .before .before .before .before .before .before .before .before .before .before .before .before .year-carried .result) (c .before .before .before .before .before .before .before .before .before .before .before .if2 .left), row-on f (c .before .before .before .before .before .before .before .before .before .before .before .before .before .before .before .args .row) o (c .before .before .before .before .before .before .before .before .before .before .before .before .before .before .before .args .time) (c .before .before .before .before .before .before .before .before .before .before .last-day-in .result) (c .before .before .before .before .before .before .before .before .before .lies-on .result) (c .before .before .before .before .before .before .before .before .before .before .last-day-in .ensures) (c .before .before .before .before .before .before .before .before .before .lies-on .ensures) ∙ not-false (c .before .before .before .before .before .before .before .before .before .lies-on .result) (c .before .before .before .before .before .before .before .before .if3 .left), row-carries f (c .before .before .before .before .before .before .before .before .before .before .before .before .before .before .before .args .row) o (c .before .before .before .before .before .before .before .before .before .before .before .before .before .before .before .args .time) (c .before .before .before .before .before .before .before .second-allowed .result) (c .before .before .before .before .before .before .before .second-allowed .ensures) ∙ not-false (c .before .before .before .before .before .before .before .second-allowed .result) (c .before .before .before .before .before .before .if4 .left), sym (c .before .before .before .control-fits .ensures f (o .widths-are)) ∙ not-false (c .before .before .before .control-fits .result) (c .before .before .if5 .left), ne-eqb (length lent) (size f) (λ q. c .if6 .taken (b ∙ q ∙ sym (o .elements-are))))
+
+returns-7 : tie.Need-returns-7
+unfolding writeOf
+returns-7 c =
+    λ f lent o e b.
+    rw (row-known f (c .before .before .before .before .before .before .before .before .before .before .before .before .before .before .before .args .row) o (c .before .before .before .before .before .before .before .before .before .before .before .before .before .before .before .args .expression) (c .before .before .before .before .before .before .before .before .before .before .before .before .before .before .takes .result) e (c .before .before .before .before .before .before .before .before .before .before .before .before .before .before .takes .ensures) ∙ not-false (c .before .before .before .before .before .before .before .before .before .before .before .before .before .before .takes .result) (c .before .before .before .before .before .before .before .before .before .before .before .before .before .if1 .left), sym (c .before .before .before .before .before .before .before .before .before .before .before .before .year-carried .ensures f (o .year-is)) ∙ not-false (c .before .before .before .before .before .before .before .before .before .before .before .before .year-carried .result) (c .before .before .before .before .before .before .before .before .before .before .before .if2 .left), row-on f (c .before .before .before .before .before .before .before .before .before .before .before .before .before .before .before .args .row) o (c .before .before .before .before .before .before .before .before .before .before .before .before .before .before .before .args .time) (c .before .before .before .before .before .before .before .before .before .before .last-day-in .result) (c .before .before .before .before .before .before .before .before .before .lies-on .result) (c .before .before .before .before .before .before .before .before .before .before .last-day-in .ensures) (c .before .before .before .before .before .before .before .before .before .lies-on .ensures) ∙ not-false (c .before .before .before .before .before .before .before .before .before .lies-on .result) (c .before .before .before .before .before .before .before .before .if3 .left), row-carries f (c .before .before .before .before .before .before .before .before .before .before .before .before .before .before .before .args .row) o (c .before .before .before .before .before .before .before .before .before .before .before .before .before .before .before .args .time) (c .before .before .before .before .before .before .before .second-allowed .result) (c .before .before .before .before .before .before .before .second-allowed .ensures) ∙ not-false (c .before .before .before .before .before .before .before .second-allowed .result) (c .before .before .before .before .before .before .if4 .left), sym (c .before .before .before .control-fits .ensures f (o .widths-are)) ∙ not-false (c .before .before .before .control-fits .result) (c .before .before .if5 .left), eq-eqb (length lent) (size f) (sym b ∙ c .if6 .left ∙ o .elements-are))
 
 pub check-write-spec : {M : Type 1} → statement M
 check-write-spec =
@@ -90,12 +78,15 @@ check-write-spec =
     (tie.spec
     takes-requires
     returns
-    lies-on-requires
+    year-carried-requires
     returns-2
-    second-allowed-requires
+    last-day-in-requires
+    lies-on-requires
     returns-3
+    second-allowed-requires
+    returns-4
     slice-aggregate-control-fits
     control-fits-requires
-    returns-4
     returns-5
-    returns-6)
+    returns-6
+    returns-7)

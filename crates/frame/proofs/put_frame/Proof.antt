@@ -24,7 +24,7 @@ slice-aggregate-put-digits-2 c = search needs
 
 put-digits-requires : tie.Need-put-digits-requires
 put-digits-requires c κs =
-    let long : length (c .before .before .before .before .digits-of .result) ≡ 18 = search needs in
+    let long : length (c .before .before .before .before .digits-of .result) ≡ 20 = search needs in
     (c .before .before .before .before .before .before .before .before .pre .0 .1 .starts-are, long, c .before .before .before .before .before .before .before .before .pre .1)
 
 same-length : tie.Need-same-length

@@ -4,7 +4,7 @@ use native.Mathlib.Omega.{arith}
 use mathlib.Core.Logic.{inr}
 use mathlib.Core.Path.{_≡_, refl, sym, ap, subst, _∙_}
 use lib.ListN.{length}
-use Rattle.timecode.specs.Formats.{carriesLeap}
+use Rattle.timecode.specs.Formats.{carriesLeap, carriesYear}
 use Rattle.timecode.specs.Laws.Table.{size-range}
 use Rattle.timecode.specs.Layout.{decode}
 use Rattle.layout.specs.Runs.{codeRuns}
@@ -37,7 +37,7 @@ slice-aggregate-put-digits-3 c = search needs
 
 put-digits-requires : tie.Need-put-digits-requires
 put-digits-requires c κs =
-    let long : length (c .before .before .before .digits-in .result) ≡ 18 = search needs in
+    let long : length (c .before .before .before .digits-in .result) ≡ 20 = search needs in
     (c .before .before .before .before .before .before .before .before .before .pre .row-of .starts-are, long, inr refl)
 
 slice-aggregate-offence-in : tie.Need-slice-aggregate-offence-in
@@ -81,7 +81,7 @@ returns c =
     λ f k o n.
     let again = c .before .before .before .before .before .before .put-digits .ensures ∙ ap (putIn 100) (c .before .before .before .before .before .before .before .before .before .before .digits-in .ensures ∙ row-digits f (start .args .row) frame o) in
     sym (read-refused-or f frame k n
-    ∙ ap (λ x. refusedOr x (meaningOf (carriesLeap f) (widthsOf f) (decode (codeRuns f) frame))) (ap (λ ss. offenceIn ss frame) (sym again) ∙ sym (c .before .before .before .offence-in .ensures) ∙ c .before .offence .given .1))
+    ∙ ap (λ x. refusedOr x (meaningOf (carriesLeap f) (carriesYear f) (widthsOf f) (decode (codeRuns f) frame))) (ap (λ ss. offenceIn ss frame) (sym again) ∙ sym (c .before .before .before .offence-in .ensures) ∙ c .before .offence .given .1))
 
 returns-2 : tie.Need-returns-2
 returns-2 c =
@@ -91,9 +91,9 @@ returns-2 c =
     let same = c .before .before .before .before .before .before .before .before .before .before .before .before .digits-in .ensures ∙ row-digits f (start .args .row) frame o in
     let again = c .before .before .before .before .before .before .before .before .put-digits .ensures ∙ ap (putIn 100) same in
     c .meaning .ensures
-    ∙ (λ i. meaningOf (o .leap-is i) (o .widths-are i) (same i))
+    ∙ (λ i. meaningOf (o .leap-is i) (o .year-is i) (o .widths-are i) (same i))
     ∙ sym (read-refused-or f frame k n
-    ∙ ap (λ x. refusedOr x (meaningOf (carriesLeap f) (widthsOf f) (decode (codeRuns f) frame))) (ap (λ ss. offenceIn ss frame) (sym again) ∙ sym (c .before .before .before .before .before .offence-in .ensures) ∙ c .before .before .before .enum-told .given .1))
+    ∙ ap (λ x. refusedOr x (meaningOf (carriesLeap f) (carriesYear f) (widthsOf f) (decode (codeRuns f) frame))) (ap (λ ss. offenceIn ss frame) (sym again) ∙ sym (c .before .before .before .before .before .offence-in .ensures) ∙ c .before .before .before .enum-told .given .1))
 
 pub read-frame-spec : {M : Type 1} → statement M
 read-frame-spec =
