@@ -7,7 +7,7 @@ use borrow.Author.Tests.{ltb-true}
 use lib.Dec.{leb, eqb, ltb}
 use Rattle.timecode.specs.Answers.{check, Result, success, refusalResult}
 use Rattle.timecode.specs.Formats.{isSymbol, known, size}
-use Rattle.timecode.specs.Frames.{readOf}
+use Rattle.timecode.specs.Frames.{noTime, readOf}
 use Rattle.timecode.specs.Laws.Tests.{and-right}
 use Rattle.timecode.specs.Stream.{isSetting}
 use Rattle.timecode.specs.declared.Answer.{Answer}
@@ -16,7 +16,7 @@ use Rattle.timecode.specs.declared.Format.{Format}
 use Rattle.timecode.specs.declared.Reading.{Reading}
 use Rattle.timecode.specs.declared.Reading.the-variants.{Accepted}
 use Rattle.timecode.specs.declared.Refusal.the-variants.{UnknownFormat, UnknownSymbol, InvalidReader, InvalidSetting}
-use Rattle.following.specs.Following.{noTime, rowAfter}
+use Rattle.following.specs.Following.{rowAfter}
 use Rattle.register.specs.Receiving.{receiveOf, frameOf}
 use Rattle.register.specs.declared.Register.{Register}
 use Rattle.stream.specs.declared.Fed.{Fed}

@@ -79,6 +79,7 @@ impl Reader {
                     row: 0,
                 };
                 let time = Time {
+                    year: 0,
                     day: 0,
                     hundredths: 0,
                 };

@@ -85,7 +85,7 @@ stored r =
     (vcons (vint w64 (r .received .word1))
     (vcons (vint w64 (r .received .word2))
     (vcons (vint w64 (r .received .row)) vnil)))))))
-    (vcons (vstruct (vcons (vint w16 (r .time .day)) (vcons (vint w32 (r .time .hundredths)) vnil)))
+    (vcons (vstruct (vcons (vint w8 (r .time .year)) (vcons (vint w16 (r .time .day)) (vcons (vint w32 (r .time .hundredths)) vnil))))
     (vcons (vint w64 (r .control)) vnil))))))
 
 module _ {M : Type 1} (𝓤 : URA M) (H : Heap 𝓤) (A : Atoms 𝓤) (mem′ : Memory → SProp 𝓤) (run : Routine → Fun 𝓤) where
