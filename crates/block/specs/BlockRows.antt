@@ -5,9 +5,9 @@ use Prim.Native.Nat.{ℕ}
 use lib.IntN.{pos}
 use Rattle.timecode.specs.Answers.{Result, success, refusalResult}
 use Rattle.timecode.specs.Formats.{H, table, lookUp, rowOf, known, size}
+use Rattle.timecode.specs.Frames.{noTime}
 use Rattle.timecode.specs.Stream.{isSetting}
 use Rattle.timecode.specs.declared.Refusal.the-variants.{WrongLength, InvalidReader, InvalidSetting}
-use Rattle.following.specs.Following.{noTime}
 use Rattle.stream.specs.Feeding.{freshRegister, isValid}
 use Rattle.stream.specs.Refinement.{answers}
 use Rattle.stream.specs.declared.Reader.{Reader}
@@ -19,10 +19,10 @@ at k place = record { format = record { letter = H; expression = 1 }; setting = 
 
 -- lists of two lengths, and lists of one
 abbrev unequal : Lists
-unequal = lists (0 ∷ []) [] [] []
+unequal = lists (0 ∷ []) [] [] [] []
 
 abbrev empty : Lists
-empty = lists [] [] [] []
+empty = lists [] [] [] [] []
 
 abbrev results : List Result
 results =

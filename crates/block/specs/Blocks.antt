@@ -58,19 +58,20 @@ blockOf r room ss = blockIn 0 room (answers r ss)
 
 pub record Lists : Type 0 where
   pub indexes : List ℕ
+  pub years : List ℕ
   pub days : List ℕ
   pub hundredths : List ℕ
   pub controls : List ℕ
 
-abbrev pub lists : List ℕ → List ℕ → List ℕ → List ℕ → Lists
-lists indexes days hundredths controls = record { indexes = indexes; days = days; hundredths = hundredths; controls = controls }
+abbrev pub lists : List ℕ → List ℕ → List ℕ → List ℕ → List ℕ → Lists
+lists indexes years days hundredths controls = record { indexes = indexes; years = years; days = days; hundredths = hundredths; controls = controls }
 
 -- room for so many reports
 abbrev pub roomIn : Lists → ℕ
 roomIn l = length (l .indexes)
 
 abbrev pub areRecords : Lists → Bool
-areRecords l = eqb (length (l .days)) (roomIn l) && (eqb (length (l .hundredths)) (roomIn l) && eqb (length (l .controls)) (roomIn l))
+areRecords l = eqb (length (l .years)) (roomIn l) && (eqb (length (l .days)) (roomIn l) && (eqb (length (l .hundredths)) (roomIn l) && eqb (length (l .controls)) (roomIn l)))
 
 -- a field's list afterwards: the reports from its start, and the entries past the last report as they were
 unfoldable pub fieldLeft : (Reported → ℕ) → Block → List ℕ → List ℕ
@@ -78,6 +79,9 @@ fieldLeft field b entries = map field (b .reports) ++ drop (length (b .reports))
 
 abbrev pub indexOf : Reported → ℕ
 indexOf r = r .index
+
+abbrev pub yearOf : Reported → ℕ
+yearOf r = r .time .year
 
 abbrev pub dayOf : Reported → ℕ
 dayOf r = r .time .day
@@ -89,13 +93,13 @@ abbrev pub controlOf : Reported → ℕ
 controlOf r = r .control
 
 abbrev pub listsLeft : Block → Lists → Lists
-listsLeft b l = lists (fieldLeft indexOf b (l .indexes)) (fieldLeft dayOf b (l .days)) (fieldLeft hundredthsOf b (l .hundredths)) (fieldLeft controlOf b (l .controls))
+listsLeft b l = lists (fieldLeft indexOf b (l .indexes)) (fieldLeft yearOf b (l .years)) (fieldLeft dayOf b (l .days)) (fieldLeft hundredthsOf b (l .hundredths)) (fieldLeft controlOf b (l .controls))
 
 -- ---- what a caller reads from the list afterwards
 
 -- record number k of the lent list
 unfoldable pub recordAt : Lists → ℕ → Reported
-recordAt l k = reportAt (getD (l .indexes) k 0) (record { day = getD (l .days) k 0; hundredths = getD (l .hundredths) k 0 }) (getD (l .controls) k 0)
+recordAt l k = reportAt (getD (l .indexes) k 0) (record { year = getD (l .years) k 0; day = getD (l .days) k 0; hundredths = getD (l .hundredths) k 0 }) (getD (l .controls) k 0)
 
 -- its first n records
 abbrev pub recordsIn : ℕ → Lists → List Reported

@@ -9,6 +9,7 @@ use borrow.Author.Tests.{leb-true, leb-false, eq-eqb, ne-eqb}
 use lib.ListN.{getD, length, take, drop, length-map, List·getD-append, List·getD-map}
 use lib.Seq.{ext-getD, getD-take, getD-append-add, getD-drop, length-take-le, take-append-le, take-append-add}
 use Rattle.timecode.specs.Formats.{isSymbol}
+use Rattle.timecode.specs.Frames.{noTime}
 use Rattle.timecode.specs.Laws.Checks.{refused-no-report}
 use Rattle.timecode.specs.Laws.Runs.{length-tabulate, getD-tabulate}
 use Rattle.timecode.specs.Laws.Tests.{by-test}
@@ -22,7 +23,7 @@ use Rattle.stream.specs.Feeding.{isValid, answerOf}
 use Rattle.stream.specs.Refinement.{answers, readerAfter}
 use Rattle.stream.specs.declared.Reader.{Reader}
 use Rattle.stream.specs.FeedLists.{feed-answers-append, reader-append, length-feed-answers, answers-take, answers-at, valid-after, has-setting-after, refused-above, quiet-no-refusal, above-refused}
-use Rattle.block.specs.Blocks.{Reported, reportAt, Block, withFirst, blockIn, blockOf, Lists, areRecords, fieldLeft, indexOf, dayOf, hundredthsOf, controlOf, listsLeft, recordAt, recordsIn, answersFrom, blockFor, blockAnswer, feedBlockOf}
+use Rattle.block.specs.Blocks.{Reported, reportAt, Block, withFirst, blockIn, blockOf, Lists, areRecords, fieldLeft, indexOf, yearOf, dayOf, hundredthsOf, controlOf, listsLeft, recordAt, recordsIn, answersFrom, blockFor, blockAnswer, feedBlockOf}
 use Rattle.block.specs.declared.BlockAnswer.{BlockAnswer}
 use Rattle.block.specs.declared.Stop.{Stop}
 use Rattle.block.specs.declared.Stop.the-variants.{AllTaken, UnknownSymbol, NoRoom}
@@ -243,7 +244,7 @@ split-reader r room ss rs = rw (split-block r room ss rs) (by-stop (first .stop)
 taken-not-refused : (taken reports : ℕ) (why : Stop) (x : Refusal) → BlockAnswer.Taken taken reports why ≡ BlockAnswer.Refused x → ⊥
 taken-not-refused taken reports why x h = let n : _≡_ {A = ℕ} 0 1 = cc in omega arith
 
--- ---- demand 1: a refused block leaves the reader and the four lists as they were
+-- ---- demand 1: a refused block leaves the reader and the five lists as they were
 
 pub refused-block-leaves : (r : Reader) (ss : List ℕ) (l : Lists) (x : Refusal) → feedBlockOf r ss l .answer ≡ BlockAnswer.Refused x → (feedBlockOf r ss l .reader ≡ r) × (listsLeft (blockFor r ss l) l ≡ l)
 unfolding feedBlockOf blockAnswer blockFor fieldLeft readerAfter
@@ -269,13 +270,13 @@ records-are-reports b l =
     let inside : k < length (b .reports) = omega (arith, length-tabulate n 0 (recordAt (listsLeft b l))) in
     getD-tabulate n 0 (recordAt (listsLeft b l)) noReport k inside
     ∙ ap (recordAt (listsLeft b l)) (zero-add k)
-    ∙ rw (put-at indexOf refl (l .indexes) k inside, put-at dayOf refl (l .days) k inside, put-at hundredthsOf refl (l .hundredths) k inside, put-at controlOf refl (l .controls) k inside))
+    ∙ rw (put-at indexOf refl (l .indexes) k inside, put-at yearOf refl (l .years) k inside, put-at dayOf refl (l .days) k inside, put-at hundredthsOf refl (l .hundredths) k inside, put-at controlOf refl (l .controls) k inside))
   where
     n : ℕ
     n = length (b .reports)
 
     noReport : Reported
-    noReport = reportAt 0 (record { day = 0; hundredths = 0 }) 0
+    noReport = reportAt 0 (noTime) 0
 
     put-at : (field : Reported → ℕ) → field noReport ≡ 0 → (entries : List ℕ) (k : ℕ) → k < length (b .reports) → getD (fieldLeft field b entries) k 0 ≡ field (getD (b .reports) k noReport)
     put-at field z entries k h = left-first field b entries k h ∙ ap (getD (map field (b .reports)) k) (sym z) ∙ List·getD-map field (b .reports) k noReport

@@ -27,11 +27,17 @@ takenBlock q = record { reader = q .reader; answer = BlockAnswer.Taken (q .taken
 
 pub records-even : (l : Lists) → areRecords l ≡ true → Even l
 records-even l h =
-    let second = eqb (length (l .days)) (roomIn l) in
-    let third = eqb (length (l .hundredths)) (roomIn l) in
-    let fourth = eqb (length (l .controls)) (roomIn l) in
-    let others = and-right second (third && fourth) h in
-    (eqb-true (length (l .days)) (roomIn l) (and-left second (third && fourth) h), eqb-true (length (l .hundredths)) (roomIn l) (and-left third fourth others), eqb-true (length (l .controls)) (roomIn l) (and-right third fourth others))
+    let second = eqb (length (l .years)) (roomIn l) in
+    let third = eqb (length (l .days)) (roomIn l) in
+    let fourth = eqb (length (l .hundredths)) (roomIn l) in
+    let fifth = eqb (length (l .controls)) (roomIn l) in
+    let others = and-right second (third && (fourth && fifth)) h in
+    let last = and-right third (fourth && fifth) others in (
+      eqb-true (length (l .years)) (roomIn l) (and-left second (third && (fourth && fifth)) h),
+      eqb-true (length (l .days)) (roomIn l) (and-left third (fourth && fifth) others),
+      eqb-true (length (l .hundredths)) (roomIn l) (and-left fourth fifth last),
+      eqb-true (length (l .controls)) (roomIn l) (and-right fourth fifth last),
+    )
 
 -- what the call gives and leaves
 abbrev pub Gives : Reader → List ℕ → Lists → FedBlock → Lists → Type 0

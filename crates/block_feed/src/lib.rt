@@ -38,34 +38,43 @@ fn taken_block(round: Round) -> FedBlock
     }
 }
 
-fn are_equal(first: usize, second: usize, third: usize, fourth: usize) -> bool
-    ensures { λ r. ⌜ r ≡ (eqb second first && (eqb third first && eqb fourth first)) ⌝ }
+fn are_equal(first: usize, second: usize, third: usize, fourth: usize, fifth: usize) -> bool
+    ensures { λ r. ⌜ r ≡ (eqb second first && (eqb third first && (eqb fourth first && eqb fifth first))) ⌝ }
 {
     if second == first {
         if third == first {
-            return fourth == first;
+            if fourth == first {
+                return fifth == first;
+            }
         }
     }
     false
 }
 
-// Feeds a block of symbols. A report is a record of the lent list: the index of its symbol in the block, its day, its hundredths
-// and its control word, each at one entry of a list of its own.
+// Feeds a block of symbols. A report is a record of the lent list: the index of its symbol in the block, its year, its day, its
+// hundredths and its control word, each at one entry of a list of its own.
 pub fn feed_block(
     reader: Reader,
     symbols: &[u8],
     indexes: &mut [usize],
+    years: &mut [u8],
     days: &mut [u16],
     hundredths: &mut [u32],
     controls: &mut [u64],
 ) -> FedBlock
-    ensures { λ r. ⌜ r ≡ feedBlockOf reader (now (symbols .entry)) (lists (now (indexes .entry)) (now (days .entry)) (now (hundredths .entry)) (now (controls .entry))) ⌝ }
-    ensures { λ _. ⌜ lists (now (indexes .exit)) (now (days .exit)) (now (hundredths .exit)) (now (controls .exit)) ≡ listsLeft (blockFor reader (now (symbols .entry)) (lists (now (indexes .entry)) (now (days .entry)) (now (hundredths .entry)) (now (controls .entry)))) (lists (now (indexes .entry)) (now (days .entry)) (now (hundredths .entry)) (now (controls .entry))) ⌝ }
+    ensures { λ r. ⌜ r ≡ feedBlockOf reader (now (symbols .entry)) (lists (now (indexes .entry)) (now (years .entry)) (now (days .entry)) (now (hundredths .entry)) (now (controls .entry))) ⌝ }
+    ensures { λ _. ⌜ lists (now (indexes .exit)) (now (years .exit)) (now (days .exit)) (now (hundredths .exit)) (now (controls .exit)) ≡ listsLeft (blockFor reader (now (symbols .entry)) (lists (now (indexes .entry)) (now (years .entry)) (now (days .entry)) (now (hundredths .entry)) (now (controls .entry)))) (lists (now (indexes .entry)) (now (years .entry)) (now (days .entry)) (now (hundredths .entry)) (now (controls .entry))) ⌝ }
 {
     if is_valid(reader) {
         if is_setting(reader.setting) {
-            if are_equal(indexes.len(), days.len(), hundredths.len(), controls.len()) {
-                let fed = feed_strides(reader, symbols, indexes, days, hundredths, controls);
+            if are_equal(
+                indexes.len(),
+                years.len(),
+                days.len(),
+                hundredths.len(),
+                controls.len(),
+            ) {
+                let fed = feed_strides(reader, symbols, indexes, years, days, hundredths, controls);
                 return taken_block(fed);
             }
             return refuse(reader, Refusal::WrongLength);

@@ -19,7 +19,7 @@ use Rattle.stride.specs.ReadyReaders.{Ready, ready-after, reader-start}
 use Rattle.stride.specs.Strides.{Strides}
 use Rattle.receive_many.specs.ManySymbols.{slice}
 use Rattle.openings.specs.Accepted.{acceptedIn, unaccepted-at}
-use Rattle.block.specs.Blocks.{Reported, reportAt, Block, stopped, withFirst, blockIn, blockOf, Lists, lists, roomIn, fieldLeft, indexOf, dayOf, hundredthsOf, controlOf, listsLeft}
+use Rattle.block.specs.Blocks.{Reported, reportAt, Block, stopped, withFirst, blockIn, blockOf, Lists, lists, roomIn, fieldLeft, indexOf, yearOf, dayOf, hundredthsOf, controlOf, listsLeft}
 use Rattle.block.specs.Folds.{followed, block-append, block-takes, all-taken}
 use Rattle.block_strides.specs.declared.Round.{Round}
 use Rattle.block.specs.declared.Stop.{Stop}
@@ -29,7 +29,7 @@ use Rattle.block.specs.declared.Stop.the-variants.{AllTaken, UnknownSymbol, NoR
 
 -- a record at the entry p
 abbrev pub setRecord : Lists → ℕ → Reported → Lists
-setRecord l p r = lists (set (l .indexes) p (r .index)) (set (l .days) p (r .time .day)) (set (l .hundredths) p (r .time .hundredths)) (set (l .controls) p (r .control))
+setRecord l p r = lists (set (l .indexes) p (r .index)) (set (l .years) p (r .time .year)) (set (l .days) p (r .time .day)) (set (l .hundredths) p (r .time .hundredths)) (set (l .controls) p (r .control))
 
 -- the records from the entry p on
 unfoldable pub putFrom : ℕ → List Reported → Lists → Lists
@@ -75,17 +75,18 @@ module _ (list : Lists → List ℕ) (field : Reported → ℕ) (stores : (l : L
       let all : 0 + length (b .reports) ≡ length (b .reports) = omega arith in
       put-between 0 (b .reports) l (omega arith) ∙ ap (λ (k : ℕ). map field (b .reports) ++ drop k (list l)) all
 
--- all four are of one length
+-- all five are of one length
 abbrev pub Even : Lists → Type 0
-Even l = (length (l .days) ≡ roomIn l) × (length (l .hundredths) ≡ roomIn l) × (length (l .controls) ≡ roomIn l)
+Even l = (length (l .years) ≡ roomIn l) × (length (l .days) ≡ roomIn l) × (length (l .hundredths) ≡ roomIn l) × (length (l .controls) ≡ roomIn l)
 
 -- each is as long as it was
 abbrev pub AsLong : Lists → Lists → Type 0
-AsLong l m = (roomIn l ≡ roomIn m) × (length (l .days) ≡ length (m .days)) × (length (l .hundredths) ≡ length (m .hundredths)) × (length (l .controls) ≡ length (m .controls))
+AsLong l m = (roomIn l ≡ roomIn m) × (length (l .years) ≡ length (m .years)) × (length (l .days) ≡ length (m .days)) × (length (l .hundredths) ≡ length (m .hundredths)) × (length (l .controls) ≡ length (m .controls))
 
 put-long : (p : ℕ) (rs : List Reported) (l : Lists) → AsLong (putFrom p rs l) l
 put-long p rs l = (
   length-put (λ m. m .indexes) indexOf (λ m q r. refl) p rs l,
+  length-put (λ m. m .years) yearOf (λ m q r. refl) p rs l,
   length-put (λ m. m .days) dayOf (λ m q r. refl) p rs l,
   length-put (λ m. m .hundredths) hundredthsOf (λ m q r. refl) p rs l,
   length-put (λ m. m .controls) controlOf (λ m q r. refl) p rs l,
@@ -95,12 +96,13 @@ put-long p rs l = (
 pub put-left : (b : Block) (l : Lists) → length (b .reports) ≤ roomIn l → Even l → putFrom 0 (b .reports) l ≡ listsLeft b l
 put-left b l fits even =
     let m = putFrom 0 (b .reports) l in
-    let same : lists (m .indexes) (m .days) (m .hundredths) (m .controls) ≡ listsLeft b l =
+    let same : lists (m .indexes) (m .years) (m .days) (m .hundredths) (m .controls) ≡ listsLeft b l =
     rw (
       put-start (λ k. k .indexes) indexOf (λ k q r. refl) b l fits,
-      put-start (λ k. k .days) dayOf (λ k q r. refl) b l (omega (arith, even .0)),
-      put-start (λ k. k .hundredths) hundredthsOf (λ k q r. refl) b l (omega (arith, even .1)),
-      put-start (λ k. k .controls) controlOf (λ k q r. refl) b l (omega (arith, even .2)),
+      put-start (λ k. k .years) yearOf (λ k q r. refl) b l (omega (arith, even .0)),
+      put-start (λ k. k .days) dayOf (λ k q r. refl) b l (omega (arith, even .1)),
+      put-start (λ k. k .hundredths) hundredthsOf (λ k q r. refl) b l (omega (arith, even .2)),
+      put-start (λ k. k .controls) controlOf (λ k q r. refl) b l (omega (arith, even .3)),
     ) in
     same
 
@@ -233,11 +235,11 @@ module _ {as′ : List Answer} {l₀ : Lists} where
     pub standing-room : Even l₀ → (reports ≤ roomIn l) × Even l
     standing-room even =
         let long = standing-long in
-        (omega (arith, long .0, s .counted, reached-fits 0 (roomIn l₀) as′ i), (omega (arith, even, long), omega (arith, even, long), omega (arith, even, long)))
+        (omega (arith, long .0, s .counted, reached-fits 0 (roomIn l₀) as′ i), (omega (arith, even, long), omega (arith, even, long), omega (arith, even, long), omega (arith, even, long)))
 
     -- a record is left
-    pub standing-fits : Even l₀ → reports < roomIn l → (reports < roomIn l) × (reports < length (l .days)) × (reports < length (l .hundredths)) × (reports < length (l .controls))
-    standing-fits same fits = let even = standing-room same .1 in (fits, omega (arith, even .0), omega (arith, even .1), omega (arith, even .2))
+    pub standing-fits : Even l₀ → reports < roomIn l → (reports < roomIn l) × (reports < length (l .years)) × (reports < length (l .days)) × (reports < length (l .hundredths)) × (reports < length (l .controls))
+    standing-fits same fits = let even = standing-room same .1 in (fits, omega (arith, even .0), omega (arith, even .1), omega (arith, even .2), omega (arith, even .3))
 
     pub standing-quiet : i < length as′ → (none : Answer) → getD as′ i none ≡ Quiet → Standing as′ l₀ (i + 1) reports l
     standing-quiet h none is =

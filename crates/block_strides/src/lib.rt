@@ -1,5 +1,5 @@
 // A block of symbols, fed by strides, with its reports put into the lent lists from their first entries on.
-// The four lists are of one length, and the reader passes 13 and 26.
+// The five lists are of one length, and the reader passes 13 and 26.
 ghost use mathlib.Core.Path.{_≡_};
 ghost use mathlib.Core.Bool.{true};
 ghost use Prim.Native.Nat.{_≤_, _<_};
@@ -40,6 +40,7 @@ fn round_at(reader: Reader, taken: usize, reports: usize, stop: Stop) -> Round
 
 fn put_report(
     indexes: &mut [usize],
+    years: &mut [u8],
     days: &mut [u16],
     hundredths: &mut [u32],
     controls: &mut [u64],
@@ -48,10 +49,11 @@ fn put_report(
     time: Time,
     control: u64,
 )
-    requires { ⌜ (at < length (now indexes)) × (at < length (now days)) × (at < length (now hundredths)) × (at < length (now controls)) ⌝ }
-    ensures { λ _. ⌜ lists (now (indexes .exit)) (now (days .exit)) (now (hundredths .exit)) (now (controls .exit)) ≡ setRecord (lists (now (indexes .entry)) (now (days .entry)) (now (hundredths .entry)) (now (controls .entry))) at (reportAt index time control) ⌝ }
+    requires { ⌜ (at < length (now indexes)) × (at < length (now years)) × (at < length (now days)) × (at < length (now hundredths)) × (at < length (now controls)) ⌝ }
+    ensures { λ _. ⌜ lists (now (indexes .exit)) (now (years .exit)) (now (days .exit)) (now (hundredths .exit)) (now (controls .exit)) ≡ setRecord (lists (now (indexes .entry)) (now (years .entry)) (now (days .entry)) (now (hundredths .entry)) (now (controls .entry))) at (reportAt index time control) ⌝ }
 {
     indexes[at] = index;
+    years[at] = time.year;
     days[at] = time.day;
     hundredths[at] = time.hundredths;
     controls[at] = control;
@@ -76,13 +78,14 @@ pub fn feed_strides(
     reader: Reader,
     symbols: &[u8],
     indexes: &mut [usize],
+    years: &mut [u8],
     days: &mut [u16],
     hundredths: &mut [u32],
     controls: &mut [u64],
 ) -> Round
-    requires { ⌜ Even (lists (now indexes) (now days) (now hundredths) (now controls)) × (isValid reader ≡ true) × (isSetting (reader .setting) ≡ true) ⌝ }
+    requires { ⌜ Even (lists (now indexes) (now years) (now days) (now hundredths) (now controls)) × (isValid reader ≡ true) × (isSetting (reader .setting) ≡ true) ⌝ }
     ensures { λ r. ⌜ r ≡ roundOf reader (now (symbols .entry)) (length (now (indexes .entry))) ⌝ }
-    ensures { λ _. ⌜ lists (now (indexes .exit)) (now (days .exit)) (now (hundredths .exit)) (now (controls .exit)) ≡ putFrom 0 (blockOf reader (length (now (indexes .entry))) (now (symbols .entry)) .reports) (lists (now (indexes .entry)) (now (days .entry)) (now (hundredths .entry)) (now (controls .entry))) ⌝ }
+    ensures { λ _. ⌜ lists (now (indexes .exit)) (now (years .exit)) (now (days .exit)) (now (hundredths .exit)) (now (controls .exit)) ≡ putFrom 0 (blockOf reader (length (now (indexes .entry))) (now (symbols .entry)) .reports) (lists (now (indexes .entry)) (now (years .entry)) (now (days .entry)) (now (hundredths .entry)) (now (controls .entry))) ⌝ }
 {
     let count = accepted(symbols);
     let mut current = reader;
@@ -107,6 +110,7 @@ pub fn feed_strides(
                 }
                 put_report(
                     indexes,
+                    years,
                     days,
                     hundredths,
                     controls,

@@ -6,13 +6,16 @@ use Rattle.block_feed.proofs.are_equal.Reads as reads
 use Rattle.block_feed.proofs.are_equal.Lts as lts
 
 returns : tie.Need-returns
-returns c = rw (eq-eqb _ _ (c .before .if1 .taken), eq-eqb _ _ (c .if2 .taken))
+returns c = rw (eq-eqb _ _ (c .before .before .if1 .taken), eq-eqb _ _ (c .before .if2 .taken), eq-eqb _ _ (c .if3 .taken))
 
 returns-2 : tie.Need-returns-2
-returns-2 c = rw (eq-eqb _ _ (c .before .if1 .taken), ne-eqb _ _ (c .if2 .left))
+returns-2 c = rw (eq-eqb _ _ (c .before .before .if1 .taken), eq-eqb _ _ (c .before .if2 .taken), ne-eqb _ _ (c .if3 .left))
 
 returns-3 : tie.Need-returns-3
-returns-3 c = rw (ne-eqb _ _ (c .if1 .left))
+returns-3 c = rw (eq-eqb _ _ (c .before .if1 .taken), ne-eqb _ _ (c .if2 .left))
+
+returns-4 : tie.Need-returns-4
+returns-4 c = rw (ne-eqb _ _ (c .if1 .left))
 
 pub are-equal-spec : {M : Type 1} → statement M
-are-equal-spec = tie.close (tie.spec returns returns-2 returns-3)
+are-equal-spec = tie.close (tie.spec returns returns-2 returns-3 returns-4)

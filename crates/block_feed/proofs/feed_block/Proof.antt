@@ -26,8 +26,8 @@ are-equal-requires c κs = search needs
 
 feed-strides-requires : tie.Need-feed-strides-requires
 feed-strides-requires c κs =
-    let a = c .before .before .before .before .before .before .before .before .before .before .before .before .before .before .before .args in
-    (records-even (lists (a .indexes .now) (a .days .now) (a .hundredths .now) (a .controls .now)) (sym (c .before .before .before .before .before .are-equal .ensures) ∙ c .before .before .before .before .if3 .taken), sym (c .before .before .before .before .before .before .before .before .before .is-valid .ensures) ∙ c .before .before .before .before .before .before .before .before .if1 .taken, sym (c .before .before .before .before .before .before .before .is-setting .ensures) ∙ c .before .before .before .before .before .before .if2 .taken)
+    let a = c .before .before .before .before .before .before .before .before .before .before .before .before .before .before .before .before .before .args in
+    (records-even (lists (a .indexes .now) (a .years .now) (a .days .now) (a .hundredths .now) (a .controls .now)) (sym (c .before .before .before .before .before .before .are-equal .ensures) ∙ c .before .before .before .before .before .if3 .taken), sym (c .before .before .before .before .before .before .before .before .before .before .is-valid .ensures) ∙ c .before .before .before .before .before .before .before .before .before .if1 .taken, sym (c .before .before .before .before .before .before .before .before .is-setting .ensures) ∙ c .before .before .before .before .before .before .before .if2 .taken)
 
 taken-block-requires : tie.Need-taken-block-requires
 taken-block-requires c κs = search needs
@@ -44,13 +44,16 @@ same-length-3 c = search needs
 same-length-4 : tie.Need-same-length-4
 same-length-4 c = search needs
 
+same-length-5 : tie.Need-same-length-5
+same-length-5 c = search needs
+
 returns : tie.Need-returns
 returns c =
-    let a = c .before .before .before .before .before .before .before .before .before .before .before .before .before .before .before .before .before .before .before .before .before .before .before .before .before .args in
-    let valid = sym (c .before .before .before .before .before .before .before .before .before .before .before .before .before .before .before .before .before .before .before .is-valid .ensures) ∙ c .before .before .before .before .before .before .before .before .before .before .before .before .before .before .before .before .before .before .if1 .taken in
-    let set = sym (c .before .before .before .before .before .before .before .before .before .before .before .before .before .before .before .before .before .is-setting .ensures) ∙ c .before .before .before .before .before .before .before .before .before .before .before .before .before .before .before .before .if2 .taken in
-    let same = sym (c .before .before .before .before .before .before .before .before .before .before .before .before .before .before .before .are-equal .ensures) ∙ c .before .before .before .before .before .before .before .before .before .before .before .before .before .before .if3 .taken in
-    let g = block-taken (a .reader) (a .symbols .now) (lists (a .indexes .now) (a .days .now) (a .hundredths .now) (a .controls .now)) _ _ valid set same (c .before .before .before .before .before .before .before .before .before .feed-strides .ensures) in
+    let a = c .before .before .before .before .before .before .before .before .before .before .before .before .before .before .before .before .before .before .before .before .before .before .before .before .before .before .before .before .before .args in
+    let valid = sym (c .before .before .before .before .before .before .before .before .before .before .before .before .before .before .before .before .before .before .before .before .before .before .is-valid .ensures) ∙ c .before .before .before .before .before .before .before .before .before .before .before .before .before .before .before .before .before .before .before .before .before .if1 .taken in
+    let set = sym (c .before .before .before .before .before .before .before .before .before .before .before .before .before .before .before .before .before .before .before .before .is-setting .ensures) ∙ c .before .before .before .before .before .before .before .before .before .before .before .before .before .before .before .before .before .before .before .if2 .taken in
+    let same = sym (c .before .before .before .before .before .before .before .before .before .before .before .before .before .before .before .before .before .before .are-equal .ensures) ∙ c .before .before .before .before .before .before .before .before .before .before .before .before .before .before .before .before .before .if3 .taken in
+    let g = block-taken (a .reader) (a .symbols .now) (lists (a .indexes .now) (a .years .now) (a .days .now) (a .hundredths .now) (a .controls .now)) _ _ valid set same (c .before .before .before .before .before .before .before .before .before .before .before .feed-strides .ensures) in
     (c .taken-block .ensures ∙ g .0, g .1)
 
 refuse-requires : tie.Need-refuse-requires
@@ -59,11 +62,11 @@ refuse-requires c κs = search needs
 returns-2 : tie.Need-returns-2
 unfolding blockAnswer
 returns-2 c =
-    let a = c .before .before .before .before .before .before .before .before .before .before .before .before .args in
+    let a = c .before .before .before .before .before .before .before .before .before .before .before .before .before .args in
     let valid = sym (c .before .before .before .before .before .before .is-valid .ensures) ∙ c .before .before .before .before .before .if1 .taken in
     let set = sym (c .before .before .before .before .is-setting .ensures) ∙ c .before .before .before .if2 .taken in
     let other = sym (c .before .before .are-equal .ensures) ∙ c .before .if3 .left in
-    let g = block-refused (a .reader) (a .symbols .now) (lists (a .indexes .now) (a .days .now) (a .hundredths .now) (a .controls .now)) WrongLength (rw (valid, set, other)) (rw (valid, set, other)) in
+    let g = block-refused (a .reader) (a .symbols .now) (lists (a .indexes .now) (a .years .now) (a .days .now) (a .hundredths .now) (a .controls .now)) WrongLength (rw (valid, set, other)) (rw (valid, set, other)) in
     (c .refuse .ensures ∙ g .0, g .1)
 
 refuse-requires-2 : tie.Need-refuse-requires-2
@@ -72,10 +75,10 @@ refuse-requires-2 c κs = search needs
 returns-3 : tie.Need-returns-3
 unfolding blockAnswer
 returns-3 c =
-    let a = c .before .before .before .before .before .before .before .before .before .before .args in
+    let a = c .before .before .before .before .before .before .before .before .before .before .before .args in
     let valid = sym (c .before .before .before .before .is-valid .ensures) ∙ c .before .before .before .if1 .taken in
     let set = sym (c .before .before .is-setting .ensures) ∙ c .before .if2 .left in
-    let g = block-refused (a .reader) (a .symbols .now) (lists (a .indexes .now) (a .days .now) (a .hundredths .now) (a .controls .now)) InvalidSetting (rw (valid, set)) (rw (valid, set)) in
+    let g = block-refused (a .reader) (a .symbols .now) (lists (a .indexes .now) (a .years .now) (a .days .now) (a .hundredths .now) (a .controls .now)) InvalidSetting (rw (valid, set)) (rw (valid, set)) in
     (c .refuse2 .ensures ∙ g .0, g .1)
 
 refuse-requires-3 : tie.Need-refuse-requires-3
@@ -84,9 +87,9 @@ refuse-requires-3 c κs = search needs
 returns-4 : tie.Need-returns-4
 unfolding blockAnswer
 returns-4 c =
-    let a = c .before .before .before .before .before .before .before .before .args in
+    let a = c .before .before .before .before .before .before .before .before .before .args in
     let invalid = sym (c .before .before .is-valid .ensures) ∙ c .before .if1 .left in
-    let g = block-refused (a .reader) (a .symbols .now) (lists (a .indexes .now) (a .days .now) (a .hundredths .now) (a .controls .now)) InvalidReader (rw invalid) (rw invalid) in
+    let g = block-refused (a .reader) (a .symbols .now) (lists (a .indexes .now) (a .years .now) (a .days .now) (a .hundredths .now) (a .controls .now)) InvalidReader (rw invalid) (rw invalid) in
     (c .refuse3 .ensures ∙ g .0, g .1)
 
 pub feed-block-spec : {M : Type 1} → statement M
@@ -102,6 +105,7 @@ feed-block-spec =
     same-length-2
     same-length-3
     same-length-4
+    same-length-5
     returns
     refuse-requires
     returns-2
