@@ -13,7 +13,7 @@ use lib.Seq.{getD-at}
 use Rattle.timecode.specs.Frames.{usual, following, stepOf, written, Sent, noFrame, Generator, Valid}
 use Rattle.timecode.specs.Laws.Checks.{done}
 use Rattle.timecode.specs.Laws.Back.{step-again}
-use Rattle.timecode.specs.Laws.Stepping.{went, step-answers, day-end-range, Lands, lands}
+use Rattle.timecode.specs.Laws.Stepping.{lengthFor, went, step-answers, day-end-range, Lands, lands}
 use Rattle.timecode.specs.Laws.Tests.{by-test, and-right}
 use Rattle.timecode.specs.Laws.Writing.{length-written, taken, takes}
 use Rattle.timecode.specs.declared.Format.{Format}
@@ -62,16 +62,16 @@ to-midnight : (f : Format) (t : Time) (year kind : ℕ) (u : Time) → eqb (t .d
 to-midnight f t year kind u n (inl p) = absurd (eqb-false (t .day) (u .day) n (ap (λ (v : Time). v .day) (p .0)))
 to-midnight f t year kind u n (inr p) = sym (ap (λ (v : Time). v .hundredths) (p .0))
 
-next-step : (f : Format) (t u : Time) (year kind : ℕ) → stepOf f t year kind ≡ To u → stepOf f u year (kindAfter t u kind) ≡ To (following f u year (kindAfter t u kind))
+next-step : (f : Format) (t u : Time) (year kind : ℕ) → stepOf f t year kind ≡ To u → stepOf f u year (kindAfter t u kind) ≡ To (following f u (lengthFor f u year) (kindAfter t u kind))
 unfolding stepOf kindAfter
 next-step f t u year kind h =
     let again = step-again f t u year kind h in
-    let w = went f u year kind (following f u year kind) again in
+    let w = went f u year kind (following f u (lengthFor f u year) kind) again in
     by-test (eqb (t .day) (u .day))
     (λ y. rw y again)
     (λ n.
-    let midnight = to-midnight f t year kind u n (lands f t year kind u (went f t year kind u h)) in
-    rw n (step-answers f u year usual (w .format) (w .from) (w .length-is) (w .inside) refl (omega (arith, midnight, day-end-range f usual)) (To (following f u year usual))))
+    let midnight = to-midnight f t (lengthFor f t year) kind u n (lands f t (lengthFor f t year) kind u (went f t year kind u h)) in
+    rw n (step-answers f u (lengthFor f u year) usual (w .format) (w .from) (w .length-is) (w .inside) refl (omega (arith, midnight, day-end-range f usual)) (To (following f u (lengthFor f u year) usual))))
 
 -- Step takes the time, the year length and the kind
 abbrev Steps : Format → Start → ℕ → Type 0
@@ -79,7 +79,7 @@ Steps f s year = (u : Time) × (stepOf f (s .time) year (s .kind) ≡ To u)
 
 step-stays : (f : Format) (s : Start) (year : ℕ) → Steps f s year → Steps f (nextStart f s year) year
 unfolding nextStart
-step-stays f s year (u, h) = rw h (following f u year (kindAfter (s .time) u (s .kind)), next-step f (s .time) u year (s .kind) h)
+step-stays f s year (u, h) = rw h (following f u (lengthFor f u year) (kindAfter (s .time) u (s .kind)), next-step f (s .time) u year (s .kind) h)
 
 next-is : (f : Format) (s : Start) (year : ℕ) → Steps f s year → stepOf f (s .time) year (s .kind) ≡ To (nextStart f s year .time)
 unfolding nextStart
