@@ -1,4 +1,4 @@
-// A block's answer as C's struct, by value, and what a block brought put into the caller's thirteen words.
+// A block's answer as C's struct, by value, and what a block brought put into the caller's fourteen words.
 // Any words are allowed. The definitions, and each field against the answer's result, stand in specs/.
 ghost use mathlib.Core.Path.{_≡_};
 ghost use Rattle.block.specs.Blocks.{stopNumber};
@@ -52,7 +52,7 @@ pub fn block_result(answer: BlockAnswer) -> BlockResult
 }
 
 // What a block brought: the reader's new words, or nothing written where it was refused.
-pub fn put_block(next: Reader, answer: BlockAnswer, reader: &mut [u64; 13]) -> BlockResult
+pub fn put_block(next: Reader, answer: BlockAnswer, reader: &mut [u64; 14]) -> BlockResult
     ensures { λ r. ⌜ r ≡ blockResultOf answer ⌝ }
     ensures { λ _. ⌜ now (reader .exit) ≡ blockWordsLeft (fedBlockWith next answer) (now (reader .entry)) ⌝ }
 {

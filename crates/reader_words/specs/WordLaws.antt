@@ -15,6 +15,7 @@ use Rattle.timecode.specs.Laws.Checks.{by-reading}
 use Rattle.timecode.specs.Laws.Reading.{accepted-was-written}
 use Rattle.timecode.specs.Laws.Table.{everyFormat, of-every}
 use Rattle.timecode.specs.Laws.Tests.{by-test, clash, and-left, and-right}
+use Rattle.timecode.specs.Laws.Times.{year-below}
 use Rattle.timecode.specs.Stream.{isSetting}
 use Rattle.timecode.specs.declared.Answer.{Answer}
 use Rattle.timecode.specs.declared.Answer.the-variants.{Quiet, Report}
@@ -35,13 +36,14 @@ pub record Fits (r : Reader) : Type 0 where
   pub letter : r .format .letter < 256
   pub expression : r .format .expression < 256
   pub setting : r .setting < 256
+  pub year : r .time .year < 256
   pub day : r .time .day < 65536
   pub hundredths : r .time .hundredths < 4294967296
 
 pub words-back : (r : Reader) → Fits r → readerIn (wordsFor r) ≡ r
 unfolding readerIn wordsFor byteIn
 words-back r h =
-    rw (lt-ltb (r .format .letter) 256 (h .letter), lt-ltb (r .format .expression) 256 (h .expression), lt-ltb (r .setting) 256 (h .setting), mod-eq-of-lt (h .day), mod-eq-of-lt (h .hundredths))
+    rw (lt-ltb (r .format .letter) 256 (h .letter), lt-ltb (r .format .expression) 256 (h .expression), lt-ltb (r .setting) 256 (h .setting), mod-eq-of-lt (h .year), mod-eq-of-lt (h .day), mod-eq-of-lt (h .hundredths))
 
 byte-small : (w : ℕ) → byteIn w < 256
 unfolding byteIn
@@ -55,6 +57,7 @@ words-fit words =
       letter = byte-small (getD words 0 0);
       expression = byte-small (getD words 1 0);
       setting = byte-small (getD words 2 0);
+      year = omega arith;
       day = omega arith;
       hundredths = omega arith;
     }
@@ -73,7 +76,7 @@ pub fresh-fits : (f : Format) (k : ℕ) → known f ≡ true → isSetting k ≡
 fresh-fits f k h set =
     let few = setting-few k set in
     let b = known-bytes f h in
-    record { letter = b .0; expression = b .1; setting = omega (arith, few); day = omega arith; hundredths = omega arith }
+    record { letter = b .0; expression = b .1; setting = omega (arith, few); year = omega arith; day = omega arith; hundredths = omega arith }
 
 whole-fits : (r : Reader) → Fits r → Fits (whenWhole r)
 unfolding whenWhole readerWithReading
@@ -81,17 +84,17 @@ whole-fits r h =
     by-test (eqb (r .received .count) (size (r .format)))
     (λ y.
     by-reading (readOf (r .format) (frameOf (r .received) (size (r .format))))
-    (λ x z. rw (y, z) (record { letter = h .letter; expression = h .expression; setting = h .setting; day = h .day; hundredths = h .hundredths }))
+    (λ x z. rw (y, z) (record { letter = h .letter; expression = h .expression; setting = h .setting; year = h .year; day = h .day; hundredths = h .hundredths }))
     (λ t w z.
     let v = accepted-was-written (r .format) (frameOf (r .received) (size (r .format))) t w z in
-    rw (y, z) (record { letter = h .letter; expression = h .expression; setting = h .setting; day = omega (arith, v .0 .time .last); hundredths = omega (arith, v .0 .time .below) })))
+    rw (y, z) (record { letter = h .letter; expression = h .expression; setting = h .setting; year = omega (arith, year-below (r .format) (t .year) (v .0 .time .year-is)); day = omega (arith, v .0 .time .last); hundredths = omega (arith, v .0 .time .below) })))
     (λ n. rw n h)
 
 pub next-fits : (r : Reader) (s : ℕ) → Fits r → Fits (nextOf r s)
 unfolding nextOf withSymbolOf
 next-fits r s h =
     by-test (isValid r && (isSetting (r .setting) && isSymbol s))
-    (λ y. rw y (whole-fits (withRegister r ((r .place + 1) % size (r .format)) (receiveOf (r .format) (size (r .format)) (r .received) s)) (record { letter = h .letter; expression = h .expression; setting = h .setting; day = h .day; hundredths = h .hundredths })))
+    (λ y. rw y (whole-fits (withRegister r ((r .place + 1) % size (r .format)) (receiveOf (r .format) (size (r .format)) (r .received) s)) (record { letter = h .letter; expression = h .expression; setting = h .setting; year = h .year; day = h .day; hundredths = h .hundredths })))
     (λ n. rw n h)
 
 pub after-fits : (r : Reader) (ss : List ℕ) → Fits r → Fits (readerAfter r ss)
@@ -101,7 +104,7 @@ after-fits r (s ∷ ss) h = after-fits (nextOf r s) ss (next-fits r s h)
 
 -- ---- the words after a call are those of the reader that it gives back, refused or not
 
--- of thirteen words the reader's own are left
+-- of fourteen words the reader's own are left
 pub into-words : (r next : Reader) → wordsInto (wordsFor r) next ≡ wordsFor next
 unfolding wordsInto wordsFor
 into-words r next = refl

@@ -1,4 +1,4 @@
--- The reader as thirteen words in the caller's memory, and what a call leaves there.
+-- The reader as fourteen words in the caller's memory, and what a call leaves there.
 use mathlib.Core.Bool.{cond}
 use mathlib.Core.List.{List, [], _∷_}
 use Prim.Native.Nat.{ℕ, _%_}
@@ -15,12 +15,12 @@ use Rattle.stream.specs.declared.Reader.{Reader}
 use Rattle.ffi.specs.Fields.{unlessRefused}
 use Rattle.ffi.specs.declared.WriteResult.{WriteResult}
 
--- the letter, the expression, the setting, the place; the register's six; the day, the hundredths and the control word of the row's last frame
+-- the letter, the expression, the setting, the place; the register's six; the year, the day, the hundredths and the control word of the row's last frame
 unfoldable pub wordsFor : Reader → List ℕ
 wordsFor r =
     r .format .letter ∷ r .format .expression ∷ r .setting ∷ r .place
     ∷ r .received .count ∷ r .received .newest ∷ r .received .word0 ∷ r .received .word1 ∷ r .received .word2 ∷ r .received .row
-    ∷ r .time .day ∷ r .time .hundredths ∷ r .control
+    ∷ r .time .year ∷ r .time .day ∷ r .time .hundredths ∷ r .control
     ∷ []
 
 -- A word that is no byte stands for 255, which is no letter, no expression and no setting, so that number 13 or 26 refuses it.
@@ -42,8 +42,8 @@ readerIn words =
         word2 = getD words 8 0;
         row = getD words 9 0;
       };
-      time = record { day = getD words 10 0 % 65536; hundredths = getD words 11 0 % 4294967296 };
-      control = getD words 12 0;
+      time = record { year = getD words 10 0 % 256; day = getD words 11 0 % 65536; hundredths = getD words 12 0 % 4294967296 };
+      control = getD words 13 0;
     }
 
 -- the caller's words with the reader's put into them: its place and its register, and before them the others
@@ -51,7 +51,7 @@ abbrev pub registerInto : List ℕ → ℕ → Register → List ℕ
 registerInto words place h = set (set (set (set (set (set (set words 9 (h .row)) 8 (h .word2)) 7 (h .word1)) 6 (h .word0)) 5 (h .newest)) 4 (h .count)) 3 place
 
 abbrev pub othersInto : List ℕ → Reader → List ℕ
-othersInto words r = set (set (set (set (set (set words 0 (r .format .letter)) 1 (r .format .expression)) 2 (r .setting)) 10 (r .time .day)) 11 (r .time .hundredths)) 12 (r .control)
+othersInto words r = set (set (set (set (set (set (set words 0 (r .format .letter)) 1 (r .format .expression)) 2 (r .setting)) 10 (r .time .year)) 11 (r .time .day)) 12 (r .time .hundredths)) 13 (r .control)
 
 unfoldable pub wordsInto : List ℕ → Reader → List ℕ
 wordsInto words r = registerInto (othersInto words r) (r .place) (r .received)

@@ -1,4 +1,4 @@
-// The reader as thirteen words in the caller's memory: unpacked, packed, and what a Feed brought put back there.
+// The reader as fourteen words in the caller's memory: unpacked, packed, and what a Feed brought put back there.
 // Any words are allowed. The definitions, and that a reader comes back from its words, stand in specs/.
 ghost use mathlib.Core.Path.{_≡_};
 ghost use Prim.Native.Nat.{_%_};
@@ -26,6 +26,12 @@ pub fn byte_in(word: u64) -> u8
     255
 }
 
+fn year_in(word: u64) -> u8
+    ensures { λ r. ⌜ r ≡ word % 256 ⌝ }
+{
+    (word % 256) as u8
+}
+
 fn day_in(word: u64) -> u16
     ensures { λ r. ⌜ r ≡ word % 65536 ⌝ }
 {
@@ -39,7 +45,7 @@ fn hundredths_in(word: u64) -> u32
 }
 
 // The reader in the caller's words, whatever they are.
-pub fn reader_in(words: [u64; 13]) -> Reader
+pub fn reader_in(words: [u64; 14]) -> Reader
     ensures { λ r. ⌜ r ≡ readerIn words ⌝ }
 {
     let format = Format {
@@ -55,8 +61,9 @@ pub fn reader_in(words: [u64; 13]) -> Reader
         row: words[9] as usize,
     };
     let time = Time {
-        day: day_in(words[10]),
-        hundredths: hundredths_in(words[11]),
+        year: year_in(words[10]),
+        day: day_in(words[11]),
+        hundredths: hundredths_in(words[12]),
     };
     Reader {
         format: format,
@@ -64,11 +71,11 @@ pub fn reader_in(words: [u64; 13]) -> Reader
         place: words[3] as usize,
         received: received,
         time: time,
-        control: words[12],
+        control: words[13],
     }
 }
 
-pub fn words_for(reader: Reader) -> [u64; 13]
+pub fn words_for(reader: Reader) -> [u64; 14]
     ensures { λ r. ⌜ r ≡ wordsFor reader ⌝ }
 {
     let format = reader.format;
@@ -85,6 +92,7 @@ pub fn words_for(reader: Reader) -> [u64; 13]
         received.word1,
         received.word2,
         received.row as u64,
+        time.year as u64,
         time.day as u64,
         time.hundredths as u64,
         reader.control,
@@ -92,7 +100,7 @@ pub fn words_for(reader: Reader) -> [u64; 13]
 }
 
 // The reader's words put into the caller's, one by one: where one is as it was, nothing needs to be stored.
-pub fn put_words(reader: &mut [u64; 13], next: Reader)
+pub fn put_words(reader: &mut [u64; 14], next: Reader)
     ensures { λ _. ⌜ now (reader .exit) ≡ wordsInto (now (reader .entry)) next ⌝ }
 {
     let format = next.format;
@@ -101,9 +109,10 @@ pub fn put_words(reader: &mut [u64; 13], next: Reader)
     reader[0] = format.letter as u64;
     reader[1] = format.expression as u64;
     reader[2] = next.setting as u64;
-    reader[10] = time.day as u64;
-    reader[11] = time.hundredths as u64;
-    reader[12] = next.control;
+    reader[10] = time.year as u64;
+    reader[11] = time.day as u64;
+    reader[12] = time.hundredths as u64;
+    reader[13] = next.control;
     reader[9] = received.row as u64;
     reader[8] = received.word2;
     reader[7] = received.word1;
@@ -114,7 +123,7 @@ pub fn put_words(reader: &mut [u64; 13], next: Reader)
 }
 
 // A fresh reader, into the caller's words.
-pub fn put_fresh(format: Format, setting: u8, reader: &mut [u64; 13]) -> WriteResult
+pub fn put_fresh(format: Format, setting: u8, reader: &mut [u64; 14]) -> WriteResult
     ensures { λ r. ⌜ r ≡ freshResultOf (madeOf format setting) ⌝ }
     ensures { λ _. ⌜ now (reader .exit) ≡ freshLeft format setting (now (reader .entry)) ⌝ }
 {
@@ -131,7 +140,7 @@ pub fn put_fresh(format: Format, setting: u8, reader: &mut [u64; 13]) -> WriteRe
 }
 
 // What a Feed brought: the reader's new words, or nothing written where it was refused.
-pub fn put_fed(next: Reader, answer: Answer, reader: &mut [u64; 13]) -> FeedResult
+pub fn put_fed(next: Reader, answer: Answer, reader: &mut [u64; 14]) -> FeedResult
     ensures { λ r. ⌜ r ≡ feedResultOf answer ⌝ }
     ensures { λ _. ⌜ now (reader .exit) ≡ wordsLeft (fedWith next answer) (now (reader .entry)) ⌝ }
 {

@@ -1,4 +1,4 @@
--- The calls on a reader's thirteen words as one list in any mix: what each gives its caller, and the words that it leaves to the next.
+-- The calls on a reader's fourteen words as one list in any mix: what each gives its caller, and the words that it leaves to the next.
 use mathlib.Core.List.{List, [], _∷_}
 use Prim.Native.Nat.{ℕ}
 use Rattle.block.specs.Blocks.{Lists, listsLeft, blockFor}

@@ -1,4 +1,4 @@
--- A C program's reader: its thirteen words give the results of their reader, so demand 3 holds of any list of calls on them; and a refused call leaves them.
+-- A C program's reader: its fourteen words give the results of their reader, so demand 3 holds of any list of calls on them; and a refused call leaves them.
 use mathlib.Core.Path.{_≡_, refl, sym, ap, ap₂, subst, _∙_}
 use mathlib.Core.Bool.{true, false}
 use mathlib.Core.List.{List, [], _∷_, _++_, map}

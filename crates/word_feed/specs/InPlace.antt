@@ -1,6 +1,6 @@
 -- One Feed stored in the caller's words by cases: where no frame becomes whole, the symbol brings nothing, and only the place and the register change.
 use mathlib.Core.Path.{_≡_, sym}
-use mathlib.Core.Bool.{true, false, cond}
+use mathlib.Core.Bool.{Bool, true, false, cond, _&&_}
 use mathlib.Core.List.{List}
 use Prim.Native.Nat.{ℕ, _+_, _%_, _<_, _≤_}
 use native.Mathlib.Nat.{mod-eq-of-lt}
@@ -11,7 +11,7 @@ use lib.ListN.{getD, set}
 use lib.Seq.{set-getD}
 use Rattle.timecode.specs.Formats.{known, size}
 use Rattle.timecode.specs.Laws.Table.{size-range}
-use Rattle.timecode.specs.Laws.Tests.{by-test, clash}
+use Rattle.timecode.specs.Laws.Tests.{by-test, clash, and-left, and-right}
 use Rattle.timecode.specs.Stream.{isSetting}
 use Rattle.timecode.specs.declared.Answer.the-variants.{Quiet}
 use Rattle.timecode.specs.declared.Format.{Format}
@@ -30,12 +30,16 @@ formatIn letter expression = record { letter = byteIn letter; expression = byteI
 abbrev pub registerIn : List ℕ → Register
 registerIn words = record { count = getD words 4 0; newest = getD words 5 0; word0 = getD words 6 0; word1 = getD words 7 0; word2 = getD words 8 0; row = getD words 9 0 }
 
+-- the words of the time fit their widths
+unfoldable pub timeFits : ℕ → ℕ → ℕ → Bool
+timeFits year day hundredths = ltb year 256 && (ltb day 65536 && ltb hundredths 4294967296)
+
 -- n, where numbers 13 and 26 pass and the words of the time fit their widths; else 0
-unfoldable pub readySize : ℕ → ℕ → ℕ → ℕ → ℕ → ℕ → ℕ
-readySize letter expression setting place day hundredths =
+unfoldable pub readySize : ℕ → ℕ → ℕ → ℕ → ℕ → ℕ → ℕ → ℕ
+readySize letter expression setting place year day hundredths =
     cond (known (formatIn letter expression))
     (cond (ltb place (size (formatIn letter expression)))
-    (cond (isSetting (byteIn setting)) (cond (ltb day 65536) (cond (ltb hundredths 4294967296) (size (formatIn letter expression)) 0) 0) 0)
+    (cond (isSetting (byteIn setting)) (cond (timeFits year day hundredths) (size (formatIn letter expression)) 0) 0)
     0)
     0
 
@@ -44,11 +48,12 @@ pub record Ready (words : List ℕ) (n : ℕ) : Type 0 where
   pub size-is : n ≡ size (formatIn (getD words 0 0) (getD words 1 0))
   pub inside : getD words 3 0 < n
   pub is-set : isSetting (byteIn (getD words 2 0)) ≡ true
-  pub day-fits : getD words 10 0 < 65536
-  pub hundredths-fit : getD words 11 0 < 4294967296
+  pub year-fits : getD words 10 0 < 256
+  pub day-fits : getD words 11 0 < 65536
+  pub hundredths-fit : getD words 12 0 < 4294967296
 
-pub ready : (words : List ℕ) (n : ℕ) → n ≡ readySize (getD words 0 0) (getD words 1 0) (getD words 2 0) (getD words 3 0) (getD words 10 0) (getD words 11 0) → (n ≡ 0 → ⊥) → Ready words n
-unfolding readySize
+pub ready : (words : List ℕ) (n : ℕ) → n ≡ readySize (getD words 0 0) (getD words 1 0) (getD words 2 0) (getD words 3 0) (getD words 10 0) (getD words 11 0) (getD words 12 0) → (n ≡ 0 → ⊥) → Ready words n
+unfolding readySize timeFits
 ready words n e some =
     let f = formatIn (getD words 0 0) (getD words 1 0) in
     by-test (known f)
@@ -57,14 +62,23 @@ ready words n e some =
     (λ b.
     by-test (isSetting (byteIn (getD words 2 0)))
     (λ d.
-    by-test (ltb (getD words 10 0) 65536)
+    let year = ltb (getD words 10 0) 256 in
+    let day = ltb (getD words 11 0) 65536 in
+    let hundredths = ltb (getD words 12 0) 4294967296 in
+    by-test (year && (day && hundredths))
     (λ g.
-    by-test (ltb (getD words 11 0) 4294967296)
-    (λ h.
-    let z : n ≡ size f = rw (a, b, d, g, h) at e in
+    let z : n ≡ size f = rw (a, b, d, g) at e in
     let i = ltb-true (getD words 3 0) (size f) b in
-    record { is-known = a; size-is = z; inside = omega arith; is-set = d; day-fits = ltb-true (getD words 10 0) 65536 g; hundredths-fit = ltb-true (getD words 11 0) 4294967296 h })
-    (λ h. absurd (some (rw (a, b, d, g, h) at e))))
+    let others = and-right year (day && hundredths) g in
+    record {
+      is-known = a;
+      size-is = z;
+      inside = omega arith;
+      is-set = d;
+      year-fits = ltb-true (getD words 10 0) 256 (and-left year (day && hundredths) g);
+      day-fits = ltb-true (getD words 11 0) 65536 (and-left day hundredths others);
+      hundredths-fit = ltb-true (getD words 12 0) 4294967296 (and-right day hundredths others);
+    })
     (λ g. absurd (some (rw (a, b, d, g) at e))))
     (λ d. absurd (some (rw (a, b, d) at e))))
     (λ b. absurd (some (rw (a, b) at e))))
@@ -104,6 +118,7 @@ module _ (words : List ℕ) (s n : ℕ) (at : Ready words n) where
         letter-same (getD words 0 0) (getD words 1 0) (at .is-known),
         expression-same (getD words 0 0) (getD words 1 0) (at .is-known),
         setting-same (getD words 2 0) (at .is-set),
+        mod-eq-of-lt (at .year-fits),
         mod-eq-of-lt (at .day-fits),
         mod-eq-of-lt (at .hundredths-fit),
         set-getD words 0 0,
@@ -112,6 +127,7 @@ module _ (words : List ℕ) (s n : ℕ) (at : Ready words n) where
         set-getD words 10 0,
         set-getD words 11 0,
         set-getD words 12 0,
+        set-getD words 13 0,
       )
 
   module _ (small : s ≤ 3) where

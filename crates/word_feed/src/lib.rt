@@ -1,11 +1,11 @@
-// One Feed of a reader's thirteen words. Most symbols bring nothing and end no frame: for them the words that change are stored, and no reader is unpacked.
+// One Feed of a reader's fourteen words. Most symbols bring nothing and end no frame: for them the words that change are stored, and no reader is unpacked.
 // Every other Feed goes by value: the end of a frame, each 32nd symbol of it, and what is refused.
 ghost use mathlib.Core.Path.{_≡_};
 ghost use lib.ListN.{set};
 ghost use Rattle.register.specs.Receiving.{begunOf};
 ghost use Rattle.ffi.specs.Structs.{feedResultOf};
 ghost use Rattle.reader_words.specs.Words.{byteIn, registerInto, feedWords, wordsLeft};
-ghost use Rattle.word_feed.specs.InPlace.{formatIn, readySize};
+ghost use Rattle.word_feed.specs.InPlace.{formatIn, timeFits, readySize};
 use ffi::FeedResult;
 use ffi::feed_result;
 use layout::frame_size;
@@ -32,26 +32,36 @@ fn format_in(letter: u64, expression: u64) -> Format
     }
 }
 
+fn time_fits(year: u64, day: u64, hundredths: u64) -> bool
+    ensures { λ r. ⌜ r ≡ timeFits year day hundredths ⌝ }
+{
+    if year < 256 {
+        if day < 65536 {
+            return hundredths < 4294967296;
+        }
+    }
+    false
+}
+
 // n where 13 and 26 pass and the time's words fit their widths, else 0.
 fn ready_size(
     letter: u64,
     expression: u64,
     setting: u64,
     place: u64,
+    year: u64,
     day: u64,
     hundredths: u64,
 ) -> usize
-    ensures { λ r. ⌜ r ≡ readySize letter expression setting place day hundredths ⌝ }
+    ensures { λ r. ⌜ r ≡ readySize letter expression setting place year day hundredths ⌝ }
 {
     let format = format_in(letter, expression);
     if is_known(format) {
         let n = frame_size(format);
         if (place as usize) < n {
             if is_setting(byte_in(setting)) {
-                if day < 65536 {
-                    if hundredths < 4294967296 {
-                        return n;
-                    }
+                if time_fits(year, day, hundredths) {
+                    return n;
                 }
             }
         }
@@ -59,7 +69,7 @@ fn ready_size(
     0
 }
 
-fn put_begun(reader: &mut [u64; 13], place: u64, newest: u64, count: u64, row: u64)
+fn put_begun(reader: &mut [u64; 14], place: u64, newest: u64, count: u64, row: u64)
     ensures { λ _. ⌜ now (reader .exit) ≡ registerInto (now (reader .entry)) place (begunOf newest count row) ⌝ }
 {
     reader[9] = row;
@@ -71,7 +81,7 @@ fn put_begun(reader: &mut [u64; 13], place: u64, newest: u64, count: u64, row: u
     reader[3] = place;
 }
 
-fn put_continued(reader: &mut [u64; 13], place: u64, newest: u64, count: u64)
+fn put_continued(reader: &mut [u64; 14], place: u64, newest: u64, count: u64)
     ensures { λ _. ⌜ now (reader .exit) ≡ set (set (set (now (reader .entry)) 5 newest) 4 count) 3 place ⌝ }
 {
     reader[5] = newest;
@@ -79,7 +89,7 @@ fn put_continued(reader: &mut [u64; 13], place: u64, newest: u64, count: u64)
     reader[3] = place;
 }
 
-fn feed_by_value(reader: &mut [u64; 13], symbol: u8) -> FeedResult
+fn feed_by_value(reader: &mut [u64; 14], symbol: u8) -> FeedResult
     ensures { λ r. ⌜ r ≡ feedResultOf (feedWords (now (reader .entry)) symbol .answer) ⌝ }
     ensures { λ _. ⌜ now (reader .exit) ≡ wordsLeft (feedWords (now (reader .entry)) symbol) (now (reader .entry)) ⌝ }
 {
@@ -89,7 +99,7 @@ fn feed_by_value(reader: &mut [u64; 13], symbol: u8) -> FeedResult
     put_fed(next, answer, reader)
 }
 
-pub fn feed_words(reader: &mut [u64; 13], symbol: u8) -> FeedResult
+pub fn feed_words(reader: &mut [u64; 14], symbol: u8) -> FeedResult
     ensures { λ r. ⌜ r ≡ feedResultOf (feedWords (now (reader .entry)) symbol .answer) ⌝ }
     ensures { λ _. ⌜ now (reader .exit) ≡ wordsLeft (feedWords (now (reader .entry)) symbol) (now (reader .entry)) ⌝ }
 {
@@ -100,6 +110,7 @@ pub fn feed_words(reader: &mut [u64; 13], symbol: u8) -> FeedResult
         reader[3],
         reader[10],
         reader[11],
+        reader[12],
     );
     if n != 0 {
         if symbol <= SPOILED {

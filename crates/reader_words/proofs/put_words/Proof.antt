@@ -32,6 +32,9 @@ element-write-reader-4 c = search needs
 cast-reader-5 : tie.Need-cast-reader-5
 cast-reader-5 c = search needs
 
+cast-reader-6 : tie.Need-cast-reader-6
+cast-reader-6 c = search needs
+
 element-write-reader-5 : tie.Need-element-write-reader-5
 element-write-reader-5 c = search needs
 
@@ -59,6 +62,9 @@ element-write-reader-12 c = search needs
 element-write-reader-13 : tie.Need-element-write-reader-13
 element-write-reader-13 c = search needs
 
+element-write-reader-14 : tie.Need-element-write-reader-14
+element-write-reader-14 c = search needs
+
 returns : tie.Need-returns
 unfolding wordsInto
 returns c = refl
@@ -77,6 +83,7 @@ put-words-spec =
     element-write-reader-4
     cast-reader-5
     element-write-reader-5
+    cast-reader-6
     element-write-reader-6
     element-write-reader-7
     element-write-reader-8
@@ -85,4 +92,5 @@ put-words-spec =
     element-write-reader-11
     element-write-reader-12
     element-write-reader-13
+    element-write-reader-14
     returns)

@@ -1,4 +1,4 @@
--- `words_for` meets its contract: the thirteen words in their order.
+-- `words_for` meets its contract: the fourteen words in their order.
 use borrow.Author.Needs.{needs}
 use mathlib.Core.Path.{refl}
 use Rattle.reader_words.specs.Words.{wordsFor}
@@ -20,9 +20,12 @@ cast-t11 c = search needs
 cast-t12 : tie.Need-cast-t12
 cast-t12 c = search needs
 
+cast-t13 : tie.Need-cast-t13
+cast-t13 c = search needs
+
 returns : tie.Need-returns
 unfolding wordsFor
 returns c = refl
 
 pub words-for-spec : {M : Type 1} → statement M
-words-for-spec = tie.close (tie.spec cast-t5 cast-t6 cast-t7 cast-t11 cast-t12 returns)
+words-for-spec = tie.close (tie.spec cast-t5 cast-t6 cast-t7 cast-t11 cast-t12 cast-t13 returns)

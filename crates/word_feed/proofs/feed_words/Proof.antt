@@ -23,6 +23,9 @@ element-copy-out-ready-size-5 c = search needs
 element-copy-out-ready-size-6 : tie.Need-element-copy-out-ready-size-6
 element-copy-out-ready-size-6 c = search needs
 
+element-copy-out-ready-size-7 : tie.Need-element-copy-out-ready-size-7
+element-copy-out-ready-size-7 c = search needs
+
 ready-size-requires : tie.Need-ready-size-requires
 ready-size-requires c κs = search needs
 
@@ -30,7 +33,7 @@ element-copy-out-place-after : tie.Need-element-copy-out-place-after
 element-copy-out-place-after c = search needs
 
 place-after-requires : tie.Need-place-after-requires
-place-after-requires c κs = ready-place (c .before .before .before .before .before .before .before .before .before .before .args .reader .now) (c .before .before .before .ready-size .result) (ready (c .before .before .before .before .before .before .before .before .before .before .args .reader .now) (c .before .before .before .ready-size .result) (c .before .before .before .ready-size .ensures) (c .before .before .if1 .taken))
+place-after-requires c κs = ready-place (c .before .before .before .before .before .before .before .before .before .before .before .args .reader .now) (c .before .before .before .ready-size .result) (ready (c .before .before .before .before .before .before .before .before .before .before .before .args .reader .now) (c .before .before .before .ready-size .result) (c .before .before .before .ready-size .ensures) (c .before .before .if1 .taken))
 
 element-copy-out-count : tie.Need-element-copy-out-count
 element-copy-out-count c = search needs
@@ -69,7 +72,7 @@ feed-result-requires : tie.Need-feed-result-requires
 feed-result-requires c κs = search needs
 
 returns : tie.Need-returns
-returns c = rw (c .feed-result .ensures, c .before .put-begun .ensures, c .before .before .before .before .before .before .before .before .before .before .before .before .before .before .place-after .ensures, c .before .before .before .before .before .before .before .before .before .before .before .push .ensures, c .before .before .before .row-before .ensures) (opened (c .before .before .before .before .before .before .before .before .before .before .before .before .before .before .before .before .before .before .before .before .before .before .before .before .before .args .reader .now) (c .before .before .before .before .before .before .before .before .before .before .before .before .before .before .before .before .before .before .before .before .before .before .before .before .before .args .symbol) (c .before .before .before .before .before .before .before .before .before .before .before .before .before .before .before .before .before .before .ready-size .result) (ready (c .before .before .before .before .before .before .before .before .before .before .before .before .before .before .before .before .before .before .before .before .before .before .before .before .before .args .reader .now) (c .before .before .before .before .before .before .before .before .before .before .before .before .before .before .before .before .before .before .ready-size .result) (c .before .before .before .before .before .before .before .before .before .before .before .before .before .before .before .before .before .before .ready-size .ensures) (c .before .before .before .before .before .before .before .before .before .before .before .before .before .before .before .before .before .if1 .taken)) (c .before .before .before .before .before .before .before .before .before .before .before .before .before .before .before .before .if2 .taken) (rw (← c .before .before .before .before .before .before .before .before .format-in .ensures) (sym (c .before .before .before .before .before .before .opens-frame .ensures) ∙ c .before .before .before .before .before .if3 .taken)))
+returns c = rw (c .feed-result .ensures, c .before .put-begun .ensures, c .before .before .before .before .before .before .before .before .before .before .before .before .before .before .place-after .ensures, c .before .before .before .before .before .before .before .before .before .before .before .push .ensures, c .before .before .before .row-before .ensures) (opened (c .before .before .before .before .before .before .before .before .before .before .before .before .before .before .before .before .before .before .before .before .before .before .before .before .before .before .args .reader .now) (c .before .before .before .before .before .before .before .before .before .before .before .before .before .before .before .before .before .before .before .before .before .before .before .before .before .before .args .symbol) (c .before .before .before .before .before .before .before .before .before .before .before .before .before .before .before .before .before .before .ready-size .result) (ready (c .before .before .before .before .before .before .before .before .before .before .before .before .before .before .before .before .before .before .before .before .before .before .before .before .before .before .args .reader .now) (c .before .before .before .before .before .before .before .before .before .before .before .before .before .before .before .before .before .before .ready-size .result) (c .before .before .before .before .before .before .before .before .before .before .before .before .before .before .before .before .before .before .ready-size .ensures) (c .before .before .before .before .before .before .before .before .before .before .before .before .before .before .before .before .before .if1 .taken)) (c .before .before .before .before .before .before .before .before .before .before .before .before .before .before .before .before .if2 .taken) (rw (← c .before .before .before .before .before .before .before .before .format-in .ensures) (sym (c .before .before .before .before .before .before .opens-frame .ensures) ∙ c .before .before .before .before .before .if3 .taken)))
 
 put-continued-requires : tie.Need-put-continued-requires
 put-continued-requires c κs = search needs
@@ -78,7 +81,7 @@ feed-result-requires-2 : tie.Need-feed-result-requires-2
 feed-result-requires-2 c κs = search needs
 
 returns-2 : tie.Need-returns-2
-returns-2 c = rw (c .feed-result2 .ensures, c .before .put-continued .ensures, c .before .before .before .before .before .before .before .before .before .before .before .before .before .place-after .ensures, c .before .before .before .before .before .before .before .before .before .before .push .ensures) (none-under-way (c .before .before .before .before .before .before .before .before .before .before .before .before .before .before .before .before .before .before .before .before .before .before .before .before .args .reader .now) (c .before .before .before .before .before .before .before .before .before .before .before .before .before .before .before .before .before .before .before .before .before .before .before .before .args .symbol) (c .before .before .before .before .before .before .before .before .before .before .before .before .before .before .before .before .before .ready-size .result) (ready (c .before .before .before .before .before .before .before .before .before .before .before .before .before .before .before .before .before .before .before .before .before .before .before .before .args .reader .now) (c .before .before .before .before .before .before .before .before .before .before .before .before .before .before .before .before .before .ready-size .result) (c .before .before .before .before .before .before .before .before .before .before .before .before .before .before .before .before .before .ready-size .ensures) (c .before .before .before .before .before .before .before .before .before .before .before .before .before .before .before .before .if1 .taken)) (c .before .before .before .before .before .before .before .before .before .before .before .before .before .before .before .if2 .taken) (rw (← c .before .before .before .before .before .before .before .format-in .ensures) (sym (c .before .before .before .before .before .opens-frame .ensures) ∙ c .before .before .before .before .if3 .left)) (c .before .before .before .if4 .taken))
+returns-2 c = rw (c .feed-result2 .ensures, c .before .put-continued .ensures, c .before .before .before .before .before .before .before .before .before .before .before .before .before .place-after .ensures, c .before .before .before .before .before .before .before .before .before .before .push .ensures) (none-under-way (c .before .before .before .before .before .before .before .before .before .before .before .before .before .before .before .before .before .before .before .before .before .before .before .before .before .args .reader .now) (c .before .before .before .before .before .before .before .before .before .before .before .before .before .before .before .before .before .before .before .before .before .before .before .before .before .args .symbol) (c .before .before .before .before .before .before .before .before .before .before .before .before .before .before .before .before .before .ready-size .result) (ready (c .before .before .before .before .before .before .before .before .before .before .before .before .before .before .before .before .before .before .before .before .before .before .before .before .before .args .reader .now) (c .before .before .before .before .before .before .before .before .before .before .before .before .before .before .before .before .before .ready-size .result) (c .before .before .before .before .before .before .before .before .before .before .before .before .before .before .before .before .before .ready-size .ensures) (c .before .before .before .before .before .before .before .before .before .before .before .before .before .before .before .before .if1 .taken)) (c .before .before .before .before .before .before .before .before .before .before .before .before .before .before .before .if2 .taken) (rw (← c .before .before .before .before .before .before .before .format-in .ensures) (sym (c .before .before .before .before .before .opens-frame .ensures) ∙ c .before .before .before .before .if3 .left)) (c .before .before .before .if4 .taken))
 
 put-begun-requires-2 : tie.Need-put-begun-requires-2
 put-begun-requires-2 c κs = search needs
@@ -87,7 +90,7 @@ feed-result-requires-3 : tie.Need-feed-result-requires-3
 feed-result-requires-3 c κs = search needs
 
 returns-3 : tie.Need-returns-3
-returns-3 c = rw (c .feed-result3 .ensures, c .before .put-begun2 .ensures, c .before .before .before .before .before .before .before .before .before .before .before .before .before .before .place-after .ensures, c .before .before .before .before .before .before .before .before .before .before .before .push .ensures) (after-whole (c .before .before .before .before .before .before .before .before .before .before .before .before .before .before .before .before .before .before .before .before .before .before .before .before .before .args .reader .now) (c .before .before .before .before .before .before .before .before .before .before .before .before .before .before .before .before .before .before .before .before .before .before .before .before .before .args .symbol) (c .before .before .before .before .before .before .before .before .before .before .before .before .before .before .before .before .before .before .ready-size .result) (ready (c .before .before .before .before .before .before .before .before .before .before .before .before .before .before .before .before .before .before .before .before .before .before .before .before .before .args .reader .now) (c .before .before .before .before .before .before .before .before .before .before .before .before .before .before .before .before .before .before .ready-size .result) (c .before .before .before .before .before .before .before .before .before .before .before .before .before .before .before .before .before .before .ready-size .ensures) (c .before .before .before .before .before .before .before .before .before .before .before .before .before .before .before .before .before .if1 .taken)) (c .before .before .before .before .before .before .before .before .before .before .before .before .before .before .before .before .if2 .taken) (rw (← c .before .before .before .before .before .before .before .before .format-in .ensures) (sym (c .before .before .before .before .before .before .opens-frame .ensures) ∙ c .before .before .before .before .before .if3 .left)) (c .before .before .before .before .if4 .left) (c .before .before .before .if5 .taken))
+returns-3 c = rw (c .feed-result3 .ensures, c .before .put-begun2 .ensures, c .before .before .before .before .before .before .before .before .before .before .before .before .before .before .place-after .ensures, c .before .before .before .before .before .before .before .before .before .before .before .push .ensures) (after-whole (c .before .before .before .before .before .before .before .before .before .before .before .before .before .before .before .before .before .before .before .before .before .before .before .before .before .before .args .reader .now) (c .before .before .before .before .before .before .before .before .before .before .before .before .before .before .before .before .before .before .before .before .before .before .before .before .before .before .args .symbol) (c .before .before .before .before .before .before .before .before .before .before .before .before .before .before .before .before .before .before .ready-size .result) (ready (c .before .before .before .before .before .before .before .before .before .before .before .before .before .before .before .before .before .before .before .before .before .before .before .before .before .before .args .reader .now) (c .before .before .before .before .before .before .before .before .before .before .before .before .before .before .before .before .before .before .ready-size .result) (c .before .before .before .before .before .before .before .before .before .before .before .before .before .before .before .before .before .before .ready-size .ensures) (c .before .before .before .before .before .before .before .before .before .before .before .before .before .before .before .before .before .if1 .taken)) (c .before .before .before .before .before .before .before .before .before .before .before .before .before .before .before .before .if2 .taken) (rw (← c .before .before .before .before .before .before .before .before .format-in .ensures) (sym (c .before .before .before .before .before .before .opens-frame .ensures) ∙ c .before .before .before .before .before .if3 .left)) (c .before .before .before .before .if4 .left) (c .before .before .before .if5 .taken))
 
 add-if6 : tie.Need-add-if6
 add-if6 c = search needs
@@ -105,7 +108,7 @@ feed-result-requires-4 : tie.Need-feed-result-requires-4
 feed-result-requires-4 c κs = search needs
 
 returns-4 : tie.Need-returns-4
-returns-4 c = rw (c .feed-result4 .ensures, c .before .put-continued2 .ensures, c .before .before .before .before .before .before .before .before .before .before .before .before .before .before .before .before .place-after .ensures, c .before .before .before .before .before .before .before .before .before .before .before .before .before .push .ensures) (joined (c .before .before .before .before .before .before .before .before .before .before .before .before .before .before .before .before .before .before .before .before .before .before .before .before .before .before .before .args .reader .now) (c .before .before .before .before .before .before .before .before .before .before .before .before .before .before .before .before .before .before .before .before .before .before .before .before .before .before .before .args .symbol) (c .before .before .before .before .before .before .before .before .before .before .before .before .before .before .before .before .before .before .before .before .ready-size .result) (ready (c .before .before .before .before .before .before .before .before .before .before .before .before .before .before .before .before .before .before .before .before .before .before .before .before .before .before .before .args .reader .now) (c .before .before .before .before .before .before .before .before .before .before .before .before .before .before .before .before .before .before .before .before .ready-size .result) (c .before .before .before .before .before .before .before .before .before .before .before .before .before .before .before .before .before .before .before .before .ready-size .ensures) (c .before .before .before .before .before .before .before .before .before .before .before .before .before .before .before .before .before .before .before .if1 .taken)) (c .before .before .before .before .before .before .before .before .before .before .before .before .before .before .before .before .before .before .if2 .taken) (rw (← c .before .before .before .before .before .before .before .before .before .before .format-in .ensures) (sym (c .before .before .before .before .before .before .before .before .opens-frame .ensures) ∙ c .before .before .before .before .before .before .before .if3 .left)) (c .before .before .before .before .before .before .if4 .left) (c .before .before .before .before .before .if5 .left) (c .before .before .before .before .if6 .taken) (c .before .before .before .if7 .taken))
+returns-4 c = rw (c .feed-result4 .ensures, c .before .put-continued2 .ensures, c .before .before .before .before .before .before .before .before .before .before .before .before .before .before .before .before .place-after .ensures, c .before .before .before .before .before .before .before .before .before .before .before .before .before .push .ensures) (joined (c .before .before .before .before .before .before .before .before .before .before .before .before .before .before .before .before .before .before .before .before .before .before .before .before .before .before .before .before .args .reader .now) (c .before .before .before .before .before .before .before .before .before .before .before .before .before .before .before .before .before .before .before .before .before .before .before .before .before .before .before .before .args .symbol) (c .before .before .before .before .before .before .before .before .before .before .before .before .before .before .before .before .before .before .before .before .ready-size .result) (ready (c .before .before .before .before .before .before .before .before .before .before .before .before .before .before .before .before .before .before .before .before .before .before .before .before .before .before .before .before .args .reader .now) (c .before .before .before .before .before .before .before .before .before .before .before .before .before .before .before .before .before .before .before .before .ready-size .result) (c .before .before .before .before .before .before .before .before .before .before .before .before .before .before .before .before .before .before .before .before .ready-size .ensures) (c .before .before .before .before .before .before .before .before .before .before .before .before .before .before .before .before .before .before .before .if1 .taken)) (c .before .before .before .before .before .before .before .before .before .before .before .before .before .before .before .before .before .before .if2 .taken) (rw (← c .before .before .before .before .before .before .before .before .before .before .format-in .ensures) (sym (c .before .before .before .before .before .before .before .before .opens-frame .ensures) ∙ c .before .before .before .before .before .before .before .if3 .left)) (c .before .before .before .before .before .before .if4 .left) (c .before .before .before .before .before .if5 .left) (c .before .before .before .before .if6 .taken) (c .before .before .before .if7 .taken))
 
 feed-by-value-requires : tie.Need-feed-by-value-requires
 feed-by-value-requires c κs = search needs
@@ -123,6 +126,7 @@ feed-words-spec =
     element-copy-out-ready-size-4
     element-copy-out-ready-size-5
     element-copy-out-ready-size-6
+    element-copy-out-ready-size-7
     ready-size-requires
     element-copy-out-place-after
     place-after-requires

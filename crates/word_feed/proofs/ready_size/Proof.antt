@@ -20,29 +20,28 @@ byte-in-requires c κs = search needs
 is-setting-requires : tie.Need-is-setting-requires
 is-setting-requires c κs = search needs
 
+time-fits-requires : tie.Need-time-fits-requires
+time-fits-requires c κs = search needs
+
 returns : tie.Need-returns
 unfolding readySize
-returns c = rw (← c .before .before .before .before .before .before .before .before .before .format-in .ensures, ← c .before .before .before .before .before .before .before .before .is-known .ensures, c .before .before .before .before .before .before .before .if1 .taken, ← c .before .before .before .before .before .before .frame-size .ensures .0, lt-ltb _ _ (c .before .before .before .before .before .if2 .taken), ← c .before .before .before .before .byte-in .ensures, ← c .before .before .before .is-setting .ensures, c .before .before .if3 .taken, lt-ltb _ _ (c .before .if4 .taken), lt-ltb _ _ (c .if5 .taken))
+returns c = rw (← c .before .before .before .before .before .before .before .before .before .format-in .ensures, ← c .before .before .before .before .before .before .before .before .is-known .ensures, c .before .before .before .before .before .before .before .if1 .taken, ← c .before .before .before .before .before .before .frame-size .ensures .0, lt-ltb _ _ (c .before .before .before .before .before .if2 .taken), ← c .before .before .before .before .byte-in .ensures, ← c .before .before .before .is-setting .ensures, c .before .before .if3 .taken, ← c .before .time-fits .ensures, c .if4 .taken)
 
 returns-2 : tie.Need-returns-2
 unfolding readySize
-returns-2 c = rw (← c .before .before .before .before .before .before .before .before .before .format-in .ensures, ← c .before .before .before .before .before .before .before .before .is-known .ensures, c .before .before .before .before .before .before .before .if1 .taken, ← c .before .before .before .before .before .before .frame-size .ensures .0, lt-ltb _ _ (c .before .before .before .before .before .if2 .taken), ← c .before .before .before .before .byte-in .ensures, ← c .before .before .before .is-setting .ensures, c .before .before .if3 .taken, lt-ltb _ _ (c .before .if4 .taken), le-ltb _ _ (c .if5 .left))
+returns-2 c = rw (← c .before .before .before .before .before .before .before .before .before .format-in .ensures, ← c .before .before .before .before .before .before .before .before .is-known .ensures, c .before .before .before .before .before .before .before .if1 .taken, ← c .before .before .before .before .before .before .frame-size .ensures .0, lt-ltb _ _ (c .before .before .before .before .before .if2 .taken), ← c .before .before .before .before .byte-in .ensures, ← c .before .before .before .is-setting .ensures, c .before .before .if3 .taken, ← c .before .time-fits .ensures, c .if4 .left)
 
 returns-3 : tie.Need-returns-3
 unfolding readySize
-returns-3 c = rw (← c .before .before .before .before .before .before .before .before .format-in .ensures, ← c .before .before .before .before .before .before .before .is-known .ensures, c .before .before .before .before .before .before .if1 .taken, ← c .before .before .before .before .before .frame-size .ensures .0, lt-ltb _ _ (c .before .before .before .before .if2 .taken), ← c .before .before .before .byte-in .ensures, ← c .before .before .is-setting .ensures, c .before .if3 .taken, le-ltb _ _ (c .if4 .left))
+returns-3 c = rw (← c .before .before .before .before .before .before .before .format-in .ensures, ← c .before .before .before .before .before .before .is-known .ensures, c .before .before .before .before .before .if1 .taken, ← c .before .before .before .before .frame-size .ensures .0, lt-ltb _ _ (c .before .before .before .if2 .taken), ← c .before .before .byte-in .ensures, ← c .before .is-setting .ensures, c .if3 .left)
 
 returns-4 : tie.Need-returns-4
 unfolding readySize
-returns-4 c = rw (← c .before .before .before .before .before .before .before .format-in .ensures, ← c .before .before .before .before .before .before .is-known .ensures, c .before .before .before .before .before .if1 .taken, ← c .before .before .before .before .frame-size .ensures .0, lt-ltb _ _ (c .before .before .before .if2 .taken), ← c .before .before .byte-in .ensures, ← c .before .is-setting .ensures, c .if3 .left)
+returns-4 c = rw (← c .before .before .before .before .format-in .ensures, ← c .before .before .before .is-known .ensures, c .before .before .if1 .taken, ← c .before .frame-size .ensures .0, le-ltb _ _ (c .if2 .left))
 
 returns-5 : tie.Need-returns-5
 unfolding readySize
-returns-5 c = rw (← c .before .before .before .before .format-in .ensures, ← c .before .before .before .is-known .ensures, c .before .before .if1 .taken, ← c .before .frame-size .ensures .0, le-ltb _ _ (c .if2 .left))
-
-returns-6 : tie.Need-returns-6
-unfolding readySize
-returns-6 c = rw (← c .before .before .format-in .ensures, ← c .before .is-known .ensures, c .if1 .left)
+returns-5 c = rw (← c .before .before .format-in .ensures, ← c .before .is-known .ensures, c .if1 .left)
 
 pub ready-size-spec : {M : Type 1} → statement M
 ready-size-spec =
@@ -53,9 +52,9 @@ ready-size-spec =
     frame-size-requires
     byte-in-requires
     is-setting-requires
+    time-fits-requires
     returns
     returns-2
     returns-3
     returns-4
-    returns-5
-    returns-6)
+    returns-5)
