@@ -7,6 +7,7 @@ use native.Mathlib.Numerals.{add-one}
 use native.Mathlib.Omega.{arith}
 use lib.ListN.{getD, length, take, drop, length-drop, take-append-drop, List·getD-map}
 use lib.Seq.{take-suc, take-add, take-length}
+use Rattle.timecode.specs.Frames.{noTime}
 use Rattle.timecode.specs.Laws.Tests.{by-test, and-left, and-right}
 use Rattle.timecode.specs.Stream.{isSetting}
 use Rattle.timecode.specs.declared.Answer.{Answer}
@@ -16,7 +17,7 @@ use Rattle.stream.specs.Feeding.{isValid, nextOf, answerOf, feedOf}
 use Rattle.stream.specs.Refinement.{answers, readerAfter}
 use Rattle.stream.specs.declared.Reader.{Reader}
 use Rattle.stream.specs.FeedLists.{length-feed-answers}
-use Rattle.block.specs.Blocks.{Reported, reportAt, Block, stopped, withFirst, blockIn, blockOf, Lists, roomIn, areRecords, fieldLeft, indexOf, dayOf, hundredthsOf, controlOf, listsLeft, blockFor, blockAnswer, feedBlockOf}
+use Rattle.block.specs.Blocks.{Reported, reportAt, Block, stopped, withFirst, blockIn, blockOf, Lists, roomIn, areRecords, fieldLeft, indexOf, yearOf, dayOf, hundredthsOf, controlOf, listsLeft, blockFor, blockAnswer, feedBlockOf}
 use Rattle.block.specs.Folds.{block-takes, left-first}
 use Rattle.block.specs.declared.BlockAnswer.{BlockAnswer}
 use Rattle.block.specs.declared.FedBlock.{FedBlock}
@@ -38,7 +39,7 @@ recordLines e (r ∷ rs) = recordLine e r ++ recordLines e rs
 
 -- the record at an index of the lent list
 abbrev pub recordAt : Lists → ℕ → Reported
-recordAt l k = reportAt (getD (l .indexes) k 0) (record { day = getD (l .days) k 0; hundredths = getD (l .hundredths) k 0 }) (getD (l .controls) k 0)
+recordAt l k = reportAt (getD (l .indexes) k 0) (record { year = getD (l .years) k 0; day = getD (l .days) k 0; hundredths = getD (l .hundredths) k 0 }) (getD (l .controls) k 0)
 
 -- the lines of the list's first records
 unfoldable pub firstLines : ℕ → Lists → ℕ → List ℕ
@@ -63,7 +64,7 @@ lines-append e (r ∷ rs) qs = ap (λ (t : List ℕ). recordLine e r ++ t) (line
 
 module _ (b : Block) (l : Lists) where
   abbrev none : Reported
-  none = reportAt 0 (record { day = 0; hundredths = 0 }) 0
+  none = reportAt 0 (noTime) 0
 
   field-at : (field : Reported → ℕ) (entries : List ℕ) (k : ℕ) → field none ≡ 0 → k < length (b .reports) → getD (fieldLeft field b entries) k 0 ≡ field (getD (b .reports) k none)
   field-at field entries k z h = left-first field b entries k h ∙ ap (getD (map field (b .reports)) k) (sym z) ∙ List·getD-map field (b .reports) k none
@@ -73,6 +74,7 @@ module _ (b : Block) (l : Lists) where
   record-left k h =
       rw (
         field-at indexOf (l .indexes) k refl h,
+        field-at yearOf (l .years) k refl h,
         field-at dayOf (l .days) k refl h,
         field-at hundredthsOf (l .hundredths) k refl h,
         field-at controlOf (l .controls) k refl h,

@@ -53,6 +53,7 @@ fn reports_of(answer: BlockAnswer) -> usize
 fn put_lines(
     elements: u64,
     indexes: &[usize],
+    years: &[u8],
     days: &[u16],
     hundredths: &[u32],
     controls: &[u64],
@@ -60,8 +61,8 @@ fn put_lines(
     out: &mut [u8],
     start: usize,
 ) -> usize
-    requires { ⌜ (count ≤ length (now indexes)) × (count ≤ length (now days)) × (count ≤ length (now hundredths)) × (count ≤ length (now controls)) × (start + 64 * count ≤ 65536) × (length (now out) ≡ 65536) ⌝ }
-    ensures { λ r. ⌜ (r ≤ start + 64 * count) × (length (now (out .exit)) ≡ 65536) × (take r (now (out .exit)) ≡ take start (now (out .entry)) ++ firstLines elements (lists (now (indexes .entry)) (now (days .entry)) (now (hundredths .entry)) (now (controls .entry))) count) ⌝ }
+    requires { ⌜ (count ≤ length (now indexes)) × (count ≤ length (now years)) × (count ≤ length (now days)) × (count ≤ length (now hundredths)) × (count ≤ length (now controls)) × (start + 64 * count ≤ 65536) × (length (now out) ≡ 65536) ⌝ }
+    ensures { λ r. ⌜ (r ≤ start + 64 * count) × (length (now (out .exit)) ≡ 65536) × (take r (now (out .exit)) ≡ take start (now (out .entry)) ++ firstLines elements (lists (now (indexes .entry)) (now (years .entry)) (now (days .entry)) (now (hundredths .entry)) (now (controls .entry))) count) ⌝ }
 {
     let first = one_more(elements);
     let mut filled = start;
@@ -69,6 +70,7 @@ fn put_lines(
     while k < count {
         let element = more_by(first, indexes[k]);
         let time = Time {
+            year: years[k],
             day: days[k],
             hundredths: hundredths[k],
         };
@@ -108,6 +110,7 @@ fn hear_block(progress: Progress, symbols: &[u8], out: &mut [u8], at: usize) -> 
     ensures { λ r. ⌜ (1 ≤ r .taken) × (r .taken ≤ length (now (symbols .entry))) × (r .filled ≤ at + 64 * r .taken) × (length (now (out .exit)) ≡ 65536) × (r .progress ≡ afterFeeds progress (take (r .taken) (now (symbols .entry)))) × (take (r .filled) (now (out .exit)) ≡ take at (now (out .entry)) ++ textFeeds progress (take (r .taken) (now (symbols .entry)))) ⌝ }
 {
     let mut indexes = [0usize; 16];
+    let mut years = [0u8; 16];
     let mut days = [0u16; 16];
     let mut hundredths = [0u32; 16];
     let mut controls = [0u64; 16];
@@ -116,6 +119,7 @@ fn hear_block(progress: Progress, symbols: &[u8], out: &mut [u8], at: usize) -> 
         reader,
         symbols,
         &mut indexes,
+        &mut years,
         &mut days,
         &mut hundredths,
         &mut controls,
@@ -124,6 +128,7 @@ fn hear_block(progress: Progress, symbols: &[u8], out: &mut [u8], at: usize) -> 
     let filled = put_lines(
         progress.elements,
         &indexes,
+        &years,
         &days,
         &hundredths,
         &controls,

@@ -71,9 +71,9 @@ feeds-of-frames f (s ∷ ss) =
 
 -- ---- the first line
 
-known-digit : (f : Format) → known f ≡ true → f .expression ≤ 3
+known-digit : (f : Format) → known f ≡ true → f .expression ≤ 7
 unfolding everyFormat table
-known-digit f k = leb-true (f .expression) 3 (of-every (λ g. leb (g .expression) 3) refl f k)
+known-digit f k = leb-true (f .expression) 7 (of-every (λ g. leb (g .expression) 7) refl f k)
 
 expression-back : (f : Format) → known f ≡ true → 48 + f .expression % 10 - 48 ≡ f .expression
 expression-back f k = omega (arith, known-digit f k)

@@ -22,7 +22,7 @@ use Rattle.progress.proofs.feed_one.Reads as feed-one-reads
 
 -- the lent list before the block, with room for 16 reports
 abbrev blank : Lists
-blank = lists (replicate 16 0) (replicate 16 0) (replicate 16 0) (replicate 16 0)
+blank = lists (replicate 16 0) (replicate 16 0) (replicate 16 0) (replicate 16 0) (replicate 16 0)
 
 are-records : areRecords blank ≡ true
 are-records = refl
@@ -39,6 +39,9 @@ slice-aggregate-feed-block-3 c = search needs
 slice-aggregate-feed-block-4 : tie.Need-slice-aggregate-feed-block-4
 slice-aggregate-feed-block-4 c = search needs
 
+slice-aggregate-feed-block-5 : tie.Need-slice-aggregate-feed-block-5
+slice-aggregate-feed-block-5 c = search needs
+
 feed-block-requires : tie.Need-feed-block-requires
 feed-block-requires c κs = search needs
 
@@ -54,19 +57,22 @@ slice-aggregate-put-lines-3 c = search needs
 slice-aggregate-put-lines-4 : tie.Need-slice-aggregate-put-lines-4
 slice-aggregate-put-lines-4 c = search needs
 
+slice-aggregate-put-lines-5 : tie.Need-slice-aggregate-put-lines-5
+slice-aggregate-put-lines-5 c = search needs
+
 reports-of-requires : tie.Need-reports-of-requires
 reports-of-requires c κs = search needs
 
 put-lines-requires : tie.Need-put-lines-requires
 put-lines-requires c κs =
-    let a = c .before .before .before .before .before .before .before .before .before .before .before .before .before .before .before .before .before .before .args in
-    let pre = c .before .before .before .before .before .before .before .before .before .before .before .before .before .before .before .before .before .before .pre in
-    let fed = c .before .before .before .before .before .before .before .before .before .before .feed-block .ensures .0 in
+    let a = c .before .before .before .before .before .before .before .before .before .before .before .before .before .before .before .before .before .before .before .before .before .args in
+    let pre = c .before .before .before .before .before .before .before .before .before .before .before .before .before .before .before .before .before .before .before .before .before .pre in
+    let fed = c .before .before .before .before .before .before .before .before .before .before .before .before .feed-block .ensures .0 in
     let reports = c .before .reports-of in
     let fits : reports .result ≤ 16 = rw (reports .ensures) (fed-fits (a .progress) (a .symbols .now) blank are-records _ fed) in
     let most : reports .result ≤ length (a .symbols .now) =
     omega (arith, reports .ensures, fed-few (a .progress) (a .symbols .now) blank are-records _ fed, fed-within (a .progress) (a .symbols .now) blank are-records _ fed) in
-    (omega arith, omega arith, omega arith, omega arith, omega (arith, pre .2), pre .3)
+    (omega arith, omega arith, omega arith, omega arith, omega arith, omega (arith, pre .2), pre .3)
 
 progress-after-requires : tie.Need-progress-after-requires
 progress-after-requires c κs = search needs
@@ -82,9 +88,9 @@ same-length c = search needs
 
 returns : tie.Need-returns
 returns c =
-    let a = c .before .before .before .before .before .before .before .before .before .before .before .before .before .before .before .before .before .before .before .before .before .before .before .before .before .args in
-    let pre = c .before .before .before .before .before .before .before .before .before .before .before .before .before .before .before .before .before .before .before .before .before .before .before .before .before .pre in
-    let fed = c .before .before .before .before .before .before .before .before .before .before .before .before .before .before .before .before .before .feed-block .ensures in
+    let a = c .before .before .before .before .before .before .before .before .before .before .before .before .before .before .before .before .before .before .before .before .before .before .before .before .before .before .before .before .args in
+    let pre = c .before .before .before .before .before .before .before .before .before .before .before .before .before .before .before .before .before .before .before .before .before .before .before .before .before .before .before .before .pre in
+    let fed = c .before .before .before .before .before .before .before .before .before .before .before .before .before .before .before .before .before .before .before .feed-block .ensures in
     let put = c .before .before .before .before .before .before .put-lines .ensures in
     let taken = c .before .before .taken-of in
     let part = fed-taken (a .progress) (a .symbols .now) blank are-records _ (fed .0) (pre .0) _ (fed .1) _ (c .before .before .before .before .before .before .before .before .reports-of .ensures) (take (a .at) (a .out .now)) _ (put .2) (taken .result) (taken .ensures) in
@@ -95,15 +101,15 @@ returns c =
 
 shared-slice-read-feed-one : tie.Need-shared-slice-read-feed-one
 shared-slice-read-feed-one c =
-    let a = c .before .before .before .before .before .before .before .before .before .before .before .before .before .before .before .before .before .before .before .before .before .before .before .before .before .args in
-    let within : c .before .before .taken-of .result ≤ length (a .symbols .now) = rw (c .before .before .taken-of .ensures) (fed-within (a .progress) (a .symbols .now) blank are-records _ (c .before .before .before .before .before .before .before .before .before .before .before .before .before .before .before .before .before .feed-block .ensures .0)) in
+    let a = c .before .before .before .before .before .before .before .before .before .before .before .before .before .before .before .before .before .before .before .before .before .before .before .before .before .before .before .before .args in
+    let within : c .before .before .taken-of .result ≤ length (a .symbols .now) = rw (c .before .before .taken-of .ensures) (fed-within (a .progress) (a .symbols .now) blank are-records _ (c .before .before .before .before .before .before .before .before .before .before .before .before .before .before .before .before .before .before .before .feed-block .ensures .0)) in
     omega (arith, c .before .if1 .left)
 
 feed-one-requires : tie.Need-feed-one-requires
 feed-one-requires c κs =
-    let a = c .before .before .before .before .before .before .before .before .before .before .before .before .before .before .before .before .before .before .before .before .before .before .before .before .before .before .args in
-    let pre = c .before .before .before .before .before .before .before .before .before .before .before .before .before .before .before .before .before .before .before .before .before .before .before .before .before .before .pre in
-    let fed = c .before .before .before .before .before .before .before .before .before .before .before .before .before .before .before .before .before .before .feed-block .ensures .0 in
+    let a = c .before .before .before .before .before .before .before .before .before .before .before .before .before .before .before .before .before .before .before .before .before .before .before .before .before .before .before .before .before .args in
+    let pre = c .before .before .before .before .before .before .before .before .before .before .before .before .before .before .before .before .before .before .before .before .before .before .before .before .before .before .before .before .before .pre in
+    let fed = c .before .before .before .before .before .before .before .before .before .before .before .before .before .before .before .before .before .before .before .before .feed-block .ensures .0 in
     let put = c .before .before .before .before .before .before .before .put-lines .ensures in
     let taken = c .before .before .before .taken-of in
     let within : taken .result ≤ length (a .symbols .now) = rw (taken .ensures) (fed-within (a .progress) (a .symbols .now) blank are-records _ fed) in
@@ -112,9 +118,9 @@ feed-one-requires c κs =
 
 add-heard-at : tie.Need-add-heard-at
 add-heard-at c =
-    let a = c .before .before .before .before .before .before .before .before .before .before .before .before .before .before .before .before .before .before .before .before .before .before .before .before .before .before .before .before .before .args in
-    let within : c .before .before .before .before .before .before .taken-of .result ≤ length (a .symbols .now) = rw (c .before .before .before .before .before .before .taken-of .ensures) (fed-within (a .progress) (a .symbols .now) blank are-records _ (c .before .before .before .before .before .before .before .before .before .before .before .before .before .before .before .before .before .before .before .before .before .feed-block .ensures .0)) in
-    omega (arith, c .before .before .before .before .before .if1 .left, c .before .before .before .before .before .before .before .before .before .before .before .before .before .before .before .before .before .before .before .before .before .before .before .before .before .before .before .before .before .pre .2)
+    let a = c .before .before .before .before .before .before .before .before .before .before .before .before .before .before .before .before .before .before .before .before .before .before .before .before .before .before .before .before .before .before .before .before .args in
+    let within : c .before .before .before .before .before .before .taken-of .result ≤ length (a .symbols .now) = rw (c .before .before .before .before .before .before .taken-of .ensures) (fed-within (a .progress) (a .symbols .now) blank are-records _ (c .before .before .before .before .before .before .before .before .before .before .before .before .before .before .before .before .before .before .before .before .before .before .before .feed-block .ensures .0)) in
+    omega (arith, c .before .before .before .before .before .if1 .left, c .before .before .before .before .before .before .before .before .before .before .before .before .before .before .before .before .before .before .before .before .before .before .before .before .before .before .before .before .before .before .before .before .pre .2)
 
 heard-at-requires-2 : tie.Need-heard-at-requires-2
 heard-at-requires-2 c κs = search needs
@@ -124,9 +130,9 @@ same-length-2 c = search needs
 
 returns-2 : tie.Need-returns-2
 returns-2 c =
-    let a = c .before .before .before .before .before .before .before .before .before .before .before .before .before .before .before .before .before .before .before .before .before .before .before .before .before .before .before .before .before .before .args in
-    let pre = c .before .before .before .before .before .before .before .before .before .before .before .before .before .before .before .before .before .before .before .before .before .before .before .before .before .before .before .before .before .before .pre in
-    let fed = c .before .before .before .before .before .before .before .before .before .before .before .before .before .before .before .before .before .before .before .before .before .before .feed-block .ensures in
+    let a = c .before .before .before .before .before .before .before .before .before .before .before .before .before .before .before .before .before .before .before .before .before .before .before .before .before .before .before .before .before .before .before .before .before .args in
+    let pre = c .before .before .before .before .before .before .before .before .before .before .before .before .before .before .before .before .before .before .before .before .before .before .before .before .before .before .before .before .before .before .before .before .before .pre in
+    let fed = c .before .before .before .before .before .before .before .before .before .before .before .before .before .before .before .before .before .before .before .before .before .before .before .before .feed-block .ensures in
     let put = c .before .before .before .before .before .before .before .before .before .before .before .put-lines .ensures in
     let one = c .before .before .before .feed-one .ensures in
     let taken = c .before .before .before .before .before .before .before .taken-of in
@@ -146,11 +152,13 @@ hear-block-spec =
     slice-aggregate-feed-block-2
     slice-aggregate-feed-block-3
     slice-aggregate-feed-block-4
+    slice-aggregate-feed-block-5
     feed-block-requires
     slice-aggregate-put-lines
     slice-aggregate-put-lines-2
     slice-aggregate-put-lines-3
     slice-aggregate-put-lines-4
+    slice-aggregate-put-lines-5
     reports-of-requires
     put-lines-requires
     progress-after-requires

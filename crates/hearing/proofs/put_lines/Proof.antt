@@ -16,17 +16,17 @@ use Rattle.progress.proofs.one_more.Reads as one-more-reads
 use Rattle.progress.proofs.put_report.Reads as put-report-reads
 
 abbrev Inv-loop : tie.InvT-loop
-Inv-loop elements indexes days hundredths controls count out₀ start first filled₀ k₀ out filled k =
-    (take filled out ≡ take start out₀ ++ firstLines elements (lists indexes days hundredths controls) k) × (k ≤ count) × (filled ≤ start + 64 * k) × (length out ≡ 65536)
+Inv-loop elements indexes years days hundredths controls count out₀ start first filled₀ k₀ out filled k =
+    (take filled out ≡ take start out₀ ++ firstLines elements (lists indexes years days hundredths controls) k) × (k ≤ count) × (filled ≤ start + 64 * k) × (length out ≡ 65536)
 
 abbrev μ-loop : tie.MeasureT-loop
-μ-loop elements indexes days hundredths controls count out₀ start first filled₀ k₀ out filled k = count - k
+μ-loop elements indexes years days hundredths controls count out₀ start first filled₀ k₀ out filled k = count - k
 
 one-more-requires : tie.Need-one-more-requires Inv-loop μ-loop
 one-more-requires c κs = search needs
 
 loop-holds : tie.Need-loop-holds Inv-loop μ-loop
-loop-holds c = (lines-start _ _ _, omega arith, omega arith, c .before .before .before .before .before .before .pre .5)
+loop-holds c = (lines-start _ _ _, omega arith, omega arith, c .before .before .before .before .before .before .before .pre .6)
 
 mul-more-by : tie.Need-mul-more-by Inv-loop μ-loop
 mul-more-by c = search needs
@@ -37,17 +37,20 @@ shared-slice-read-more-by c = search needs
 more-by-requires : tie.Need-more-by-requires Inv-loop μ-loop
 more-by-requires c κs = search needs
 
-mul-t15 : tie.Need-mul-t15 Inv-loop μ-loop
-mul-t15 c = search needs
+shared-slice-read-t20 : tie.Need-shared-slice-read-t20 Inv-loop μ-loop
+shared-slice-read-t20 c = search needs
 
-shared-slice-read-t19 : tie.Need-shared-slice-read-t19 Inv-loop μ-loop
-shared-slice-read-t19 c = search needs
+mul-t16 : tie.Need-mul-t16 Inv-loop μ-loop
+mul-t16 c = search needs
 
-mul-t17 : tie.Need-mul-t17 Inv-loop μ-loop
-mul-t17 c = search needs
+shared-slice-read-t22 : tie.Need-shared-slice-read-t22 Inv-loop μ-loop
+shared-slice-read-t22 c = search needs
 
-shared-slice-read-t21 : tie.Need-shared-slice-read-t21 Inv-loop μ-loop
-shared-slice-read-t21 c = search needs
+mul-t18 : tie.Need-mul-t18 Inv-loop μ-loop
+mul-t18 c = search needs
+
+shared-slice-read-t24 : tie.Need-shared-slice-read-t24 Inv-loop μ-loop
+shared-slice-read-t24 c = search needs
 
 mul-put-report : tie.Need-mul-put-report Inv-loop μ-loop
 mul-put-report c = search needs
@@ -66,18 +69,18 @@ loop-less c = search needs
 
 loop-again : tie.Need-loop-again Inv-loop μ-loop
 loop-again c =
-    let a = c .before .before .before .before .before .before .before .before .before .before .before .before .before .before .before .before .before .args in
-    let loop = c .before .before .before .before .before .before .before .before .before .before .loop in
-    let records = lists (a .indexes .now) (a .days .now) (a .hundredths .now) (a .controls .now) in
+    let a = c .before .before .before .before .before .before .before .before .before .before .before .before .before .before .before .before .before .before .before .args in
+    let loop = c .before .before .before .before .before .before .before .before .before .before .before .loop in
+    let records = lists (a .indexes .now) (a .years .now) (a .days .now) (a .hundredths .now) (a .controls .now) in
     let put = c .before .before .put-report .ensures in
-    (put .2 ∙ lines-more _ records (loop .k) _ _ (take (a .start) (a .out .now)) _ (loop .inv .0) (c .before .before .before .before .before .before .before .before .before .before .before .one-more .ensures) (c .before .before .before .before .before .before .before .more-by .ensures), omega arith, omega (arith, put .0), put .1)
+    (put .2 ∙ lines-more _ records (loop .k) _ _ (take (a .start) (a .out .now)) _ (loop .inv .0) (c .before .before .before .before .before .before .before .before .before .before .before .before .one-more .ensures) (c .before .before .before .before .before .before .before .before .more-by .ensures), omega arith, omega (arith, put .0), put .1)
 
 same-length : tie.Need-same-length Inv-loop μ-loop
 same-length c = search needs
 
 returns : tie.Need-returns Inv-loop μ-loop
 returns c =
-    let all : c .before .loop .k ≡ c .before .before .before .before .before .before .before .before .args .count = omega arith in
+    let all : c .before .loop .k ≡ c .before .before .before .before .before .before .before .before .before .args .count = omega arith in
     (omega arith, c .before .loop .inv .3, rw all at (c .before .loop .inv .0))
 
 pub put-lines-spec : {M : Type 1} → statement M
@@ -91,10 +94,11 @@ put-lines-spec =
     mul-more-by
     shared-slice-read-more-by
     more-by-requires
-    mul-t15
-    shared-slice-read-t19
-    mul-t17
-    shared-slice-read-t21
+    shared-slice-read-t20
+    mul-t16
+    shared-slice-read-t22
+    mul-t18
+    shared-slice-read-t24
     mul-put-report
     shared-slice-read-put-report
     put-report-requires
