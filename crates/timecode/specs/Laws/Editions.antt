@@ -91,7 +91,7 @@ without-with f = λ i. record { letter = f .letter; expression = less i }
 -- ---- a time and a control word in both
 
 module _ (f : Format) (both : Editions f) (t : Time) (w year : ℕ) where
-  later-valid : Valid f t w → year ≤ lastYear → t .day ≤ daysIn year → Valid (withYear f) (timeInYear t year) (w / nineBits)
+  pub later-valid : Valid f t w → year ≤ lastYear → t .day ≤ daysIn year → Valid (withYear f) (timeInYear t year) (w / nineBits)
   unfolding interval rowOf carriesLeap
   later-valid v a b =
       let o = v .time in
@@ -116,7 +116,7 @@ module _ (f : Format) (both : Editions f) (t : Time) (w year : ℕ) where
           (λ y. let n : w < 2 ^ 27 = rw (both .bits, y) at (v .room) in rw (both .later-bits, y) (omega arith))
           (λ m. let n : w < 2 ^ 0 = rw (both .bits, m) at (v .room) in rw (both .later-bits, m) (omega arith))
 
-  earlier-valid : Valid (withYear f) t w → Valid f (timeInYear t 0) (w * nineBits)
+  pub earlier-valid : Valid (withYear f) t w → Valid f (timeInYear t 0) (w * nineBits)
   unfolding interval rowOf carriesLeap
   earlier-valid v =
       let o = v .time in
