@@ -1,11 +1,12 @@
-// The calls as a C interface: numbers, formats and times by value; frames, lists and a reader of thirteen words lent; and one struct back from each call.
-// Every input is allowed. A struct's number is 0 or document 01's; where it is not 0, every other field is 0 but Read's index, and lent memory is as it was.
+// The calls as a C interface: numbers, formats and times by value; frames, lists and a reader of fourteen words lent; and one struct back from each call.
+// Every input is allowed. A struct's number is 0 or document 01's; where it is not 0, every other field is 0 but Read's and the converters' index, and lent memory is as it was.
 ghost use mathlib.Core.Path.{_≡_};
 ghost use Rattle.timecode.specs.Calls.{differenceOf, classifyOf, classifyListOf, classifyListLeaves, scanOf};
+ghost use Rattle.timecode.specs.Editions.{forwardOf, forwardLeaves, backwardOf, backwardLeaves};
 ghost use Rattle.timecode.specs.Frames.{readOf, writeOf, writeLeaves, stepOf, stepBackOf};
 ghost use Rattle.block.specs.Blocks.{lists, listsLeft, blockFor};
 ghost use Rattle.block_words.specs.BlockWords.{blockResultOf, feedBlockWords, blockWordsLeft};
-ghost use Rattle.ffi.specs.Structs.{writeResultOf, readResultOf, stepResultOf, differenceResultOf, classifyResultOf, scanResultOf, feedResultOf};
+ghost use Rattle.ffi.specs.Structs.{writeResultOf, convertResultOf, readResultOf, stepResultOf, differenceResultOf, classifyResultOf, scanResultOf, feedResultOf};
 ghost use Rattle.stream.specs.Feeding.{madeOf};
 ghost use Rattle.pulse_feed.specs.PulseFeeds.{feedPulseOf};
 ghost use Rattle.reader_words.specs.Words.{readerIn, freshResultOf, freshLeft, feedWords, wordsLeft};
@@ -15,7 +16,10 @@ use block_words::put_block;
 use clock::difference;
 use clock::step;
 use clock::step_back;
+use editions::backward;
+use editions::forward;
 use ffi::ClassifyResult;
+use ffi::ConvertResult;
 use ffi::DifferenceResult;
 use ffi::FeedResult;
 use ffi::ReadResult;
@@ -23,6 +27,7 @@ use ffi::ScanResult;
 use ffi::StepResult;
 use ffi::WriteResult;
 use ffi::classify_result;
+use ffi::convert_result;
 use ffi::difference_result;
 use ffi::read_result;
 use ffi::scan_result;
@@ -63,7 +68,34 @@ pub extern "C" fn duskveyra_read(format: Format, frame: &[u8]) -> ReadResult
     read_result(read(format, frame))
 }
 
-// Step: the next time. The kind is that of the given time's day.
+// The forward converter: a frame without the year as the frame of the later edition with it; with 5 and 6 the index.
+#[no_mangle]
+pub extern "C" fn duskveyra_forward(
+    format: Format,
+    frame: &[u8],
+    year: u8,
+    later: &mut [u8],
+) -> ConvertResult
+    ensures { λ r. ⌜ r ≡ convertResultOf (forwardOf format (now (frame .entry)) year (now (later .entry))) ⌝ }
+    ensures { λ _. ⌜ now (later .exit) ≡ forwardLeaves format (now (frame .entry)) year (now (later .entry)) ⌝ }
+{
+    convert_result(forward(format, frame, year, later))
+}
+
+// The backward converter: a frame with the year as the frame of the earlier edition, with zeros where the year stood; with 5 and 6 the index.
+#[no_mangle]
+pub extern "C" fn duskveyra_backward(
+    format: Format,
+    frame: &[u8],
+    earlier: &mut [u8],
+) -> ConvertResult
+    ensures { λ r. ⌜ r ≡ convertResultOf (backwardOf format (now (frame .entry)) (now (earlier .entry))) ⌝ }
+    ensures { λ _. ⌜ now (earlier .exit) ≡ backwardLeaves format (now (frame .entry)) (now (earlier .entry)) ⌝ }
+{
+    convert_result(backward(format, frame, earlier))
+}
+
+// Step: the next time. The year's length and the kind are those of the given time's year and day; where the format carries the year, its own length counts.
 #[no_mangle]
 pub extern "C" fn duskveyra_step(
     format: Format,
@@ -76,7 +108,7 @@ pub extern "C" fn duskveyra_step(
     step_result(step(format, time, year_length, kind))
 }
 
-// Step back: the time before. The year's length and the kind are those of that time's year and day.
+// Step back: the time before. The year's length and the kind are those of that time's year and day; where the format carries the year, its own length counts.
 #[no_mangle]
 pub extern "C" fn duskveyra_step_back(
     format: Format,
@@ -102,7 +134,7 @@ pub extern "C" fn duskveyra_difference(first: Time, second: Time) -> DifferenceR
 pub extern "C" fn duskveyra_fresh(
     format: Format,
     setting: u8,
-    reader: &mut [u64; 13],
+    reader: &mut [u64; 14],
 ) -> WriteResult
     ensures { λ r. ⌜ r ≡ freshResultOf (madeOf format setting) ⌝ }
     ensures { λ _. ⌜ now (reader .exit) ≡ freshLeft format setting (now (reader .entry)) ⌝ }
@@ -112,7 +144,7 @@ pub extern "C" fn duskveyra_fresh(
 
 // One Feed of a symbol.
 #[no_mangle]
-pub extern "C" fn duskveyra_feed(reader: &mut [u64; 13], symbol: u8) -> FeedResult
+pub extern "C" fn duskveyra_feed(reader: &mut [u64; 14], symbol: u8) -> FeedResult
     ensures { λ r. ⌜ r ≡ feedResultOf (feedWords (now (reader .entry)) symbol .answer) ⌝ }
     ensures { λ _. ⌜ now (reader .exit) ≡ wordsLeft (feedWords (now (reader .entry)) symbol) (now (reader .entry)) ⌝ }
 {
@@ -122,7 +154,7 @@ pub extern "C" fn duskveyra_feed(reader: &mut [u64; 13], symbol: u8) -> FeedResu
 // One Feed of a pulse's symbol.
 #[no_mangle]
 pub extern "C" fn duskveyra_feed_pulse(
-    reader: &mut [u64; 13],
+    reader: &mut [u64; 14],
     interval: u32,
     width: u32,
     period: u32,
@@ -136,24 +168,26 @@ pub extern "C" fn duskveyra_feed_pulse(
     put_fed(next, answer, reader)
 }
 
-// A block of symbols, with its reports put into a list for each field: indexes, days, hundredths and control words.
+// A block of symbols, with its reports put into a list for each field: indexes, years, days, hundredths and control words.
 #[no_mangle]
 pub extern "C" fn duskveyra_feed_block(
-    reader: &mut [u64; 13],
+    reader: &mut [u64; 14],
     symbols: &[u8],
     indexes: &mut [usize],
+    years: &mut [u8],
     days: &mut [u16],
     hundredths: &mut [u32],
     controls: &mut [u64],
 ) -> BlockResult
-    ensures { λ r. ⌜ r ≡ blockResultOf (feedBlockWords (now (reader .entry)) (now (symbols .entry)) (lists (now (indexes .entry)) (now (days .entry)) (now (hundredths .entry)) (now (controls .entry))) .answer) ⌝ }
-    ensures { λ _. ⌜ now (reader .exit) ≡ blockWordsLeft (feedBlockWords (now (reader .entry)) (now (symbols .entry)) (lists (now (indexes .entry)) (now (days .entry)) (now (hundredths .entry)) (now (controls .entry)))) (now (reader .entry)) ⌝ }
-    ensures { λ _. ⌜ lists (now (indexes .exit)) (now (days .exit)) (now (hundredths .exit)) (now (controls .exit)) ≡ listsLeft (blockFor (readerIn (now (reader .entry))) (now (symbols .entry)) (lists (now (indexes .entry)) (now (days .entry)) (now (hundredths .entry)) (now (controls .entry)))) (lists (now (indexes .entry)) (now (days .entry)) (now (hundredths .entry)) (now (controls .entry))) ⌝ }
+    ensures { λ r. ⌜ r ≡ blockResultOf (feedBlockWords (now (reader .entry)) (now (symbols .entry)) (lists (now (indexes .entry)) (now (years .entry)) (now (days .entry)) (now (hundredths .entry)) (now (controls .entry))) .answer) ⌝ }
+    ensures { λ _. ⌜ now (reader .exit) ≡ blockWordsLeft (feedBlockWords (now (reader .entry)) (now (symbols .entry)) (lists (now (indexes .entry)) (now (years .entry)) (now (days .entry)) (now (hundredths .entry)) (now (controls .entry)))) (now (reader .entry)) ⌝ }
+    ensures { λ _. ⌜ lists (now (indexes .exit)) (now (years .exit)) (now (days .exit)) (now (hundredths .exit)) (now (controls .exit)) ≡ listsLeft (blockFor (readerIn (now (reader .entry))) (now (symbols .entry)) (lists (now (indexes .entry)) (now (years .entry)) (now (days .entry)) (now (hundredths .entry)) (now (controls .entry)))) (lists (now (indexes .entry)) (now (years .entry)) (now (days .entry)) (now (hundredths .entry)) (now (controls .entry))) ⌝ }
 {
     let fed = feed_block(
         reader_in(*reader),
         symbols,
         indexes,
+        years,
         days,
         hundredths,
         controls,
@@ -195,8 +229,8 @@ pub extern "C" fn duskveyra_scan(format: Format, recording: &[u8], start: usize)
 
 // The number of this interface. Header and build script refer to the symbol by that number, so that a program made for another interface does not link.
 #[no_mangle]
-pub extern "C" fn duskveyra_interface_2() -> u32
-    ensures { λ r. ⌜ r ≡ 2 ⌝ }
+pub extern "C" fn duskveyra_interface_3() -> u32
+    ensures { λ r. ⌜ r ≡ 3 ⌝ }
 {
-    2
+    3
 }

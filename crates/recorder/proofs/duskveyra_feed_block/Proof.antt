@@ -24,9 +24,12 @@ same-length-3 c = search needs
 same-length-4 : tie.Need-same-length-4
 same-length-4 c = search needs
 
+same-length-5 : tie.Need-same-length-5
+same-length-5 c = search needs
+
 returns : tie.Need-returns
 returns c =
-    let fed = rw (c .before .before .before .before .before .before .before .before .before .before .before .before .before .before .before .before .reader-in .ensures) at (c .before .before .before .before .before .before .before .before .before .before .before .feed-block .ensures) in
+    let fed = rw (c .before .before .before .before .before .before .before .before .before .before .before .before .before .before .before .before .before .before .before .reader-in .ensures) at (c .before .before .before .before .before .before .before .before .before .before .before .before .before .feed-block .ensures) in
     let put = rw (fed .0) at (c .put-block .ensures) in
     (put .0, (put .1, fed .1))
 
@@ -41,4 +44,5 @@ duskveyra-feed-block-spec =
     same-length-2
     same-length-3
     same-length-4
+    same-length-5
     returns)
