@@ -12,20 +12,22 @@
  *
  * A symbol is one byte: 0 (zero or index marker), 1 (one), 2 (mark: position identifier or reference bit) or
  * 3 (spoiled). A format is a rate letter, in capital ASCII ('A', 'B', 'D', 'E', 'G', 'H'), and a coded expression as
- * a number (0 to 3 with A and B, 1 and 2 with the others). A time is a day, 1 to 366, and hundredths of a second since
- * midnight, 0 to 8,640,099; it lies on a format where the frame interval divides the hundredths. From 8,640,000 on it
- * lies in a second that was added to its day, 23:59:60; A, B and G carry that second, D, E and H do not. The lowest bit
- * of a control word is control bit 1.
+ * a number (0 to 7 with A and B, 1 and 2 with the others). The expressions 4 to 7 are 0 to 3 with the year, as the later
+ * edition has them. A time is a year, a day, 1 to 366, and hundredths of a second since midnight, 0 to 8,640,099; it lies
+ * on a format where the frame interval divides the hundredths. From 8,640,000 on it lies in a second that was added to
+ * its day, 23:59:60; A, B and G carry that second, D, E and H do not. The year is 0 to 99 for 2000 to 2099, and every
+ * fourth from 2000 has day 366; in a format without the year it is 0, and says nothing. The lowest bit of a control word
+ * is control bit 1, or, with the year, control bit 10: the 18 later ones are left.
  *
- * letter  elements of a frame  frame interval in hundredths  control bits (expressions 0 and 1)
- *   A            100                        10                   27
- *   B            100                       100                   27
+ * letter  elements of a frame  frame interval in hundredths  control bits (0 and 1)  with the year (4 and 5)
+ *   A            100                        10                   27                     18
+ *   B            100                       100                   27                     18
  *   D             60                   360,000                    9
  *   E            100                     1,000                   45
  *   G            100                         1                   36
  *   H             60                     6,000                    9
  *
- * With the expressions 2 and 3 no control bits are carried, and every control word but 0 is refused.
+ * With the expressions 2, 3, 6 and 7 no control bits are carried, and every control word but 0 is refused.
  */
 #ifndef DUSKVEYRA_H
 #define DUSKVEYRA_H
@@ -39,34 +41,38 @@ extern "C" {
 
 /* The number of this interface. The archive has it in the name of a function, which every file that includes this header
  * refers to: a program does not link with the archive of another interface. */
-#define DUSKVEYRA_INTERFACE 2
+#define DUSKVEYRA_INTERFACE 3
 
-uint32_t duskveyra_interface_2(void);
+uint32_t duskveyra_interface_3(void);
 
 #if defined(__GNUC__)
 __attribute__((used))
 #endif
-static uint32_t (*const duskveyra_interface_linked)(void) = duskveyra_interface_2;
+static uint32_t (*const duskveyra_interface_linked)(void) = duskveyra_interface_3;
 
 /* The numbers that a call refuses with; 0 is no refusal. */
 enum duskveyra_number {
     DUSKVEYRA_OK = 0,
     DUSKVEYRA_UNKNOWN_FORMAT = 1,       /* letter or expression not among the formats */
-    DUSKVEYRA_INVALID_TIME = 2,         /* day or hundredths out of range, or not on the format */
+    DUSKVEYRA_INVALID_TIME = 2,         /* day or hundredths out of range, or not on the format; day 366 of a carried
+                                           year that has none */
     DUSKVEYRA_WRONG_LENGTH = 3,         /* frame not of the format's length, or lists of different lengths */
     DUSKVEYRA_UNKNOWN_SYMBOL = 4,       /* symbol above 3 */
     DUSKVEYRA_MISPLACED_MARK = 5,       /* mark missing, or where none belongs; with its index */
     DUSKVEYRA_INVALID_ELEMENT = 6,      /* 1 or 3 as index marker, or 3 in the place of a digit or bit; with its index */
-    DUSKVEYRA_INVALID_DIGIT = 7,        /* digit over 9, hours over 23, minutes or seconds over 59, day 0 or over 366;
-                                           at 23:59 in A, B and G seconds over 60 */
+    DUSKVEYRA_INVALID_DIGIT = 7,        /* digit over 9, hours over 23, minutes or seconds over 59, day 0 or over 366,
+                                           or 366 of a carried year that has none; at 23:59 in A, B and G seconds
+                                           over 60 */
     DUSKVEYRA_SECONDS_DIFFER = 8,       /* straight binary seconds differ from the digits */
     DUSKVEYRA_CONTROL_TOO_LONG = 9,     /* control word needs more bits than are carried */
     DUSKVEYRA_INVALID_INTERVAL = 10,    /* nominal element interval not 100 to 10,000,000 ticks */
-    DUSKVEYRA_INVALID_YEAR_LENGTH = 11, /* year length not 365 or 366, or the day is beyond it */
+    DUSKVEYRA_INVALID_YEAR_LENGTH = 11, /* year length not 365 or 366, or the day is beyond it; never with the year */
     DUSKVEYRA_START_PAST_END = 12,      /* start past the recording's end */
     DUSKVEYRA_INVALID_READER = 13,      /* the reader's letter, expression or place out of range */
     DUSKVEYRA_SECOND_NOT_CARRIED = 14,  /* a time in an added second in D, E or H */
     DUSKVEYRA_INVALID_KIND = 15,        /* kind of day above 2, or in A, B and G a time past that day's end */
+    DUSKVEYRA_INVALID_YEAR = 17,        /* year over 99, or not 0 in a format without the year */
+    DUSKVEYRA_YEAR_PLACE_TAKEN = 18,    /* a one among control bits 1 to 9, where the year would stand */
     DUSKVEYRA_INVALID_SETTING = 26      /* setting not 2 to 5 */
 };
 
@@ -93,15 +99,16 @@ typedef struct duskveyra_format {
 } duskveyra_format;
 
 typedef struct duskveyra_time {
+    uint8_t year;
     uint16_t day;
     uint32_t hundredths;
 } duskveyra_time;
 
 /* A stream reader: the letter, the expression, the setting and the place; the count of the frame under way, the newest
- * symbols, three words of the frame's symbols and the row; the day, the hundredths and the control word of the row's last
- * frame. It is made by duskveyra_fresh, changed by duskveyra_feed, duskveyra_feed_block and duskveyra_feed_pulse, and may
- * be copied as any struct. */
-#define DUSKVEYRA_READER_WORDS 13
+ * symbols, three words of the frame's symbols and the row; the year, the day, the hundredths and the control word of the
+ * row's last frame. It is made by duskveyra_fresh, changed by duskveyra_feed, duskveyra_feed_block and
+ * duskveyra_feed_pulse, and may be copied as any struct. */
+#define DUSKVEYRA_READER_WORDS 14
 
 typedef struct duskveyra_reader {
     uint64_t words[DUSKVEYRA_READER_WORDS];
@@ -111,6 +118,11 @@ typedef struct duskveyra_reader {
 typedef struct duskveyra_write_result {
     uint8_t number;
 } duskveyra_write_result;
+
+typedef struct duskveyra_convert_result {
+    uint8_t number;
+    size_t index; /* with 5 and 6 the lowest index that offends, counted from 0 */
+} duskveyra_convert_result;
 
 typedef struct duskveyra_read_result {
     uint8_t number;
@@ -157,7 +169,7 @@ typedef struct duskveyra_block_result {
 } duskveyra_block_result;
 
 /* Writes a time and a control word as the symbols of one frame; every byte of the frame is set.
- * Refuses with 1; 2; 14; 9; 3 where frame_length is not the format's number of elements; in this order. */
+ * Refuses with 1; 17; 2; 14; 9; 3 where frame_length is not the format's number of elements; in this order. */
 duskveyra_write_result duskveyra_write(duskveyra_format format, duskveyra_time time, uint64_t control, uint8_t *frame,
                                        size_t frame_length);
 
@@ -165,20 +177,38 @@ duskveyra_write_result duskveyra_write(duskveyra_format format, duskveyra_time t
  * Refuses with 1; 3; 4; the lowest index that offends with 5 or 6; 7; 8; in this order. */
 duskveyra_read_result duskveyra_read(duskveyra_format format, const uint8_t *frame, size_t frame_length);
 
+/* Converts a frame of A or B without the year, in the format's expression 0 to 3, into the frame with that year, which
+ * the expression 4 higher reads; every byte of later is set. The control bits 10 to 27 stay where they are.
+ * Refuses with 1, also for a letter or an expression that is not of the earlier edition; 3 where frame_length or
+ * later_length is not 100; as duskveyra_read does with 4; 5 or 6; 7; 8; then 17; 2 where the year lacks the frame's day;
+ * 18; in this order. */
+duskveyra_convert_result duskveyra_forward(duskveyra_format format, const uint8_t *frame, size_t frame_length,
+                                           uint8_t year, uint8_t *later, size_t later_length);
+
+/* Converts a frame of A or B with the year, in the format's expression 4 to 7, into the frame without it, which the
+ * expression 4 lower reads: elements 50 to 58 are 0 in it, and all else is as it was; every byte of earlier is set. It
+ * undoes duskveyra_forward, and duskveyra_forward with the frame's year undoes it.
+ * Refuses with 1, also for a letter or an expression that is not of the later edition; 3 where frame_length or
+ * earlier_length is not 100; then as duskveyra_read does with 4; 5 or 6; 7; 8; in this order. */
+duskveyra_convert_result duskveyra_backward(duskveyra_format format, const uint8_t *frame, size_t frame_length,
+                                            uint8_t *earlier, size_t earlier_length);
+
 /* The time of the frame after the one with this time, in a year of year_length days. The kind is that of the given time's
- * day.
- * Refuses with 1; 2; 14; 11; 15; in this order. */
+ * day. Where the format carries the year, its own length counts and year_length is not looked at; year 99 is followed
+ * by 0.
+ * Refuses with 1; 17; 2; 14; 11; 15; in this order. */
 duskveyra_step_result duskveyra_step(duskveyra_format format, duskveyra_time time, uint16_t year_length, uint8_t kind);
 
 /* The time of the frame before the one with this time. The length of the year and the kind are those of the year and the
- * day that the earlier time belongs to; day 1 at 0 hundredths goes to that year's last frame. It undoes duskveyra_step
- * with the same year_length and kind, and duskveyra_step undoes it.
- * Refuses as duskveyra_step does, by the time that is given: 1; 2; 14; 11; 15; in this order. */
+ * day that the earlier time belongs to; day 1 at 0 hundredths goes to that year's last frame. Where the format carries
+ * the year, the earlier year's own length counts and year_length is not looked at; before year 0 comes 99. It undoes
+ * duskveyra_step with the same year_length and kind, and duskveyra_step undoes it.
+ * Refuses as duskveyra_step does, by the time that is given: 1; 17; 2; 14; 11; 15; in this order. */
 duskveyra_step_result duskveyra_step_back(duskveyra_format format, duskveyra_time time, uint16_t year_length,
                                           uint8_t kind);
 
 /* The first time less the second, within one year, in signed hundredths of a second. A day counts 8,640,000 of them,
- * whatever its kind.
+ * whatever its kind. The years are not looked at.
  * Refuses with 2 where a day or hundredths are out of range. */
 duskveyra_difference_result duskveyra_difference(duskveyra_time first, duskveyra_time second);
 
@@ -195,17 +225,19 @@ duskveyra_write_result duskveyra_fresh(duskveyra_format format, uint8_t setting,
 duskveyra_feed_result duskveyra_feed(duskveyra_reader *reader, uint8_t symbol);
 
 /* Feeds a block of symbols as duskveyra_feed does one after the other, and puts their reports, in their order, into a
- * list of records, which is four lists of one length: report k, counted from 0, is indexes[k], days[k], hundredths[k]
- * and controls[k]. indexes[k] is the index in this block, counted from 0, of the symbol that brought it: the last of
- * the frame with this time. Entries past the last report stay as they were. The lists may not overlap each other, the
- * symbols or *reader. It stops only before the first symbol above 3, or before the first whose report finds no room left;
- * *reader is then as before that symbol. Where the last symbol's report just fills the list, all were taken.
- * Refuses with 13; 26; 3 where the lengths of indexes, days, hundredths and controls are not one; in this order, and
- * then feeds nothing and leaves the lists too. A symbol above 3 stops it and is no refusal. */
+ * list of records, which is five lists of one length: report k, counted from 0, is indexes[k], years[k], days[k],
+ * hundredths[k] and controls[k]. indexes[k] is the index in this block, counted from 0, of the symbol that brought it:
+ * the last of the frame with this time. Entries past the last report stay as they were. The lists may not overlap each
+ * other, the symbols or *reader. It stops only before the first symbol above 3, or before the first whose report finds
+ * no room left; *reader is then as before that symbol. Where the last symbol's report just fills the list, all were
+ * taken.
+ * Refuses with 13; 26; 3 where the lengths of indexes, years, days, hundredths and controls are not one; in this
+ * order, and then feeds nothing and leaves the lists too. A symbol above 3 stops it and is no refusal. */
 duskveyra_block_result duskveyra_feed_block(duskveyra_reader *reader, const uint8_t *symbols, size_t symbols_length,
-                                            size_t *indexes, size_t indexes_length, uint16_t *days,
-                                            size_t days_length, uint32_t *hundredths, size_t hundredths_length,
-                                            uint64_t *controls, size_t controls_length);
+                                            size_t *indexes, size_t indexes_length, uint8_t *years,
+                                            size_t years_length, uint16_t *days, size_t days_length,
+                                            uint32_t *hundredths, size_t hundredths_length, uint64_t *controls,
+                                            size_t controls_length);
 
 /* Classifies one pulse and feeds its symbol, as duskveyra_feed does.
  * Refuses with 10; 13; 26; in this order, and then feeds nothing. */

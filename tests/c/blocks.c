@@ -24,6 +24,7 @@ static const struct format {
     {'E', 1, 100, 1000, UINT64_C(0x1fffffffffff), 3},
     {'D', 1, 60, 360000, UINT64_C(0x1ff), 4},
     {'H', 1, 60, 6000, UINT64_C(0x1ff), 5},
+    {'B', 4, 100, 100, UINT64_C(0x3ffff), 2},
 };
 
 /* The format and the setting under test; the recording, the last two symbols of a frame and then frames in succession;
@@ -35,6 +36,7 @@ static size_t length;
 static duskveyra_reader after[LONGEST + 1];
 static size_t all_reports;
 static size_t indexes[MOST];
+static uint8_t years[MOST];
 static uint16_t days[MOST];
 static uint32_t hundredths[MOST];
 static uint64_t controls[MOST];
@@ -49,13 +51,14 @@ static void *memory(size_t bytes)
     return lent;
 }
 
-/* One block: its reader with guard words around it, its lent list of records as four lists, and its result. */
+/* One block: its reader with guard words around it, its lent list of records as five lists, and its result. */
 struct block {
     uint64_t guard0;
     duskveyra_reader reader;
     uint64_t guard1;
     size_t room;
     size_t *indexes;
+    uint8_t *years;
     uint16_t *days;
     uint32_t *hundredths;
     uint64_t *controls;
@@ -69,6 +72,7 @@ static struct block make(const duskveyra_reader *reader, size_t room)
     made.reader = *reader;
     made.room = room;
     made.indexes = (size_t *)memory(room * sizeof *made.indexes);
+    made.years = (uint8_t *)memory(room * sizeof *made.years);
     made.days = (uint16_t *)memory(room * sizeof *made.days);
     made.hundredths = (uint32_t *)memory(room * sizeof *made.hundredths);
     made.controls = (uint64_t *)memory(room * sizeof *made.controls);
@@ -78,6 +82,7 @@ static struct block make(const duskveyra_reader *reader, size_t room)
 static void release(struct block *block)
 {
     free(block->indexes);
+    free(block->years);
     free(block->days);
     free(block->hundredths);
     free(block->controls);
@@ -89,8 +94,8 @@ static void feed_lists(struct block *block, const uint8_t *symbols, size_t count
     uint8_t *lent = (uint8_t *)memory(count);
     memcpy(lent, symbols, count);
     block->result = duskveyra_feed_block(&block->reader, lent, count, block->indexes + from, lengths[0],
-                                         block->days + from, lengths[1], block->hundredths + from, lengths[2],
-                                         block->controls + from, lengths[3]);
+                                         block->years + from, lengths[1], block->days + from, lengths[2],
+                                         block->hundredths + from, lengths[3], block->controls + from, lengths[4]);
     CHECK(memcmp(lent, symbols, count) == 0);
     CHECK(block->guard0 == UINT64_C(0xa5a5a5a5a5a5a5a5) && block->guard1 == UINT64_C(0xa5a5a5a5a5a5a5a5));
     free(lent);
@@ -99,8 +104,8 @@ static void feed_lists(struct block *block, const uint8_t *symbols, size_t count
 static void feed(struct block *block, const uint8_t *symbols, size_t count, size_t from)
 {
     size_t left = block->room - from;
-    size_t lengths[4];
-    lengths[0] = lengths[1] = lengths[2] = lengths[3] = left;
+    size_t lengths[5];
+    lengths[0] = lengths[1] = lengths[2] = lengths[3] = lengths[4] = left;
     feed_lists(block, symbols, count, from, lengths);
 }
 
@@ -118,12 +123,12 @@ static int holds(const struct block *block, size_t reports, size_t later, size_t
         return 0;
     for (index = 0; index < reports; index++)
         if (block->indexes[index] != indexes[index] - (index < later ? 0 : start) ||
-            block->days[index] != days[index] || block->hundredths[index] != hundredths[index] ||
-            block->controls[index] != controls[index])
+            block->years[index] != years[index] || block->days[index] != days[index] ||
+            block->hundredths[index] != hundredths[index] || block->controls[index] != controls[index])
             return 0;
     for (; index < block->room; index++)
-        if (block->indexes[index] != (size_t)UINT64_C(0xa5a5a5a5a5a5a5a5) || block->days[index] != 0xa5a5 ||
-            block->hundredths[index] != UINT32_C(0xa5a5a5a5) ||
+        if (block->indexes[index] != (size_t)UINT64_C(0xa5a5a5a5a5a5a5a5) || block->years[index] != FILL ||
+            block->days[index] != 0xa5a5 || block->hundredths[index] != UINT32_C(0xa5a5a5a5) ||
             block->controls[index] != UINT64_C(0xa5a5a5a5a5a5a5a5))
             return 0;
     return 1;
@@ -149,6 +154,12 @@ static size_t report_at(size_t report)
     return 1 + format.n * (report + format.setting);
 }
 
+/* The year of the recording: one without day 366, where the format carries the year. */
+static uint8_t recorded_year(void)
+{
+    return format.expression < 4 ? 0 : 75;
+}
+
 static duskveyra_format under_test(void)
 {
     duskveyra_format made;
@@ -170,6 +181,7 @@ static void record(void)
     /* The bytes between the members hold something: the library compares them along where they cannot count, and
      * valgrind would complain of what nothing was stored to. */
     memset(&time, FILL, sizeof time);
+    time.year = recorded_year();
     time.day = 200;
     for (frame = 0; frame < FRAMES; frame++) {
         time.hundredths = (uint32_t)frame * format.interval;
@@ -185,12 +197,13 @@ static void record(void)
         if (fed.reported && reports < all_reports) {
             CHECK(index == report_at(reports));
             indexes[reports] = index;
+            years[reports] = fed.time.year;
             days[reports] = fed.time.day;
             hundredths[reports] = fed.time.hundredths;
             controls[reports] = fed.control;
             frame = reports + format.setting - 1;
-            CHECK(fed.time.day == 200 && fed.time.hundredths == frame * format.interval &&
-                  fed.control == format.control - frame);
+            CHECK(fed.time.year == recorded_year() && fed.time.day == 200 &&
+                  fed.time.hundredths == frame * format.interval && fed.control == format.control - frame);
             reports++;
         }
         CHECK(reports == reports_in(index + 1));
@@ -297,25 +310,46 @@ static void refused(const duskveyra_reader *reader, const size_t *lengths, uint8
     }
 }
 
-/* One list shorter or longer than the others, by one or by all; two of one length and two of another; four. */
-static const size_t unequal[][4] = {
-    {ROOM - 1, ROOM, ROOM, ROOM},         {ROOM, ROOM - 1, ROOM, ROOM},
-    {ROOM, ROOM, ROOM - 1, ROOM},         {ROOM, ROOM, ROOM, ROOM - 1},
-    {ROOM, ROOM - 1, ROOM - 1, ROOM - 1}, {ROOM - 1, ROOM, ROOM - 1, ROOM - 1},
-    {ROOM - 1, ROOM - 1, ROOM, ROOM - 1}, {ROOM - 1, ROOM - 1, ROOM - 1, ROOM},
-    {0, ROOM, ROOM, ROOM},                {ROOM, 0, ROOM, ROOM},
-    {ROOM, ROOM, 0, ROOM},                {ROOM, ROOM, ROOM, 0},
-    {ROOM, 0, 0, 0},                      {0, ROOM, 0, 0},
-    {0, 0, ROOM, 0},                      {0, 0, 0, ROOM},
-    {ROOM, ROOM, 0, 0},                   {ROOM, 0, ROOM, 0},
-    {ROOM, 0, 0, ROOM},                   {0, ROOM, ROOM, 0},
-    {0, ROOM, 0, ROOM},                   {0, 0, ROOM, ROOM},
-    {ROOM - 3, ROOM - 2, ROOM - 1, ROOM}, {ROOM, ROOM - 1, ROOM - 2, ROOM - 3}};
+/* One list shorter or longer than the others, by one or by all; two of one length and three of another; five. */
+static const size_t unequal[][5] = {
+    {ROOM - 1, ROOM, ROOM, ROOM, ROOM},
+    {ROOM, ROOM - 1, ROOM, ROOM, ROOM},
+    {ROOM, ROOM, ROOM - 1, ROOM, ROOM},
+    {ROOM, ROOM, ROOM, ROOM - 1, ROOM},
+    {ROOM, ROOM, ROOM, ROOM, ROOM - 1},
+    {ROOM, ROOM - 1, ROOM - 1, ROOM - 1, ROOM - 1},
+    {ROOM - 1, ROOM, ROOM - 1, ROOM - 1, ROOM - 1},
+    {ROOM - 1, ROOM - 1, ROOM, ROOM - 1, ROOM - 1},
+    {ROOM - 1, ROOM - 1, ROOM - 1, ROOM, ROOM - 1},
+    {ROOM - 1, ROOM - 1, ROOM - 1, ROOM - 1, ROOM},
+    {0, ROOM, ROOM, ROOM, ROOM},
+    {ROOM, 0, ROOM, ROOM, ROOM},
+    {ROOM, ROOM, 0, ROOM, ROOM},
+    {ROOM, ROOM, ROOM, 0, ROOM},
+    {ROOM, ROOM, ROOM, ROOM, 0},
+    {ROOM, 0, 0, 0, 0},
+    {0, ROOM, 0, 0, 0},
+    {0, 0, ROOM, 0, 0},
+    {0, 0, 0, ROOM, 0},
+    {0, 0, 0, 0, ROOM},
+    {ROOM, ROOM, 0, 0, 0},
+    {ROOM, 0, ROOM, 0, 0},
+    {ROOM, 0, 0, ROOM, 0},
+    {ROOM, 0, 0, 0, ROOM},
+    {0, ROOM, ROOM, 0, 0},
+    {0, ROOM, 0, ROOM, 0},
+    {0, ROOM, 0, 0, ROOM},
+    {0, 0, ROOM, ROOM, 0},
+    {0, 0, ROOM, 0, ROOM},
+    {0, 0, 0, ROOM, ROOM},
+    {ROOM - 4, ROOM - 3, ROOM - 2, ROOM - 1, ROOM},
+    {ROOM, ROOM - 1, ROOM - 2, ROOM - 3, ROOM - 4},
+};
 
 /* The reader is refused with this number, whatever the lists. */
 static void refused_first(const duskveyra_reader *reader, uint8_t number)
 {
-    static const size_t equal[] = {ROOM, ROOM, ROOM, ROOM}, none[] = {0, 0, 0, 0};
+    static const size_t equal[] = {ROOM, ROOM, ROOM, ROOM, ROOM}, none[] = {0, 0, 0, 0, 0};
     size_t lists;
     refused(reader, equal, number);
     refused(reader, none, number);
@@ -327,7 +361,7 @@ static void refusals(void)
 {
     /* What makes a reader invalid: a letter or an expression that is none or no byte, or a place past a frame. */
     const uint64_t wrong[][2] = {{0, 'C'},      {0, 256 + (uint64_t)format.letter},
-                                 {1, 4},        {1, 256 + (uint64_t)format.expression},
+                                 {1, 8},        {1, 256 + (uint64_t)format.expression},
                                  {3, format.n}, {3, UINT64_MAX}};
     /* Settings that are none, or no byte. */
     static const uint64_t settings[] = {0, 1, 6, 255, 256 + 2, UINT64_MAX};
@@ -371,6 +405,7 @@ static size_t fed_singly(struct block *block, const uint8_t *symbols, size_t cou
         if (fed.number == DUSKVEYRA_OK && !(fed.reported && *reports == block->room)) {
             if (fed.reported) {
                 block->indexes[*reports] = index;
+                block->years[*reports] = fed.time.year;
                 block->days[*reports] = fed.time.day;
                 block->hundredths[*reports] = fed.time.hundredths;
                 block->controls[*reports] = fed.control;
@@ -390,9 +425,9 @@ static size_t fed_singly(struct block *block, const uint8_t *symbols, size_t cou
 static void any_reader(void)
 {
     /* The words from the frame's count on are below these: counts and rows that occur and some more, and the widths of
-     * the day and the hundredths. */
-    static const uint64_t limits[] = {102,        UINT64_MAX,        UINT64_MAX, UINT64_MAX, UINT64_MAX, 8, 65536,
-                                      4294967296, UINT64_MAX};
+     * the year, the day and the hundredths. */
+    static const uint64_t limits[] = {102, UINT64_MAX, UINT64_MAX, UINT64_MAX,          UINT64_MAX, 8,
+                                      256, 65536,      UINT64_C(4294967296), UINT64_MAX};
     uint8_t symbols[LONGEST];
     int turn;
     for (turn = 0; turn < 1000; turn++) {
@@ -414,6 +449,7 @@ static void any_reader(void)
         CHECK(says(&block, taken, reports, stop));
         CHECK(same_reader(&block.reader, &single.reader));
         CHECK(memcmp(block.indexes, single.indexes, block.room * sizeof *block.indexes) == 0);
+        CHECK(memcmp(block.years, single.years, block.room * sizeof *block.years) == 0);
         CHECK(memcmp(block.days, single.days, block.room * sizeof *block.days) == 0);
         CHECK(memcmp(block.hundredths, single.hundredths, block.room * sizeof *block.hundredths) == 0);
         CHECK(memcmp(block.controls, single.controls, block.room * sizeof *block.controls) == 0);

@@ -1,6 +1,6 @@
-/* Every function of duskveyra.h but duskveyra_feed_block (blocks.c): its result, each refusal it can give, their order,
- * and the memory it must leave. What is expected stands in documents 01 and 02: the examples, the table of places, the
- * rules. Also compiles as C++. */
+/* Every function of duskveyra.h but duskveyra_feed_block (blocks.c) and the converters (years.c, which has the formats
+ * with the year too): its result, each refusal it can give, their order, and the memory it must leave. What is expected
+ * stands in documents 01 and 02: the examples, the table of places, the rules. Also compiles as C++. */
 #include "check.h"
 #include "duskveyra.h"
 
@@ -14,6 +14,7 @@
  * has or that was touched shows. */
 struct outs {
     uint8_t flag;
+    uint8_t year;
     uint16_t day;
     uint32_t hundredths;
     uint64_t control;
@@ -104,7 +105,7 @@ static uint64_t below(uint64_t limit)
     return (random64() >> 11) % limit;
 }
 
-/* Document 01's table, and where each element stands. */
+/* Document 01's table, the formats without the year, and where each element stands. */
 static const char letters[] = "AABBAABBDDEEGGHH";
 static const uint8_t expressions[] = {0, 1, 0, 1, 2, 3, 2, 3, 1, 2, 1, 2, 1, 2, 1, 2};
 #define FORMATS 16
@@ -114,7 +115,7 @@ static int known(uint8_t letter, uint8_t expression)
     switch (letter) {
     case 'A':
     case 'B':
-        return expression <= 3;
+        return expression <= 7;
     case 'D':
     case 'E':
     case 'G':
@@ -246,6 +247,7 @@ static duskveyra_format format_of(uint8_t letter, uint8_t expression)
 static duskveyra_time time_of(uint16_t day, uint32_t hundredths)
 {
     duskveyra_time time;
+    time.year = 0;
     time.day = day;
     time.hundredths = hundredths;
     return time;
@@ -253,6 +255,7 @@ static duskveyra_time time_of(uint16_t day, uint32_t hundredths)
 
 static void got_time(duskveyra_time time)
 {
+    got.year = time.year;
     got.day = time.day;
     got.hundredths = time.hundredths;
 }
@@ -525,7 +528,7 @@ static void orders(void)
         uint8_t number = bad & 1 ? 1 : bad & 2 ? 2 : bad & 4 ? 9 : bad & 8 ? 3 : 0;
         uint8_t answer;
         memset(frame, FILL, 100);
-        answer = call_write('B', bad & 1 ? 4 : 1, bad & 2 ? 0 : 1, 0, bad & 4 ? UINT64_C(1) << 27 : 0, frame,
+        answer = call_write('B', bad & 1 ? 8 : 1, bad & 2 ? 0 : 1, 0, bad & 4 ? UINT64_C(1) << 27 : 0, frame,
                             bad & 8 ? 99 : 100);
         CHECK(answer == number);
         CHECK(number == 0 || all_bytes(frame, 100, FILL));
@@ -550,7 +553,7 @@ static void orders(void)
         uint8_t number = bad & 1 ? 1 : bad & 2 ? 2 : bad & 4 ? 11 : bad & 8 ? 15 : 0;
         uint32_t c = (bad & 2 ? 50 : 0) + (bad & 8 ? 8639900 : 0);
         for (i = 0; i < STEPS; i++) {
-            CHECK(both_steps[i]('B', bad & 1 ? 4 : 1, 1, c, bad & 4 ? 367 : 366, 2) == number);
+            CHECK(both_steps[i]('B', bad & 1 ? 8 : 1, 1, c, bad & 4 ? 367 : 366, 2) == number);
             CHECK(number == 0 || same());
         }
     }
@@ -565,7 +568,7 @@ static void orders(void)
             frame[6] = frame[7] = frame[8] = 1;
         if (bad & 32)
             frame[97] = 1;
-        CHECK(call_read('B', bad & 1 ? 4 : 0, frame, bad & 2 ? 99 : 100) == number);
+        CHECK(call_read('B', bad & 1 ? 8 : 0, frame, bad & 2 ? 99 : 100) == number);
         if (number == 6)
             SET(size_t, index, 5);
         CHECK(number == 0 || same());
@@ -587,7 +590,7 @@ static void orders(void)
     CHECK(same());
     for (bad = 0; bad < 4; bad++) {
         uint8_t number = bad & 1 ? 1 : bad & 2 ? 12 : 0;
-        CHECK(call_scan('B', bad & 1 ? 4 : 0, frame, 4, bad & 2 ? 5 : 4) == number);
+        CHECK(call_scan('B', bad & 1 ? 8 : 0, frame, 4, bad & 2 ? 5 : 4) == number);
         if (number == 0)
             SET(uint8_t, flag, 0);
         CHECK(same());
