@@ -92,7 +92,7 @@ pub const SECOND_TAKEN: u8 = 2;
 /// The elements of the longest frame.
 pub const LONGEST_FRAME: usize = 100;
 /// The words of a [`Reader`].
-pub const READER_WORDS: usize = 13;
+pub const READER_WORDS: usize = 14;
 /// The least setting of a [`Reader`]: how many frames in a row it asks for.
 pub const LEAST_SETTING: u8 = 2;
 /// The greatest setting.
@@ -286,8 +286,8 @@ impl Reader {
     }
 
     /// The reader's words, to be stored: the letter, the expression, the setting and the place; the count of the frame
-    /// under way, the newest symbols, three words of the frame's symbols and the row; the day, the hundredths and the
-    /// control word of the row's last frame.
+    /// under way, the newest symbols, three words of the frame's symbols and the row; the year, the day, the
+    /// hundredths and the control word of the row's last frame.
     #[inline]
     pub fn words(&self) -> [u64; READER_WORDS] {
         self.words

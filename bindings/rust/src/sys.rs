@@ -69,7 +69,7 @@ pub struct BlockResult {
 }
 
 extern "C" {
-    pub fn duskveyra_interface_2() -> u32;
+    pub fn duskveyra_interface_3() -> u32;
 
     pub fn duskveyra_write(
         format: Format,
@@ -162,4 +162,4 @@ extern "C" {
 
 // The number of the interface that this file declares: an archive of another one does not link.
 #[used]
-static INTERFACE: unsafe extern "C" fn() -> u32 = duskveyra_interface_2;
+static INTERFACE: unsafe extern "C" fn() -> u32 = duskveyra_interface_3;
