@@ -4,7 +4,7 @@
 use crate::calls::{any_words, library_format, refused_reader};
 use crate::random::Random;
 use crate::streams::{format_of, setting, stream, table, FORMATS};
-use crate::{agree, fed, plain_fed, Counts, DAY, HUNDREDTHS, PLACE};
+use crate::{agree, fed, plain_fed, Counts, DAY, HUNDREDTHS, PLACE, YEAR};
 use reference::{Format, Stop, Time};
 
 /// How many blocks of any reader go with a stream.
@@ -245,7 +245,8 @@ fn any_block(
     counts.refused_blocks += u64::from(expected.0.is_err());
     let mut expected_words = expected_reader.words();
     if expected.0.is_ok() {
-        // Also a block that takes nothing puts the day and the hundredths back within their types.
+        // Also a block that takes nothing puts the year, the day and the hundredths back within their types.
+        expected_words[YEAR] %= 1 << 8;
         expected_words[DAY] %= 1 << 16;
         expected_words[HUNDREDTHS] %= 1 << 32;
     }

@@ -2,7 +2,7 @@
 
 use crate::random::Random;
 use crate::streams::{control, format_of, frame, random_bits, setting, table, time, FORMATS};
-use crate::{agree, plain_refused, refused, Counts, COUNT, DAY, HUNDREDTHS, PLACE, ROW, SETTING};
+use crate::{agree, plain_refused, refused, Counts, COUNT, DAY, HUNDREDTHS, PLACE, ROW, SETTING, YEAR};
 use reference::{Format, Time};
 
 /// How many of each call go with a stream.
@@ -523,6 +523,7 @@ pub fn any_words(random: &mut Random, (letter, expression): (u8, u8)) -> Words {
     if random.once_in(2) {
         words[COUNT] = random.below(110);
         words[ROW] = random.below(8);
+        words[YEAR] = random.below(110);
         words[DAY] = random.below(400);
         words[HUNDREDTHS] = random.below(9_000_000);
     }

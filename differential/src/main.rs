@@ -24,8 +24,9 @@ const SETTING: usize = 2;
 const PLACE: usize = 3;
 const COUNT: usize = 4;
 const ROW: usize = 9;
-const DAY: usize = 10;
-const HUNDREDTHS: usize = 11;
+const YEAR: usize = 10;
+const DAY: usize = 11;
+const HUNDREDTHS: usize = 12;
 
 /// A refusal as both sides have it: the number, and the index with 5 and 6.
 type Refused = (u8, Option<usize>);
