@@ -46,49 +46,49 @@ part-length k line h n = length-take-le k line (omega arith)
 
 -- ---- the checks
 
-pub begun-step : (f : Format) (s : Start) (w year : ℕ) → writeAnswer f (s .time) w ≡ Done → begun Done (stepOf f (s .time) year (s .kind)) ≡ begunOf f s w year
+pub begun-step : (f : Format) (s : Start) (w given : ℕ) → writeAnswer f (s .time) w ≡ Done → begun Done (stepOf f (s .time) given (s .kind)) ≡ begunOf f s w given
 unfolding begunOf
-begun-step f s w year d = rw d
+begun-step f s w given d = rw d
 
-pub begun-refused : (f : Format) (s : Start) (w year : ℕ) (x : Refusal) → writeAnswer f (s .time) w ≡ Written.Refused x → Written.Refused x ≡ begunOf f s w year
+pub begun-refused : (f : Format) (s : Start) (w given : ℕ) (x : Refusal) → writeAnswer f (s .time) w ≡ Written.Refused x → Written.Refused x ≡ begunOf f s w given
 unfolding begunOf
-begun-refused f s w year x r = rw r
+begun-refused f s w given x r = rw r
 
 -- ---- the loop
 
 -- all but the frames left are put, and the next one is due
-pub record PutSoFar (f : Format) (s : Start) (w year frames left : ℕ) (now : Start) (filled : ℕ) (out : List ℕ) : Type 0 where
-  pub reached : now ≡ startOf f s year (frames - left)
-  pub put : take filled out ≡ linesOf f s w year (frames - left)
+pub record PutSoFar (f : Format) (s : Start) (w given frames left : ℕ) (now : Start) (filled : ℕ) (out : List ℕ) : Type 0 where
+  pub reached : now ≡ startOf f s given (frames - left)
+  pub put : take filled out ≡ linesOf f s w given (frames - left)
 
 none-put : (frames : ℕ) → 0 ≡ frames - frames
 none-put frames = omega arith
 
-pub starts-first : (f : Format) (s : Start) (year frames : ℕ) → s ≡ startOf f s year (frames - frames)
+pub starts-first : (f : Format) (s : Start) (given frames : ℕ) → s ≡ startOf f s given (frames - frames)
 unfolding startOf
-starts-first f s year frames = ap (startOf f s year) (none-put frames)
+starts-first f s given frames = ap (startOf f s given) (none-put frames)
 
-pub put-start : (f : Format) (s : Start) (w year frames : ℕ) (out : List ℕ) → PutSoFar f s w year frames frames s 0 out
+pub put-start : (f : Format) (s : Start) (w given frames : ℕ) (out : List ℕ) → PutSoFar f s w given frames frames s 0 out
 unfolding linesOf
-put-start f s w year frames out = record { reached = starts-first f s year frames; put = ap (linesOf f s w year) (none-put frames) }
+put-start f s w given frames out = record { reached = starts-first f s given frames; put = ap (linesOf f s w given) (none-put frames) }
 
 one-more : (frames left : ℕ) → 0 < left → left ≤ frames → frames - (left - 1) ≡ suc (frames - left)
 one-more frames left a b = omega arith
 
-next-start : (f : Format) (s : Start) (year k : ℕ) → startOf f s year (suc k) ≡ nextStart f (startOf f s year k) year
+next-start : (f : Format) (s : Start) (given k : ℕ) → startOf f s given (suc k) ≡ nextStart f (startOf f s given k) given
 unfolding startOf
-next-start f s year k = refl
+next-start f s given k = refl
 
-next-line : (f : Format) (s : Start) (w year k : ℕ) → linesOf f s w year (suc k) ≡ linesOf f s w year k ++ frameLineFor f (startOf f s year k .time) w
+next-line : (f : Format) (s : Start) (w given k : ℕ) → linesOf f s w given (suc k) ≡ linesOf f s w given k ++ frameLineFor f (startOf f s given k .time) w
 unfolding linesOf
-next-line f s w year k = refl
+next-line f s w given k = refl
 
-pub put-turn : (f : Format) (s : Start) (w year frames left : ℕ) (now now′ : Start) (filled filled′ : ℕ) (out out′ : List ℕ) → 0 < left → left ≤ frames → PutSoFar f s w year frames left now filled out
-    → take filled′ out′ ≡ take filled out ++ frameLineFor f (now .time) w → now′ ≡ nextStart f now year → PutSoFar f s w year frames (left - 1) now′ filled′ out′
-put-turn f s w year frames left now now′ filled filled′ out out′ a b h p q =
+pub put-turn : (f : Format) (s : Start) (w given frames left : ℕ) (now now′ : Start) (filled filled′ : ℕ) (out out′ : List ℕ) → 0 < left → left ≤ frames → PutSoFar f s w given frames left now filled out
+    → take filled′ out′ ≡ take filled out ++ frameLineFor f (now .time) w → now′ ≡ nextStart f now given → PutSoFar f s w given frames (left - 1) now′ filled′ out′
+put-turn f s w given frames left now now′ filled filled′ out out′ a b h p q =
     record {
-      reached = q ∙ rw (one-more frames left a b, next-start f s year (frames - left), h .reached);
-      put = p ∙ rw (one-more frames left a b, next-line f s w year (frames - left), h .put, h .reached);
+      reached = q ∙ rw (one-more frames left a b, next-start f s given (frames - left), h .reached);
+      put = p ∙ rw (one-more frames left a b, next-line f s w given (frames - left), h .put, h .reached);
     }
 
 -- where something stands, some frame was put

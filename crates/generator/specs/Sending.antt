@@ -24,7 +24,7 @@ begun Done (Stepped.Refused x) = Written.Refused x
 begun (Written.Refused x) s = Written.Refused x
 
 unfoldable pub begunOf : Format → Start → ℕ → ℕ → Written
-begunOf f s w year = begun (writeAnswer f (s .time) w) (stepOf f (s .time) year (s .kind))
+begunOf f s w given = begun (writeAnswer f (s .time) w) (stepOf f (s .time) given (s .kind))
 
 -- the kind of the next frame's day: the same on the same day, else usual
 unfoldable pub kindAfter : Time → Time → ℕ → ℕ
@@ -36,12 +36,12 @@ stepped (To u) s = record { time = u; kind = kindAfter (s .time) u (s .kind) }
 stepped (Stepped.Refused x) s = s
 
 unfoldable pub nextStart : Format → Start → ℕ → Start
-nextStart f s year = stepped (stepOf f (s .time) year (s .kind)) s
+nextStart f s given = stepped (stepOf f (s .time) given (s .kind)) s
 
 -- where frame k starts, counted from 0
 unfoldable pub startOf : Format → Start → ℕ → ℕ → Start
-startOf f s year zero = s
-startOf f s year (suc k) = nextStart f (startOf f s year k) year
+startOf f s given zero = s
+startOf f s given (suc k) = nextStart f (startOf f s given k) given
 
 -- the line of a frame; where Write refuses, nothing
 unfoldable pub frameLineFor : Format → Time → ℕ → List ℕ
@@ -49,21 +49,21 @@ frameLineFor f t w = left (writeAnswer f t w) (frameLine f t w) []
 
 -- the lines of the first k frames
 unfoldable pub linesOf : Format → Start → ℕ → ℕ → ℕ → List ℕ
-linesOf f s w year zero = []
-linesOf f s w year (suc k) = linesOf f s w year k ++ frameLineFor f (startOf f s year k .time) w
+linesOf f s w given zero = []
+linesOf f s w given (suc k) = linesOf f s w given k ++ frameLineFor f (startOf f s given k .time) w
 
 -- the first k frames
 unfoldable pub framesOf : Format → Start → ℕ → ℕ → ℕ → List Sent
-framesOf f s w year zero = []
-framesOf f s w year (suc k) = framesOf f s w year k ++ (record { time = startOf f s year k .time; control = w } ∷ [])
+framesOf f s w given zero = []
+framesOf f s w given (suc k) = framesOf f s w given k ++ (record { time = startOf f s given k .time; control = w } ∷ [])
 
 -- What a call for so many frames leaves: the lines of all but the frames left at the start of 65,536 bytes, and where the next frame starts.
 -- It puts all, unless there is no room for one line more, and at least one. What stands behind the lines is free.
 abbrev pub Generates : Format → Start → ℕ → ℕ → ℕ → Generated → List ℕ → Type 0
-Generates f s w year frames r out =
+Generates f s w given frames r out =
     (r .filled ≤ 65536)
     × (r .left ≤ frames)
-    × (r .next ≡ startOf f s year (frames - r .left))
-    × (take (r .filled) out ≡ linesOf f s w year (frames - r .left))
+    × (r .next ≡ startOf f s given (frames - r .left))
+    × (take (r .filled) out ≡ linesOf f s w given (frames - r .left))
     × (1 ≤ frames → r .left < frames)
     × (r .filled ≤ 65280 → r .left ≡ 0)

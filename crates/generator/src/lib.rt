@@ -41,13 +41,13 @@ fn check_step(stepped: Stepped) -> Written
 }
 
 // Whether there are such frames: Write's checks of the first of them, then Step's of its time, the year length and the kind.
-pub fn begin(format: Format, start: Start, control: u64, year: u16) -> Written
-    ensures { λ r. ⌜ r ≡ begunOf format start control year ⌝ }
+pub fn begin(format: Format, start: Start, control: u64, given: u16) -> Written
+    ensures { λ r. ⌜ r ≡ begunOf format start control given ⌝ }
 {
     let mut first = [0u8; 256];
     let lined = frame_line(format, start.time, control, &mut first);
     match lined {
-        Lined::Line(_) => check_step(step(format, start.time, year, start.kind)),
+        Lined::Line(_) => check_step(step(format, start.time, given, start.kind)),
         Lined::Refused(refusal) => Written::Refused(refusal),
     }
 }
@@ -63,11 +63,11 @@ fn kind_after(time: Time, next: Time, kind: u8) -> u8
 }
 
 // A refused step leaves the start; after `begin` none is.
-fn next_start(format: Format, start: Start, year: u16) -> Start
-    ensures { λ r. ⌜ r ≡ nextStart format start year ⌝ }
+fn next_start(format: Format, start: Start, given: u16) -> Start
+    ensures { λ r. ⌜ r ≡ nextStart format start given ⌝ }
 {
     let time = start.time;
-    let stepped = step(format, time, year, start.kind);
+    let stepped = step(format, time, given, start.kind);
     match stepped {
         Stepped::To(next) => Start {
             time: next,
@@ -95,17 +95,17 @@ pub fn generate(
     format: Format,
     start: Start,
     control: u64,
-    year: u16,
+    given: u16,
     frames: u64,
 ) -> Generated
-    ensures { λ r. ⌜ Generates format start control year frames r (now (out .exit)) ⌝ }
+    ensures { λ r. ⌜ Generates format start control given frames r (now (out .exit)) ⌝ }
 {
     let mut next = start;
     let mut left = frames;
     let mut filled = 0;
     while 0 < left && filled <= LAST_START {
         filled = put_next(out, filled, format, next.time, control);
-        next = next_start(format, next, year);
+        next = next_start(format, next, given);
         left -= 1;
     }
     Generated {

@@ -93,6 +93,6 @@ unfolding printed recordingText
 recording-is-read f sent k = rw (first-is f k (framesText f sent), format-back f k (framesText f sent), feeds-of-frames f sent)
 
 -- So of the lines that timewrite prints, once its checks are passed.
-pub recording-read : (f : Format) (s : Start) (w year : ℕ) → begunOf f s w year ≡ Done → (k : ℕ) → printed (firstLine f ++ linesOf f s w year k) ≡ printedFor 0 0 (plainAnswers f twoFrames [] (elements f (framesOf f s w year k)))
+pub recording-read : (f : Format) (s : Start) (w given : ℕ) → begunOf f s w given ≡ Done → (k : ℕ) → printed (firstLine f ++ linesOf f s w given k) ≡ printedFor 0 0 (plainAnswers f twoFrames [] (elements f (framesOf f s w given k)))
 unfolding recordingText
-recording-read f s w year b k = rw (lines-are f s w year b k) (recording-is-read f (framesOf f s w year k) (valid f s w year b .format))
+recording-read f s w given b k = rw (lines-are f s w given b k) (recording-is-read f (framesOf f s w given k) (valid f s w given b .format))

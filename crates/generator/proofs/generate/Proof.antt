@@ -14,10 +14,10 @@ use Rattle.generator.proofs.next_start.Reads as next-start-reads
 use Rattle.generator.proofs.put_next.Reads as put-next-reads
 
 abbrev Inv-loop : tie.InvT-loop
-Inv-loop out₀ format control year frames next₀ left₀ filled₀ out next left filled = (left ≤ frames) × (filled ≤ 65536) × PutSoFar format next₀ control year frames left next filled out × (left ≡ frames → filled ≡ 0)
+Inv-loop out₀ format control given frames next₀ left₀ filled₀ out next left filled = (left ≤ frames) × (filled ≤ 65536) × PutSoFar format next₀ control given frames left next filled out × (left ≡ frames → filled ≡ 0)
 
 abbrev μ-loop : tie.MeasureT-loop
-μ-loop out₀ format control year frames next₀ left₀ filled₀ out next left filled = left
+μ-loop out₀ format control given frames next₀ left₀ filled₀ out next left filled = left
 
 loop-holds : tie.Need-loop-holds Inv-loop μ-loop
 loop-holds c = (omega arith, omega arith, put-start _ _ _ _ _ _, λ h. refl)
