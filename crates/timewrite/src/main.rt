@@ -1,6 +1,6 @@
 // Prints a recording that timeread reads: the first line, and the frames of a generator, a line each.
-// Its arguments are letter and expression, day, hundredths, year length, number of frames and, if any, the control word
-// and the kind of the first day.
+// Its arguments are letter and expression, day, hundredths, year length, number of frames and, if any, the control word,
+// the kind of the first day and the first year. Where the format carries the year, its own length counts.
 ghost use mathlib.Core.Path.{_≡_};
 ghost use Prim.Native.Nat.{_-_, _≤_};
 ghost use Rattle.generator.specs.Sending.{startOf};
@@ -22,7 +22,7 @@ struct Request {
     format: Format,
     start: Start,
     control: u64,
-    year: u16,
+    given: u16,
     frames: u64,
 }
 
@@ -105,7 +105,14 @@ fn kind_argument(count: usize) -> Number {
     number_argument(7)
 }
 
-// A number past the end of its type becomes the type's last, which is no kind, no day, no year length and no time either.
+fn year_argument(count: usize) -> Number {
+    if count < 9 {
+        return Number::Value(0);
+    }
+    number_argument(8)
+}
+
+// A number past the end of its type becomes the type's last, which is no kind, no year, no day, no year length and no time either.
 fn limited_8(number: u64) -> u8 {
     if number <= 255 {
         return (number % 256) as u8;
@@ -137,8 +144,12 @@ fn start_argument(count: usize) -> Started {
     let Number::Value(kind) = kind_argument(count) else {
         return Started::Malformed;
     };
+    let Number::Value(year) = year_argument(count) else {
+        return Started::Malformed;
+    };
     Started::At(Start {
         time: Time {
+            year: limited_8(year),
             day: limited_16(day),
             hundredths: limited_32(hundredths),
         },
@@ -148,7 +159,7 @@ fn start_argument(count: usize) -> Started {
 
 fn asked_for() -> Asked {
     let count = os::arg_count();
-    if 8 < count {
+    if 9 < count {
         return Asked::Malformed;
     }
     let Named::Known(format) = format_argument() else {
@@ -157,7 +168,7 @@ fn asked_for() -> Asked {
     let Started::At(start) = start_argument(count) else {
         return Asked::Malformed;
     };
-    let Number::Value(year) = number_argument(4) else {
+    let Number::Value(given) = number_argument(4) else {
         return Asked::Malformed;
     };
     let Number::Value(frames) = number_argument(5) else {
@@ -170,24 +181,24 @@ fn asked_for() -> Asked {
         format: format,
         start: start,
         control: control,
-        year: limited_16(year),
+        given: limited_16(given),
         frames: frames,
     })
 }
 
 // Each part goes on where the one before ended; the end is reached unless nothing can be written any more.
 fn print_frames(request: Request) -> Generated
-    ensures { λ r. ⌜ (r .left ≤ request .frames) × (r .next ≡ startOf (request .format) (request .start) (request .year) (request .frames - r .left)) ⌝ }
+    ensures { λ r. ⌜ (r .left ≤ request .frames) × (r .next ≡ startOf (request .format) (request .start) (request .given) (request .frames - r .left)) ⌝ }
 {
     let format = request.format;
     let control = request.control;
-    let year = request.year;
+    let given = request.given;
     let mut out = io::large_buffer();
     let mut next = request.start;
     let mut left = request.frames;
     let mut more = true;
     while 0 < left && more {
-        let generated = generate(&mut out, format, next, control, year, left);
+        let generated = generate(&mut out, format, next, control, given, left);
         next = generated.next;
         left = generated.left;
         more = write_first(&mut out, generated.filled);
@@ -210,7 +221,12 @@ fn print_recording(request: Request) {
 
 // Every check is made before anything is printed.
 fn print_checked(request: Request) {
-    let answer = begin(request.format, request.start, request.control, request.year);
+    let answer = begin(
+        request.format,
+        request.start,
+        request.control,
+        request.given,
+    );
     match answer {
         Written::Done => print_recording(request),
         Written::Refused(refusal) => print_refused(refusal),
@@ -224,7 +240,7 @@ fn main() {
         Asked::Malformed => {
             io::write_all(
                 libc::STDERR_FILENO,
-                b"usage: timewrite FORMAT DAY HUNDREDTHS YEAR-LENGTH FRAMES [CONTROL-WORD [DAY-KIND]]\n",
+                b"usage: timewrite FORMAT DAY HUNDREDTHS YEAR-LENGTH FRAMES [CONTROL-WORD [DAY-KIND [YEAR]]]\n",
             );
         }
     }

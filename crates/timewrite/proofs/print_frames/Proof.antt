@@ -15,10 +15,10 @@ use Rattle.io.proofs.large_buffer.Reads as large-buffer-reads
 use Rattle.output.proofs.write_first.Reads as write-first-reads
 
 abbrev Inv-loop : tie.InvT-loop
-Inv-loop format control year out₀ next₀ left₀ more₀ out next left more = (left ≤ left₀) × (next ≡ startOf format next₀ year (left₀ - left))
+Inv-loop format control given out₀ next₀ left₀ more₀ out next left more = (left ≤ left₀) × (next ≡ startOf format next₀ given (left₀ - left))
 
 abbrev μ-loop : tie.MeasureT-loop
-μ-loop format control year out₀ next₀ left₀ more₀ out next left more = left
+μ-loop format control given out₀ next₀ left₀ more₀ out next left more = left
 
 large-buffer-requires : tie.Need-large-buffer-requires Inv-loop μ-loop
 large-buffer-requires c κs = search needs
