@@ -1,4 +1,4 @@
-// A call of the engine as a line of text, `step B 0 365 8639900 365 0`, and its answer as text, `1 0`.
+// A call of the engine as a line of text, `step B 4 24 366 8639900 365 0`, and its answer as text, `25 1 0`: a time is its year, its day and its hundredths.
 // A line `feeds` is a whole stream: format, setting and symbols, and its answer is every report.
 // A refusal is R and its number, with 5 and 6 also @ and the index of the element.
 ghost use Prim.Native.Nat.{_≤_};
@@ -8,6 +8,8 @@ use arguments::hexadecimal_in;
 use clock::difference;
 use clock::step;
 use clock::step_back;
+use editions::backward;
+use editions::forward;
 use frame::read;
 use frame::write;
 use frametext::character_of;
@@ -103,6 +105,8 @@ fn put_frame(text: &mut [u8; 4096], frame: &[u8; 1024], size: usize) -> usize {
 }
 
 fn put_time(text: &mut [u8; 4096], at: usize, time: Time) -> usize {
+    let at = put_decimal(text, at, time.year as u64);
+    let at = put(text, at, b' ');
     let at = put_decimal(text, at, time.day as u64);
     let at = put(text, at, b' ');
     put_decimal(text, at, time.hundredths as u64)
@@ -213,13 +217,15 @@ fn format_in(line: &[u8]) -> Format {
     }
 }
 
-// The time of which the day is that word.
+// The time of which the year is that word.
 fn time_in(line: &[u8], word: usize) -> Time
     requires { ⌜ word ≤ 8 ⌝ }
 {
-    let day = (decimal(line, word) % 65_536) as u16;
-    let hundredths = (decimal(line, word + 1) % 4_294_967_296) as u32;
+    let year = (decimal(line, word) % 256) as u8;
+    let day = (decimal(line, word + 1) % 65_536) as u16;
+    let hundredths = (decimal(line, word + 2) % 4_294_967_296) as u32;
     Time {
+        year: year,
         day: day,
         hundredths: hundredths,
     }
@@ -275,21 +281,21 @@ fn put_stepped(text: &mut [u8; 4096], stepped: Stepped) -> usize {
     }
 }
 
-// Word 5 of a step, either way: the year's length.
-fn year_in(line: &[u8]) -> u16 {
-    (decimal(line, 5) % 65_536) as u16
+// Word 6 of a step, either way: the year's length.
+fn length_in(line: &[u8]) -> u16 {
+    (decimal(line, 6) % 65_536) as u16
 }
 
-// Word 6: the kind of the day. A line without it asks for a usual day.
+// Word 7: the kind of the day. A line without it asks for a usual day.
 fn kind_in(line: &[u8]) -> u8 {
-    (decimal(line, 6) % 256) as u8
+    (decimal(line, 7) % 256) as u8
 }
 
 fn put_step(line: &[u8], text: &mut [u8; 4096]) -> usize {
     let stepped = step(
         format_in(line),
         time_in(line, 3),
-        year_in(line),
+        length_in(line),
         kind_in(line),
     );
     put_stepped(text, stepped)
@@ -299,7 +305,7 @@ fn put_step_back(line: &[u8], text: &mut [u8; 4096]) -> usize {
     let stepped = step_back(
         format_in(line),
         time_in(line, 3),
-        year_in(line),
+        length_in(line),
         kind_in(line),
     );
     put_stepped(text, stepped)
@@ -336,21 +342,100 @@ fn is_changed(lent: &[u8; 1024]) -> bool {
     false
 }
 
-fn put_write(line: &[u8], text: &mut [u8; 4096]) -> usize {
-    let control = number(line, 5, 16);
-    let size = decimal(line, 6) as usize;
-    let mut lent = [LENT; 1024];
-    let written = write_first(format_in(line), time_in(line, 3), control, &mut lent, size);
+// The frame that was written, or the refusal, which leaves the lent memory as it was.
+fn put_written(text: &mut [u8; 4096], written: Written, lent: &[u8; 1024], size: usize) -> usize {
     match written {
-        Written::Done => put_frame(text, &lent, size),
+        Written::Done => put_frame(text, lent, size),
         Written::Refused(refusal) => {
             let at = put_refusal(text, 0, refusal);
-            if is_changed(&lent) {
+            if is_changed(lent) {
                 return put_bytes(text, at, b" CHANGED");
             }
             at
         }
     }
+}
+
+fn put_write(line: &[u8], text: &mut [u8; 4096]) -> usize {
+    let control = number(line, 6, 16);
+    let size = decimal(line, 7) as usize;
+    let mut lent = [LENT; 1024];
+    let written = write_first(format_in(line), time_in(line, 3), control, &mut lent, size);
+    put_written(text, written, &lent, size)
+}
+
+// The forward converter, lent the first bytes of the slice: all of both, where more are asked for.
+fn forward_part(
+    format: Format,
+    frame: &[u8],
+    size: usize,
+    year: u8,
+    lent: &mut [u8],
+    room: usize,
+) -> Written {
+    if size < frame.len() {
+        if room < lent.len() {
+            return forward(format, &frame[0..size], year, &mut lent[0..room]);
+        }
+    }
+    forward(format, frame, year, lent)
+}
+
+fn forward_first(
+    format: Format,
+    frame: &[u8; 1024],
+    size: usize,
+    year: u8,
+    lent: &mut [u8; 1024],
+    room: usize,
+) -> Written {
+    forward_part(format, frame, size, year, lent, room)
+}
+
+// Words 3, 4 and 5: the frame, the year and how many bytes are lent.
+fn put_forward(line: &[u8], text: &mut [u8; 4096]) -> usize {
+    let mut frame = [0u8; 1024];
+    let size = elements_in(line, 3, &mut frame);
+    let year = (decimal(line, 4) % 256) as u8;
+    let room = decimal(line, 5) as usize;
+    let mut lent = [LENT; 1024];
+    let written = forward_first(format_in(line), &frame, size, year, &mut lent, room);
+    put_written(text, written, &lent, room)
+}
+
+fn backward_part(
+    format: Format,
+    frame: &[u8],
+    size: usize,
+    lent: &mut [u8],
+    room: usize,
+) -> Written {
+    if size < frame.len() {
+        if room < lent.len() {
+            return backward(format, &frame[0..size], &mut lent[0..room]);
+        }
+    }
+    backward(format, frame, lent)
+}
+
+fn backward_first(
+    format: Format,
+    frame: &[u8; 1024],
+    size: usize,
+    lent: &mut [u8; 1024],
+    room: usize,
+) -> Written {
+    backward_part(format, frame, size, lent, room)
+}
+
+// Words 3 and 4: the frame and how many bytes are lent.
+fn put_backward(line: &[u8], text: &mut [u8; 4096]) -> usize {
+    let mut frame = [0u8; 1024];
+    let size = elements_in(line, 3, &mut frame);
+    let room = decimal(line, 4) as usize;
+    let mut lent = [LENT; 1024];
+    let written = backward_first(format_in(line), &frame, size, &mut lent, room);
+    put_written(text, written, &lent, room)
 }
 
 fn read_part(format: Format, frame: &[u8], size: usize) -> Reading {
@@ -375,7 +460,7 @@ fn put_read(line: &[u8], text: &mut [u8; 4096]) -> usize {
 }
 
 fn put_difference(line: &[u8], text: &mut [u8; 4096]) -> usize {
-    let subtracted = difference(time_in(line, 1), time_in(line, 3));
+    let subtracted = difference(time_in(line, 1), time_in(line, 4));
     match subtracted {
         Subtracted::Hundredths(hundredths) => put_signed(text, 0, hundredths),
         Subtracted::Refused(refusal) => put_refusal(text, 0, refusal),
@@ -436,15 +521,14 @@ struct Progress {
     at: usize,
 }
 
-// The number of the report's last element, the year, the time and the control word; reports stand apart by `;`. No format here
-// carries a year: it is 0.
+// The number of the report's last element, the time and the control word; reports stand apart by `;`.
 fn put_report(text: &mut [u8; 4096], at: usize, element: u64, time: Time, control: u64) -> usize {
     let mut at = at;
     if 0 < at {
         at = put_bytes(text, at, b"; ");
     }
     let at = put_decimal(text, at, element);
-    let at = put_bytes(text, at, b" 0 ");
+    let at = put(text, at, b' ');
     put_reading(text, at, time, control)
 }
 
@@ -515,6 +599,7 @@ fn reader_in(line: &[u8]) -> Reader {
         row: 0,
     };
     let time = Time {
+        year: 0,
         day: 0,
         hundredths: 0,
     };
@@ -554,6 +639,12 @@ pub fn put_answer(line: &[u8], text: &mut [u8; 4096]) -> usize {
     }
     if is_named(line, b"read") {
         return put_read(line, text);
+    }
+    if is_named(line, b"forward") {
+        return put_forward(line, text);
+    }
+    if is_named(line, b"backward") {
+        return put_backward(line, text);
     }
     if is_named(line, b"difference") {
         return put_difference(line, text);
