@@ -2,7 +2,9 @@
 
 use crate::random::Random;
 use crate::streams::{control, format_of, frame, random_bits, setting, table, time, FORMATS};
-use crate::{agree, plain_refused, refused, Counts, COUNT, DAY, HUNDREDTHS, PLACE, ROW, SETTING, YEAR};
+use crate::{
+    agree, plain_refused, refused, Counts, COUNT, DAY, HUNDREDTHS, PLACE, ROW, SETTING, YEAR,
+};
 use reference::{Format, Time};
 
 /// How many of each call go with a stream.
