@@ -21,7 +21,7 @@ use timecode::Time;
 use timecode::Written;
 use timecode::ZERO;
 
-const FORMATS: usize = 16;
+const FORMATS: usize = 24;
 
 // Symbols of a stream that no generator made.
 const SYMBOLS: u64 = 200_000;
@@ -73,10 +73,10 @@ fn folded(sum: u64, number: u64) -> u64 {
     (sum % PRIME * 31 + number % PRIME) % PRIME
 }
 
-// A report counts by where it came and by all that it says.
+// A report counts by where it came and by all that it says. Where no year is carried it is 0, and the sum that of the day.
 fn with_report(sum: u64, elements: u64, time: Time, control: u64) -> u64 {
     let sum = folded(sum, elements);
-    let sum = folded(sum, time.day as u64);
+    let sum = folded(sum, 1_000 * time.year as u64 + time.day as u64);
     let sum = folded(sum, time.hundredths as u64);
     folded(sum, control)
 }
@@ -133,6 +133,7 @@ fn reader_at(format: Format, setting: u8, place: usize) -> Reader {
         row: 0,
     };
     let time = Time {
+        year: 0,
         day: 0,
         hundredths: 0,
     };
@@ -334,11 +335,19 @@ fn write_first(
     write_part(format, time, control, lent, n)
 }
 
+// Expressions 4 to 7 are 0 to 3 with the year.
+fn carries_year(format: Format) -> bool {
+    3 < format.expression
+}
+
 // Frame j's control word: as many bits as the format carries, of a number that grows with j.
 fn control_of(format: Format, j: u64) -> u64 {
     let number = j % 65_536 * 12_345;
-    if 1 < format.expression {
+    if 1 < format.expression % 4 {
         return 0;
+    }
+    if carries_year(format) {
+        return number % 262_144;
     }
     let letter = format.letter;
     match letter {
@@ -349,17 +358,30 @@ fn control_of(format: Format, j: u64) -> u64 {
     }
 }
 
+// Common begins in the year before year 0, every other case in one that has day 366.
+fn first_year(case: Case, format: Format) -> u8 {
+    if carries_year(format) {
+        return match case {
+            Case::Common => Time::LAST_YEAR,
+            _ => 96,
+        };
+    }
+    0
+}
+
 // Ten steps before the last time of day 365.
-fn first_time(format: Format) -> Time {
+fn first_time(case: Case, format: Format) -> Time {
     Time {
+        year: first_year(case, format),
         day: 365,
         hundredths: Time::DAY_LENGTH - 11 * frame_interval(format),
     }
 }
 
 // The year's length of step j: day 365 ends with step 10, so Leap and Repeated go on to day 366 and Common to day 1. On day 366 a
-// year of 365 is refused: Leap sends every second frame again, and Repeated every fifth.
-fn year_of(case: Case, j: u64) -> u16 {
+// year of 365 is refused: Leap sends every second frame again, and Repeated every fifth. Where the year is carried, its own length
+// counts and none is refused.
+fn length_of(case: Case, j: u64) -> u16 {
     match case {
         Case::Leap => {
             if j % 2 == 0 {
@@ -384,8 +406,8 @@ fn year_of(case: Case, j: u64) -> u16 {
 }
 
 // A refused step leaves the time, and the next frame says it again.
-fn time_after(format: Format, time: Time, year: u16) -> Time {
-    let stepped = step(format, time, year, Time::USUAL_DAY);
+fn time_after(format: Format, time: Time, length: u16) -> Time {
+    let stepped = step(format, time, length, Time::USUAL_DAY);
     match stepped {
         Stepped::To(next) => next,
         Stepped::Refused(_) => time,
@@ -395,14 +417,14 @@ fn time_after(format: Format, time: Time, year: u16) -> Time {
 fn receive_frames(case: Case, format: Format, setting: u8) -> Tally {
     let n = frame_size(format);
     let mut tally = fresh(format, setting);
-    let mut time = first_time(format);
+    let mut time = first_time(case, format);
     let mut k = 0;
     let mut j = 0;
     while j < FRAMES {
         let mut frame = [LENT; 100];
         write_first(format, time, control_of(format, j), &mut frame, n);
         tally = receive_frame(case, tally, &frame, n, k);
-        time = time_after(format, time, year_of(case, j));
+        time = time_after(format, time, length_of(case, j));
         k = wrapping_add_u64(k, n as u64);
         j += 1;
     }
@@ -454,11 +476,36 @@ fn print_line(name: &[u8], format: Format, setting: u8, tally: Tally) {
 }
 
 fn format_at(i: usize) -> Format {
-    let letters = *b"AAAABBBBDDEEGGHH";
-    let expressions = [0u8, 1, 2, 3, 0, 1, 2, 3, 1, 2, 1, 2, 1, 2, 1, 2];
+    let letters = *b"AAAAAAAABBBBBBBBDDEEGGHH";
+    let expressions = [
+        0u8,
+        1,
+        2,
+        3,
+        4,
+        5,
+        6,
+        7,
+        0,
+        1,
+        2,
+        3,
+        4,
+        5,
+        6,
+        7,
+        1,
+        2,
+        1,
+        2,
+        1,
+        2,
+        1,
+        2,
+    ];
     Format {
-        letter: letters[i % 16],
-        expression: expressions[i % 16],
+        letter: letters[i % 24],
+        expression: expressions[i % 24],
     }
 }
 

@@ -31,8 +31,8 @@ write-first-requires c κs = search needs
 receive-frame-requires : tie.Need-receive-frame-requires Inv-loop μ-loop
 receive-frame-requires c κs = search needs
 
-year-of-requires : tie.Need-year-of-requires Inv-loop μ-loop
-year-of-requires c κs = search needs
+length-of-requires : tie.Need-length-of-requires Inv-loop μ-loop
+length-of-requires c κs = search needs
 
 time-after-requires : tie.Need-time-after-requires Inv-loop μ-loop
 time-after-requires c κs = search needs
@@ -65,7 +65,7 @@ receive-frames-spec =
     control-of-requires
     write-first-requires
     receive-frame-requires
-    year-of-requires
+    length-of-requires
     time-after-requires
     wrapping-add-u64-requires
     add-j
