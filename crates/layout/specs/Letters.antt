@@ -6,8 +6,8 @@ use Prim.Native.Nat.{ℕ, zero, suc, _+_, _≤_}
 use native.Mathlib.Omega.{arith}
 use borrow.Author.Tests.{eqb-true, eqb-false, ne-eqb, leb-true, leb-false, le-leb, lt-leb}
 use lib.Dec.{leb, eqb}
-use Rattle.timecode.specs.Formats.{member, carriesLeap, carriesYear, A, B, D, E, G, H, table, noRow, lookUp, rowOf, carriesControl, carriesSeconds, controlPlaces}
-use Rattle.timecode.specs.Laws.Tests.{by-test, clash, and-left, or-second}
+use Rattle.timecode.specs.Formats.{member, known, carriesLeap, carriesYear, A, B, D, E, G, H, table, noRow, lookUp, rowOf, carriesControl, carriesSeconds, controlPlaces}
+use Rattle.timecode.specs.Laws.Tests.{by-test, clash, and-left, and-right, or-second}
 use Rattle.timecode.specs.Layout.{tabulate, seconds, minutes, hours, days, tenths, hundredthsDigit, hasSeconds, straightSeconds, years, timeFields}
 use Rattle.timecode.specs.declared.Format.{Format}
 use Rattle.layout.specs.Runs.{codeRange, codeControl, codeFields, codeRuns}
@@ -42,6 +42,18 @@ later-row e y =
     let three = member e (3 ∷ 4 ∷ 5 ∷ 6 ∷ 7 ∷ []) in
     let two = eqb e 2 || three in
     or-second (eqb e 0) (eqb e 1 || two) (or-second (eqb e 1) two (or-second (eqb e 2) three (or-second (eqb e 3) (member e (4 ∷ 5 ∷ 6 ∷ 7 ∷ [])) y))) ∙ sym (sym (in-row 4 4 7 refl e) ∙ y)
+
+-- a format that carries the year is known
+pub year-known : (f : Format) → carriesYear f ≡ true → known f ≡ true
+unfolding carriesYear hasYear known rowOf lookUp table
+year-known f y =
+    let e = f .expression in
+    let h : hasYear e ≡ true = and-left (hasYear e) (member (f .letter) (A ∷ B ∷ [])) y in
+    let l : member (f .letter) (A ∷ B ∷ []) ≡ true = and-right (hasYear e) (member (f .letter) (A ∷ B ∷ [])) y in
+    let all : member e (0 ∷ 1 ∷ 2 ∷ 3 ∷ 4 ∷ 5 ∷ 6 ∷ 7 ∷ []) ≡ true = later-row e h ∙ sym (in-row 4 4 7 refl e) ∙ h in
+    by-test (eqb (f .letter) A)
+    (λ a. rw (eqb-true (f .letter) A a) all)
+    (λ n. let b : eqb (f .letter) B || false ≡ true = rw n at l in by-test (eqb (f .letter) B) (λ z. rw (eqb-true (f .letter) B z) all) (λ m. clash b (rw m)))
 
 -- a letter that takes the year has none where its format has none
 pub no-year : (l e : ℕ) → member l (A ∷ B ∷ []) ≡ true → carriesYear (with-letter l e) ≡ false → hasYear e ≡ false

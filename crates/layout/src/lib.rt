@@ -254,41 +254,47 @@ pub fn takes(row: Row, expression: u8) -> bool
     false
 }
 
+// A and B in the expressions with the year.
+pub fn carries_year(format: Format) -> bool
+    ensures { λ r. ⌜ r ≡ carriesYear format ⌝ }
+{
+    if has_year(format.expression) {
+        if format.letter == b'A' {
+            return true;
+        }
+        return format.letter == b'B';
+    }
+    false
+}
+
 pub fn is_known(format: Format) -> bool
     ensures { λ r. ⌜ r ≡ known format ⌝ }
 {
-    takes(
-        edition_row(format.letter, format.expression),
-        format.expression,
-    )
+    if carries_year(format) {
+        return true;
+    }
+    takes(letter_row(format.letter), format.expression)
 }
 
 pub fn frame_size(format: Format) -> usize
     ensures { λ r. ⌜ (r ≡ size format) × (60 ≤ r) × (r ≤ 100) ⌝ }
 {
-    let row = edition_row(format.letter, format.expression);
+    let row = letter_row(format.letter);
     row.elements
 }
 
 pub fn frame_interval(format: Format) -> u32
     ensures { λ r. ⌜ (r ≡ interval format) × (1 ≤ r) × (r ≤ 360000) ⌝ }
 {
-    let row = edition_row(format.letter, format.expression);
+    let row = letter_row(format.letter);
     row.interval
 }
 
 pub fn carries_leap(format: Format) -> bool
     ensures { λ r. ⌜ r ≡ carriesLeap format ⌝ }
 {
-    let row = edition_row(format.letter, format.expression);
+    let row = letter_row(format.letter);
     row.leap
-}
-
-pub fn carries_year(format: Format) -> bool
-    ensures { λ r. ⌜ r ≡ carriesYear format ⌝ }
-{
-    let row = edition_row(format.letter, format.expression);
-    row.year
 }
 
 pub fn mark_places() -> [u8; 11]

@@ -1,19 +1,21 @@
--- `frame_interval` meets its contract: the row's own figure.
-use mathlib.Core.Path.{sym}
+-- `frame_interval` meets its contract: the letter's own figure, whatever the expression.
+use mathlib.Core.Path.{_≡_, refl, sym}
 use borrow.Author.Needs.{needs}
+use Rattle.timecode.specs.Formats.{interval, rowOf, carriesYear}
 use Rattle.timecode.specs.Laws.Table.{interval-range}
 use Rattle.layout.proofs.frame_interval.Statement.{statement}
 use Rattle.layout.proofs.frame_interval.Tie as tie
 
-edition-row-requires : tie.Need-edition-row-requires
-edition-row-requires c κs = search needs
+letter-row-requires : tie.Need-letter-row-requires
+letter-row-requires c κs = search needs
 
 returns : tie.Need-returns
+unfolding interval rowOf carriesYear
 returns c =
     let f = c .before .args .format in
-    let same = c .edition-row .ensures .interval-is in
+    let same : interval (c .before .args .format) ≡ c .letter-row .result .interval = c .letter-row .ensures 0 refl .interval-is in
     let range = interval-range f in
     (sym same, rw same at (range .0), rw same at (range .1))
 
 pub frame-interval-spec : {M : Type 1} → statement M
-frame-interval-spec = tie.close (tie.spec edition-row-requires returns)
+frame-interval-spec = tie.close (tie.spec letter-row-requires returns)

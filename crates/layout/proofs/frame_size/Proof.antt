@@ -1,19 +1,21 @@
--- `frame_size` meets its contract: the row's own figure.
-use mathlib.Core.Path.{sym}
+-- `frame_size` meets its contract: the letter's own figure, whatever the expression.
+use mathlib.Core.Path.{_≡_, refl, sym}
 use borrow.Author.Needs.{needs}
+use Rattle.timecode.specs.Formats.{size, rowOf, carriesYear}
 use Rattle.timecode.specs.Laws.Table.{size-range}
 use Rattle.layout.proofs.frame_size.Statement.{statement}
 use Rattle.layout.proofs.frame_size.Tie as tie
 
-edition-row-requires : tie.Need-edition-row-requires
-edition-row-requires c κs = search needs
+letter-row-requires : tie.Need-letter-row-requires
+letter-row-requires c κs = search needs
 
 returns : tie.Need-returns
+unfolding size rowOf carriesYear
 returns c =
     let f = c .before .args .format in
-    let same = c .edition-row .ensures .elements-are in
+    let same : size (c .before .args .format) ≡ c .letter-row .result .elements = c .letter-row .ensures 0 refl .elements-are in
     let range = size-range f in
     (sym same, rw same at (range .0), rw same at (range .1))
 
 pub frame-size-spec : {M : Type 1} → statement M
-frame-size-spec = tie.close (tie.spec edition-row-requires returns)
+frame-size-spec = tie.close (tie.spec letter-row-requires returns)

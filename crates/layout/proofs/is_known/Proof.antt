@@ -1,17 +1,28 @@
--- `is_known` meets its contract: the row's letter takes the expression.
+-- `is_known` meets its contract: a format that carries the year is known, and of any other the letter's row takes the expression.
 use borrow.Author.Needs.{needs}
 use mathlib.Core.Path.{sym, _∙_}
+use Rattle.layout.specs.Letters.{year-known}
 use Rattle.layout.proofs.is_known.Statement.{statement}
 use Rattle.layout.proofs.is_known.Tie as tie
 
-edition-row-requires : tie.Need-edition-row-requires
-edition-row-requires c κs = search needs
+carries-year-requires : tie.Need-carries-year-requires
+carries-year-requires c κs = search needs
+
+returns : tie.Need-returns
+returns c = sym (year-known (c .before .before .args .format) (sym (c .before .carries-year .ensures) ∙ c .if1 .taken))
+
+letter-row-requires : tie.Need-letter-row-requires
+letter-row-requires c κs = search needs
 
 takes-requires : tie.Need-takes-requires
 takes-requires c κs = search needs
 
-returns : tie.Need-returns
-returns c = c .takes .ensures ∙ sym (c .before .edition-row .ensures .expressions-are)
+returns-2 : tie.Need-returns-2
+returns-2 c =
+    let f = c .before .before .before .before .args .format in
+    let none = sym (c .before .before .before .carries-year .ensures) ∙ c .before .before .if1 .left in
+    c .takes .ensures ∙ sym (c .before .letter-row .ensures (f .expression) none .expressions-are)
 
 pub is-known-spec : {M : Type 1} → statement M
-is-known-spec = tie.close (tie.spec edition-row-requires takes-requires returns)
+is-known-spec =
+    tie.close (tie.spec carries-year-requires returns letter-row-requires takes-requires returns-2)
