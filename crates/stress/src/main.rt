@@ -1,16 +1,18 @@
 // Long streams, most of them damaged: for each case, format and setting how many symbols a reader accepts, reports and refuses, and a
 // checksum over its reports. The expected lines are from an independent plain version of the rules in another language.
+ghost use mathlib.Core.Path.{_≡_};
 ghost use Prim.Native.Nat.{_≤_};
+ghost use Rattle.stream.specs.Feeding.{feedOf};
 use clock::step;
 use frame::write;
 use layout::frame_interval;
 use layout::frame_size;
 use register::Register;
 use std::num::wrapping_add_u64;
+use stream::Fed;
 use stream::Made;
 use stream::Reader;
-use stream::answer_to;
-use stream::next_reader;
+use stream::feed_in_place;
 use timecode::Answer;
 use timecode::Format;
 use timecode::MARK;
@@ -81,11 +83,22 @@ fn with_report(sum: u64, elements: u64, time: Time, control: u64) -> u64 {
     folded(sum, control)
 }
 
-// One Feed.
+// One Feed in place, as the recorder has it: of a reader of its own, which is given on with the answer.
+fn feed_one(reader: Reader, symbol: u8) -> Fed
+    ensures { λ r. ⌜ r ≡ feedOf reader symbol ⌝ }
+{
+    let mut own = reader;
+    let answer = feed_in_place(&mut own, symbol);
+    Fed {
+        reader: own,
+        answer: answer,
+    }
+}
+
 fn receive(tally: Tally, symbol: u8) -> Tally {
-    let before = tally.reader;
-    let reader = next_reader(before, symbol);
-    let answer = answer_to(before, symbol, reader);
+    let fed = feed_one(tally.reader, symbol);
+    let reader = fed.reader;
+    let answer = fed.answer;
     let elements = one_more(tally.elements);
     match answer {
         Answer::Quiet => Tally {
