@@ -95,12 +95,14 @@ def read_table():
             row[field] = numbers(found[1])[0]
         if row["last"] < row["first"]:
             continue  # the row of what is no format
-        # a list in the row itself, or the name of a constant
-        starts = re.search(r"starts: (?:\[(.*?)\]|(\w+))", body, re.S)
-        row["starts"] = numbers(starts[1]) if starts and starts[1] else array(starts[2] if starts else "STARTS")
-        row["widths"] = numbers(re.search(r"widths: \[(.*?)\]", body, re.S)[1])
-        if not len(row["widths"]) == len(row["starts"]) == len(RUNS):
-            fail(f"row {name} has {len(row['widths'])} runs")
+        runs = re.search(r"\bruns: 0b([01_]+),", body)
+        if not runs:
+            fail(f"row {name} has no runs")
+        carried = runs[1].replace("_", "")[::-1]
+        row["starts"] = array("STARTS")
+        row["widths"] = [width if bit == "1" else 0 for width, bit in zip(array("WIDTHS"), carried)]
+        if not len(carried) == len(row["widths"]) == len(row["starts"]) == len(RUNS):
+            fail(f"row {name} has {len(carried)} runs")
         rows[row["letter"], row["first"]] = row
     if sorted(rows) != sorted(sum(PANELS, [])):
         fail(f"rows for the letters and first expressions {sorted(rows)}")

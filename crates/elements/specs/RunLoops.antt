@@ -1,20 +1,21 @@
 -- A row's runs one by one: what a turn of the loops over them does.
 use mathlib.Core.Path.{_≡_, refl, ap, ap₂, _∙_}
-use mathlib.Core.Bool.{Bool, true, cond, _&&_}
+use mathlib.Core.Bool.{Bool, true, false, cond, _&&_}
 use mathlib.Core.List.{List, [], _∷_, map}
 use Prim.Native.Nat.{ℕ, zero, suc, _+_, _*_, _-_, _<_, _≤_}
+use native.Mathlib.Nat.{zero-add}
 use native.Mathlib.Omega.{arith}
 use borrow.Author.Tests.{leb-true}
 use lib.Dec.{leb, eqb}
-use lib.ListN.{getD, length, take, set, length-set, List·getD-map}
+use lib.ListN.{getD, length, List·getD-map}
 use lib.Pow.{pow-mono}
 use Rattle.timecode.specs.Formats.{A, B, E, G, H, member, known, size, carriesControl, carriesYear, controlPlaces}
-use Rattle.timecode.specs.Laws.Runs.{place-in, covered-inside, covered-at, fill-step, fill-end}
+use Rattle.timecode.specs.Laws.Runs.{place-in, covered-inside, covered-at, getD-tabulate}
 use Rattle.timecode.specs.Laws.Tests.{by-test, and-left, and-right, everyBelow, below-every}
 use Rattle.timecode.specs.Layout.{Run, seconds, minutes, hours, days, tenths, hundredthsDigit, hasSeconds, straightSeconds, years, timeFields, filler, tabulate, value, Small, decode}
 use Rattle.timecode.specs.declared.Format.{Format}
 use Rattle.layout.specs.Letters.{same-starts}
-use Rattle.layout.specs.Tables.{runStarts, startsOf, widthsOf}
+use Rattle.layout.specs.Tables.{runStarts, fullWidths, isCarried, runWidths, startsOf, widthsOf}
 use Rattle.layout.specs.Runs.{codeRange, codeControl, codeFields, codeRuns, code-proper}
 
 abbrev noRun : Run
@@ -86,17 +87,13 @@ run-inside f h j k b l =
     (covered-inside (size f) (filler f) (codeRuns f) (code-proper f h) (runAt f j .start + k) (covered-at (codeRuns f) noRun j (runAt f j .start + k) (omega (arith, length-runs f)) (place-in (runAt f j) k w)) .0)
 
 -- a row's runs lie in a frame of n elements
-pub record RunsInside (starts widths : List ℕ) (n : ℕ) : Type 0 where
-  pub starts-long : length starts ≡ 20
-  pub widths-long : length widths ≡ 20
+pub record RunsInside (widths : List ℕ) (n : ℕ) : Type 0 where
   pub narrow : (j : ℕ) → getD widths j 0 ≤ 9
-  pub inside : (j k : ℕ) → j < 20 → k < getD widths j 0 → getD starts j 0 + k < n
+  pub inside : (j k : ℕ) → j < 20 → k < getD widths j 0 → getD runStarts j 0 + k < n
 
-pub runs-inside : (f : Format) → known f ≡ true → RunsInside runStarts (widthsOf f) (size f)
+pub runs-inside : (f : Format) → known f ≡ true → RunsInside (widthsOf f) (size f)
 runs-inside f h =
     record {
-      starts-long = refl;
-      widths-long = length-widths f;
       narrow = width-small f;
       inside = λ j k b l. rw (ap (λ (ss : List ℕ). getD ss j 0) (same-starts f)) at (run-inside f h j k b l);
     }
@@ -117,22 +114,28 @@ starts-within from first n h j a b =
 -- ---- reading, from the first run to the last
 
 -- the digit at run j
-abbrev pub runDigit : List ℕ → List ℕ → List ℕ → ℕ → ℕ
-runDigit starts widths frame j = value (getD widths j 0) (λ b. getD frame (getD starts j 0 + b) 0)
+unfoldable pub runDigit : List ℕ → List ℕ → ℕ → ℕ
+runDigit widths frame j = value (getD widths j 0) (λ b. getD frame (getD runStarts j 0 + b) 0)
 
 -- the digits at all runs
-unfoldable pub digitsAt : List ℕ → List ℕ → List ℕ → List ℕ
-digitsAt starts widths frame = tabulate 20 0 (runDigit starts widths frame)
+unfoldable pub digitsAt : List ℕ → List ℕ → List ℕ
+digitsAt widths frame = tabulate 20 0 (runDigit widths frame)
 
--- two more stores end a list of twenty
-pub two-more : (ds : List ℕ) (g : ℕ → ℕ) (a b : ℕ) → length ds ≡ 20 → take 18 ds ≡ tabulate 18 0 g → a ≡ g 18 → b ≡ g 19 → set (set ds 18 a) 19 b ≡ tabulate 20 0 g
-two-more ds g a b l h p q =
-    let first : take 19 (set ds 18 (g 18)) ≡ tabulate 19 0 g = fill-step ds g 18 (omega arith) h in
-    let n : length (set ds 18 (g 18)) ≡ 20 = length-set ds 18 (g 18) ∙ l in
-    rw (p, q) (fill-end (set (set ds 18 (g 18)) 19 (g 19)) g 20 (length-set (set ds 18 (g 18)) 19 (g 19) ∙ n) (fill-step (set ds 18 (g 18)) g 19 (omega arith) first))
+-- the width of a run of a set
+width-of : (runs j : ℕ) → j < 20 → getD (runWidths runs) j 0 ≡ cond (isCarried runs j) (getD fullWidths j 0) 0
+unfolding runWidths
+width-of runs j h = getD-tabulate 20 0 (λ (i : ℕ). cond (isCarried runs i) (getD fullWidths i 0) 0) 0 j h ∙ ap (λ (i : ℕ). cond (isCarried runs i) (getD fullWidths i 0) 0) (zero-add j)
 
-pub digits-at : (f : Format) (frame : List ℕ) → digitsAt runStarts (widthsOf f) frame ≡ decode (codeRuns f) frame
-unfolding digitsAt widthsOf codeRuns codeFields timeFields seconds minutes hours days tenths hundredthsDigit straightSeconds codeControl codeRange years
+pub carried-width : (runs j : ℕ) → j < 20 → isCarried runs j ≡ true → getD (runWidths runs) j 0 ≡ getD fullWidths j 0
+carried-width runs j h y = width-of runs j h ∙ rw y
+
+-- where a run is not carried, its digit is 0
+pub no-digit : (runs : ℕ) (frame : List ℕ) (j : ℕ) → j < 20 → isCarried runs j ≡ false → 0 ≡ runDigit (runWidths runs) frame j
+unfolding runDigit value
+no-digit runs frame j h n = rw (width-of runs j h, n)
+
+pub digits-at : (f : Format) (frame : List ℕ) → digitsAt (widthsOf f) frame ≡ decode (codeRuns f) frame
+unfolding digitsAt runDigit widthsOf codeRuns codeFields timeFields seconds minutes hours days tenths hundredthsDigit straightSeconds codeControl codeRange years
 digits-at f frame = refl
 
 -- ---- the bits of one digit, from the highest to the lowest

@@ -3,9 +3,9 @@
 ghost use mathlib.Core.Path.{_≡_};
 ghost use Prim.Native.Nat.{ℕ, _+_, _*_, _-_, _/_, _%_, _^_, _≤_, _<_};
 ghost use lib.ListN.{getD, length};
-ghost use Rattle.timecode.specs.Layout.{value};
-ghost use Rattle.layout.specs.Tables.{runStarts, markPlaces};
-ghost use Rattle.elements.specs.RunBits.{packedRuns, packedYear, putIn};
+ghost use Rattle.timecode.specs.Layout.{tabulate, value};
+ghost use Rattle.layout.specs.Tables.{runStarts, fullWidths, runWidths, markPlaces};
+ghost use Rattle.elements.specs.RunBits.{packed, packedRuns, packedYear, elementAt};
 ghost use Rattle.elements.specs.RunLoops.{RunsInside, runDigit, digitsAt};
 ghost use Rattle.elements.specs.Tens.{fourElements, ten, tens, IsFrame};
 use layout::CONTROL_1;
@@ -15,7 +15,10 @@ use layout::SECOND;
 use layout::STRAIGHT_LOW;
 use layout::YEAR_TENS;
 use layout::YEAR_UNITS;
+use layout::full_widths;
+use layout::is_carried;
 use layout::mark_places;
+use layout::run_starts;
 use timecode::MARK;
 
 // The four elements of each number below 16, a byte each, lowest weight first.
@@ -116,23 +119,45 @@ fn put_tens(fours: &[u32], places: &[u8], frame: &mut [u8], from: usize, to: usi
     }
 }
 
-// The digits as the elements of a frame, from the digits and the row's places alone: those of the time, the first control range
-// and the year stand below 60, straight binary seconds and the other ranges from 60 on. Any digits give zeros, ones and marks.
-pub fn put_digits(starts: &[u8], digits: &[u64], frame: &mut [u8])
-    requires { ⌜ (now starts ≡ runStarts) × (length (now digits) ≡ 20) × IsFrame (length (now frame)) ⌝ }
-    ensures { λ _. ⌜ now (frame .exit) ≡ putIn (length (now (frame .entry))) (now (digits .entry)) ⌝ }
+// The elements of a frame from their bits: those below 60 as one number, those from 60 on as another.
+pub fn put_bits(head: u64, tail: u64, frame: &mut [u8])
+    requires { ⌜ IsFrame (length (now frame)) ⌝ }
+    ensures { λ _. ⌜ now (frame .exit) ≡ tabulate (length (now (frame .entry))) 0 (elementAt head tail) ⌝ }
 {
     let fours = FOURS;
     let marks = mark_places();
-    let head = bits_from(starts, digits, SECOND, STRAIGHT_LOW, 0)
-        + bits_from(starts, digits, CONTROL_1, CONTROL_2, 0)
-        + year_bits(starts, digits);
     put_tens(&fours, &marks, frame, 0, 6, head);
     if frame.len() == 100 {
-        let tail = bits_from(starts, digits, STRAIGHT_LOW, CONTROL_1, 60)
-            + bits_from(starts, digits, CONTROL_2, YEAR_UNITS, 60);
         put_tens(&fours, &marks, frame, 6, 10, tail);
     }
+}
+
+// The bits of the time's digits, which stand below 60. This and the next two are apart, so that each is compiled into its callers.
+pub fn time_bits(digits: &[u64]) -> u64
+    requires { ⌜ length (now digits) ≡ 20 ⌝ }
+    ensures { λ r. ⌜ (r ≡ packedRuns 0 (now (digits .entry)) 0 11) × (r ≤ 11 * 576460752303423488) ⌝ }
+{
+    let starts = run_starts();
+    bits_from(&starts, digits, SECOND, STRAIGHT_LOW, 0)
+}
+
+// The bits of the first control range and of the year, which stand below 60 too.
+pub fn middle_bits(digits: &[u64]) -> u64
+    requires { ⌜ length (now digits) ≡ 20 ⌝ }
+    ensures { λ r. ⌜ (r ≡ packedRuns 0 (now (digits .entry)) 13 1 + packedYear (now (digits .entry))) × (r ≤ 3 * 576460752303423488) ⌝ }
+{
+    let starts = run_starts();
+    bits_from(&starts, digits, CONTROL_1, CONTROL_2, 0) + year_bits(&starts, digits)
+}
+
+// The bits of straight binary seconds and the other control ranges, which stand from 60 on.
+pub fn tail_bits(digits: &[u64]) -> u64
+    requires { ⌜ length (now digits) ≡ 20 ⌝ }
+    ensures { λ r. ⌜ r ≡ packed 60 100 runStarts (now (digits .entry)) ⌝ }
+{
+    let starts = run_starts();
+    bits_from(&starts, digits, STRAIGHT_LOW, CONTROL_1, 60)
+        + bits_from(&starts, digits, CONTROL_2, YEAR_UNITS, 60)
 }
 
 // The digit that stands at a run.
@@ -149,26 +174,44 @@ fn digit_at(frame: &[u8], start: usize, width: usize) -> u64
     digit
 }
 
-// The digit that stands at run j of a row.
-fn run_digit(starts: &[u8], widths: &[u8], frame: &[u8], j: usize) -> u64
-    requires { ⌜ RunsInside (now starts) (now widths) (length (now frame)) × (j < 20) ⌝ }
-    ensures { λ r. ⌜ r ≡ runDigit (now (starts .entry)) (now (widths .entry)) (now (frame .entry)) j ⌝ }
+// The digit that stands at a run, 0 where it is not carried.
+fn run_digit(runs: u32, frame: &[u8], run: usize) -> u64
+    requires { ⌜ RunsInside (runWidths runs) (length (now frame)) × (run < 20) ⌝ }
+    ensures { λ r. ⌜ r ≡ runDigit (runWidths runs) (now (frame .entry)) run ⌝ }
 {
-    digit_at(frame, to_usize(starts[j]), to_usize(widths[j]))
+    if !is_carried(runs, run) {
+        return 0;
+    }
+    let starts = run_starts();
+    let widths = full_widths();
+    digit_at(frame, to_usize(starts[run]), to_usize(widths[run]))
 }
 
-// The digits that stand at a row's runs. The year's two are not in the loop, whose other runs most formats carry.
-pub fn digits_in(starts: &[u8], widths: &[u8], frame: &[u8]) -> [u64; 20]
-    requires { ⌜ RunsInside (now starts) (now widths) (length (now frame)) ⌝ }
-    ensures { λ r. ⌜ r ≡ digitsAt (now (starts .entry)) (now (widths .entry)) (now (frame .entry)) ⌝ }
+// The digits that stand at a row's runs. One after the other, not in a loop, so that each is compiled for its own place and width.
+pub fn digits_in(runs: u32, frame: &[u8]) -> [u64; 20]
+    requires { ⌜ RunsInside (runWidths runs) (length (now frame)) ⌝ }
+    ensures { λ r. ⌜ r ≡ digitsAt (runWidths runs) (now (frame .entry)) ⌝ }
 {
-    let mut digits = [0u64; RUNS];
-    let mut j = 0;
-    while j < YEAR_UNITS {
-        digits[j] = run_digit(starts, widths, frame, j);
-        j += 1;
-    }
-    digits[YEAR_UNITS] = run_digit(starts, widths, frame, YEAR_UNITS);
-    digits[YEAR_TENS] = run_digit(starts, widths, frame, YEAR_TENS);
-    digits
+    [
+        run_digit(runs, frame, 0),
+        run_digit(runs, frame, 1),
+        run_digit(runs, frame, 2),
+        run_digit(runs, frame, 3),
+        run_digit(runs, frame, 4),
+        run_digit(runs, frame, 5),
+        run_digit(runs, frame, 6),
+        run_digit(runs, frame, 7),
+        run_digit(runs, frame, 8),
+        run_digit(runs, frame, 9),
+        run_digit(runs, frame, 10),
+        run_digit(runs, frame, 11),
+        run_digit(runs, frame, 12),
+        run_digit(runs, frame, 13),
+        run_digit(runs, frame, 14),
+        run_digit(runs, frame, 15),
+        run_digit(runs, frame, 16),
+        run_digit(runs, frame, 17),
+        run_digit(runs, frame, 18),
+        run_digit(runs, frame, 19),
+    ]
 }

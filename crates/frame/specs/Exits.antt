@@ -17,7 +17,7 @@ use Rattle.timecode.specs.Layout.{isMark, filler, decode}
 use Rattle.timecode.specs.declared.Format.{Format}
 use Rattle.timecode.specs.declared.Refusal.the-variants.{UnknownSymbol}
 use Rattle.timecode.specs.declared.Time.{Time}
-use Rattle.layout.specs.Tables.{widthsOf, RowOf, IsRow}
+use Rattle.layout.specs.Tables.{widthsOf, runWidths, RowOf, IsRow}
 use Rattle.layout.specs.Runs.{codeRuns, code-proper}
 use Rattle.layout.specs.declared.Row.{Row}
 use Rattle.elements.specs.Tens.{IsFrame}
@@ -37,7 +37,7 @@ pub record FrameOf (row : Row) (frame : List ℕ) : Type 0 where
   pub row-of : RowOf format row
   pub long : length frame ≡ size format
 
-pub row-widths : (row : Row) → IsRow row → Widths (row .widths)
+pub row-widths : (row : Row) → IsRow row → Widths (runWidths (row .runs))
 row-widths row (f, r) = rw (r .widths-are) (record { long = length-widths f; small = width-small f })
 
 pub row-interval : (row : Row) → IsRow row → 1 ≤ row .interval
@@ -46,11 +46,15 @@ row-interval row (f, r) = rw (r .interval-is) (interval-range f .0)
 pub is-frame : (f : Format) (n : ℕ) → n ≡ size f → IsFrame n
 is-frame f n e = rw e (two-sizes IsFrame (inl refl) (inr refl) f)
 
-pub row-inside : (row : Row) (frame : List ℕ) → FrameOf row frame → RunsInside (row .starts) (row .widths) (length frame)
-row-inside row frame o = rw (o .row-of .starts-are, o .row-of .widths-are, o .long) (runs-inside (o .format) (o .is-known))
+pub row-inside : (row : Row) (frame : List ℕ) → FrameOf row frame → RunsInside (runWidths (row .runs)) (length frame)
+row-inside row frame o = rw (o .row-of .widths-are, o .long) (runs-inside (o .format) (o .is-known))
 
-pub row-digits : (f : Format) (row : Row) (frame : List ℕ) → RowOf f row → digitsAt (row .starts) (row .widths) frame ≡ decode (codeRuns f) frame
-row-digits f row frame r = rw (r .starts-are, r .widths-are) (digits-at f frame)
+pub row-digits : (f : Format) (row : Row) (frame : List ℕ) → RowOf f row → digitsAt (runWidths (row .runs)) frame ≡ decode (codeRuns f) frame
+row-digits f row frame r = rw (r .widths-are) (digits-at f frame)
+
+pub digits-long : (widths frame xs : List ℕ) → xs ≡ digitsAt widths frame → length xs ≡ 20
+unfolding digitsAt
+digits-long widths frame xs e = ap length e
 
 module _ (f : Format) (row : Row) (o : RowOf f row) where
   pub row-known : (e : ℕ) (r : Bool) → f .expression ≡ e → r ≡ (leb (row .first) e && leb e (row .last)) → known f ≡ r

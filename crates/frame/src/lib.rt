@@ -21,10 +21,14 @@ use digits::control_fits;
 use digits::digits_of;
 use digits::meaning;
 use elements::digits_in;
-use elements::put_digits;
+use elements::middle_bits;
+use elements::put_bits;
+use elements::tail_bits;
+use elements::time_bits;
 use layout::Row;
 use layout::row_of;
 use layout::takes;
+use layout::widths_of;
 use timecode::Format;
 use timecode::MARK;
 use timecode::Reading;
@@ -57,7 +61,7 @@ fn check_write(row: Row, expression: u8, time: Time, control: u64, bytes: usize)
     if !second_allowed(row.leap, time) {
         return Written::Refused(Refusal::SecondNotCarried);
     }
-    let widths = row.widths;
+    let widths = widths_of(row.runs);
     if !control_fits(&widths, control) {
         return Written::Refused(Refusal::ControlTooLong);
     }
@@ -71,10 +75,10 @@ fn put_frame(row: Row, time: Time, control: u64, frame: &mut [u8])
     requires { ⌜ IsRow row × IsFrame (length (now frame)) ⌝ }
     ensures { λ _. ⌜ ((f : Format) → RowOf f row → Valid f time control → length (now (frame .entry)) ≡ size f → now (frame .exit) ≡ written f time control) ⌝ }
 {
-    let widths = row.widths;
+    let widths = widths_of(row.runs);
     let digits = digits_of(&widths, time, control);
-    let starts = row.starts;
-    put_digits(&starts, &digits, frame);
+    let head = time_bits(&digits) + middle_bits(&digits);
+    put_bits(head, tail_bits(&digits), frame);
 }
 
 // Writes a time and a control word; every byte is set, or, where it refuses, none.
@@ -175,15 +179,17 @@ fn read_frame(row: Row, frame: &[u8]) -> Reading
     requires { ⌜ FrameOf row (now frame) ⌝ }
     ensures { λ r. ⌜ ((f : Format) → known f ≡ true → RowOf f row → length (now (frame .entry)) ≡ size f → r ≡ readOf f (now (frame .entry))) ⌝ }
 {
-    let starts = row.starts;
-    let widths = row.widths;
-    let digits = digits_in(&starts, &widths, frame);
+    let digits = digits_in(row.runs, frame);
     let mut again = [0u8; 100];
-    put_digits(&starts, &digits, &mut again);
+    let head = time_bits(&digits) + middle_bits(&digits);
+    put_bits(head, tail_bits(&digits), &mut again);
     let offence = offence_in(&again, frame);
     match offence {
         Offence::At(refusal) => Reading::Refused(refusal),
-        Offence::Nothing => meaning(row.leap, row.year, &widths, &digits),
+        Offence::Nothing => {
+            let widths = widths_of(row.runs);
+            meaning(row.leap, row.year, &widths, &digits)
+        }
     }
 }
 

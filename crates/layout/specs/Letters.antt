@@ -1,17 +1,18 @@
 -- The rows of the six letters are the table's by computation. Here is what computation leaves: expressions in a row, editions, other letters, and what each expression carries.
 use mathlib.Core.Path.{_≡_, refl, sym, subst, _∙_}
 use mathlib.Core.Bool.{true, false, _&&_, _||_}
-use mathlib.Core.List.{[], _∷_}
+use mathlib.Core.List.{List, [], _∷_}
 use Prim.Native.Nat.{ℕ, zero, suc, _+_, _≤_}
 use native.Mathlib.Omega.{arith}
 use borrow.Author.Tests.{eqb-true, eqb-false, ne-eqb, leb-true, leb-false, le-leb, lt-leb}
+use lib.Bits.{bitAnd}
 use lib.Dec.{leb, eqb}
 use Rattle.timecode.specs.Formats.{member, known, carriesLeap, carriesYear, A, B, D, E, G, H, table, noRow, lookUp, rowOf, carriesControl, carriesSeconds, controlPlaces}
 use Rattle.timecode.specs.Laws.Tests.{by-test, clash, and-left, and-right, or-second}
 use Rattle.timecode.specs.Layout.{tabulate, seconds, minutes, hours, days, tenths, hundredthsDigit, hasSeconds, straightSeconds, years, timeFields}
 use Rattle.timecode.specs.declared.Format.{Format}
 use Rattle.layout.specs.Runs.{codeRange, codeControl, codeFields, codeRuns}
-use Rattle.layout.specs.Tables.{startsOf, widthsOf, with-letter, fullOf, runStarts, clearSeconds, clearControl, carriedIn, hasYear, withoutYear}
+use Rattle.layout.specs.Tables.{startsOf, widthsOf, with-letter, fullOf, runStarts, runWidths, runsIn, clearSeconds, clearControl, carriedIn, hasYear, withoutYear}
 
 -- e is one of the n numbers from a on, of which last is the last
 pub in-row : (n a last : ℕ) → a + n ≡ suc last → (e : ℕ) → member e (tabulate n a (λ (j : ℕ). j)) ≡ (leb a e && leb e last)
@@ -172,6 +173,15 @@ module _ (l : ℕ) where
       (λ r.
       or-else (Carried l) e 7 carried-7
       (λ s. carried-other e a b c p q r s)))))))
+
+-- a set of runs has an edition's widths, if it has what each of the four kinds of expression carries
+pub as-carried : (n : ℕ) (ws : List ℕ) → runWidths (bitAnd n 1048575) ≡ ws → runWidths (bitAnd n 1042431) ≡ clearSeconds ws → runWidths (bitAnd n 794623) ≡ clearControl ws → runWidths (bitAnd n 788479) ≡ clearControl (clearSeconds ws)
+    → (e : ℕ) → runWidths (bitAnd n (runsIn e)) ≡ carriedIn e ws
+unfolding runsIn carriedIn
+as-carried n ws all no-seconds no-control neither e =
+    by-test (eqb e 0)
+    (λ y. rw y all)
+    (λ a. rw a (by-test (eqb e 1) (λ y. rw y no-seconds) (λ b. rw b (by-test (eqb e 3) (λ y. rw y no-control) (λ c. rw c neither)))))
 
 -- a letter that is none of the six carries no leap second
 pub other-leap : (l e : ℕ) → Other l → carriesLeap (with-letter l e) ≡ false

@@ -1,16 +1,15 @@
 // The layout as constant rows, one for each of the letters A, B, D, E, G, H and one more for A and B with the year, lent to writer and reader alike.
 // Each function gives what document 01's table and document 02's year give, for every format; a letter that is none of the six has a row of its own.
 ghost use mathlib.Core.Path.{_≡_};
-ghost use mathlib.Core.Bool.{false, _&&_};
-ghost use Prim.Native.Nat.{ℕ, _≤_};
+ghost use mathlib.Core.Bool.{false, cond, _&&_};
+ghost use Prim.Native.Nat.{ℕ, _≤_, _<_};
 ghost use lib.Dec.{leb};
-ghost use lib.ListN.{set};
 ghost use Rattle.timecode.specs.Formats.{known, size, interval, carriesLeap, carriesYear};
-ghost use Rattle.layout.specs.Tables.{RowFor, RowOf, markPlaces, hasYear, withoutYear, with-letter, carriedIn};
+ghost use Rattle.layout.specs.Tables.{RowFor, RowOf, markPlaces, runStarts, fullWidths, isCarried, runWidths, runsIn, hasYear, withoutYear, with-letter};
 use timecode::Format;
 
-// A row: n, S, its expressions (first to last), whether it carries the leap second and the year, where each run of elements
-// starts, and how many elements it has (0 where it is not carried).
+// A row: n, S, its expressions (first to last), whether it carries the leap second and the year, and which runs of elements it
+// carries, a bit for each by its number, the first the lowest. Where a run starts and how many elements it has is the same in every row.
 pub struct Row {
     pub elements: usize,
     pub interval: u32,
@@ -18,8 +17,7 @@ pub struct Row {
     pub last: u8,
     pub leap: bool,
     pub year: bool,
-    pub starts: [u8; 20],
-    pub widths: [u8; 20],
+    pub runs: u32,
 }
 
 // The runs by their numbers: units and tens of seconds, of minutes and of hours (the number is that of the units);
@@ -65,7 +63,7 @@ pub const YEAR_TENS: usize = 19;
 
 pub const RUNS: usize = 20;
 
-// Where the runs start, in that order: the same in every letter that carries them.
+// Where the runs start, in that order.
 const STARTS: [u8; 20] = [
     1,
     6,
@@ -89,6 +87,9 @@ const STARTS: [u8; 20] = [
     55,
 ];
 
+// How many elements each run has.
+const WIDTHS: [u8; 20] = [4, 3, 4, 3, 4, 2, 4, 4, 2, 4, 4, 9, 8, 9, 9, 9, 9, 9, 4, 4];
+
 // Where marks stand in every row: in a frame of 100 all, in one of 60 the first seven.
 const MARKS: [u8; 11] = [0, 9, 19, 29, 39, 49, 59, 69, 79, 89, 99];
 
@@ -99,8 +100,7 @@ const A: Row = Row {
     last: 3,
     leap: true,
     year: false,
-    starts: STARTS,
-    widths: [4, 3, 4, 3, 4, 2, 4, 4, 2, 4, 0, 9, 8, 9, 9, 9, 0, 0, 0, 0],
+    runs: 0b00_00111_11_01_111_11_11_11,
 };
 
 const B: Row = Row {
@@ -110,8 +110,7 @@ const B: Row = Row {
     last: 3,
     leap: true,
     year: false,
-    starts: STARTS,
-    widths: [4, 3, 4, 3, 4, 2, 4, 4, 2, 0, 0, 9, 8, 9, 9, 9, 0, 0, 0, 0],
+    runs: 0b00_00111_11_00_111_11_11_11,
 };
 
 // With the year, which stands in the places of control bits 1 to 9.
@@ -122,8 +121,7 @@ const A_YEAR: Row = Row {
     last: 7,
     leap: true,
     year: true,
-    starts: STARTS,
-    widths: [4, 3, 4, 3, 4, 2, 4, 4, 2, 4, 0, 9, 8, 0, 9, 9, 0, 0, 4, 4],
+    runs: 0b11_00110_11_01_111_11_11_11,
 };
 
 const B_YEAR: Row = Row {
@@ -133,8 +131,7 @@ const B_YEAR: Row = Row {
     last: 7,
     leap: true,
     year: true,
-    starts: STARTS,
-    widths: [4, 3, 4, 3, 4, 2, 4, 4, 2, 0, 0, 9, 8, 0, 9, 9, 0, 0, 4, 4],
+    runs: 0b11_00110_11_00_111_11_11_11,
 };
 
 const D: Row = Row {
@@ -144,8 +141,7 @@ const D: Row = Row {
     last: 2,
     leap: false,
     year: false,
-    starts: STARTS,
-    widths: [0, 0, 0, 0, 4, 2, 4, 4, 2, 0, 0, 0, 0, 9, 0, 0, 0, 0, 0, 0],
+    runs: 0b00_00001_00_00_111_11_00_00,
 };
 
 const E: Row = Row {
@@ -155,8 +151,7 @@ const E: Row = Row {
     last: 2,
     leap: false,
     year: false,
-    starts: STARTS,
-    widths: [0, 3, 4, 3, 4, 2, 4, 4, 2, 0, 0, 0, 0, 9, 9, 9, 9, 9, 0, 0],
+    runs: 0b00_11111_00_00_111_11_11_10,
 };
 
 const G: Row = Row {
@@ -166,8 +161,7 @@ const G: Row = Row {
     last: 2,
     leap: true,
     year: false,
-    starts: STARTS,
-    widths: [4, 3, 4, 3, 4, 2, 4, 4, 2, 4, 4, 0, 0, 0, 9, 9, 9, 9, 0, 0],
+    runs: 0b00_11110_00_11_111_11_11_11,
 };
 
 const H: Row = Row {
@@ -177,8 +171,7 @@ const H: Row = Row {
     last: 2,
     leap: false,
     year: false,
-    starts: STARTS,
-    widths: [0, 0, 4, 3, 4, 2, 4, 4, 2, 0, 0, 0, 0, 9, 0, 0, 0, 0, 0, 0],
+    runs: 0b00_00001_00_00_111_11_11_00,
 };
 
 // Any other letter: its last expression is below its first, so it takes none.
@@ -189,8 +182,7 @@ const OTHER: Row = Row {
     last: 0,
     leap: false,
     year: false,
-    starts: STARTS,
-    widths: [0, 0, 0, 0, 4, 2, 4, 4, 2, 0, 0, 0, 0, 0, 0, 0, 0, 0, 0, 0],
+    runs: 0b00_00000_00_00_111_11_00_00,
 };
 
 // The row of a letter without the year, in expression 0, which carries everything.
@@ -303,22 +295,47 @@ pub fn mark_places() -> [u8; 11]
     MARKS
 }
 
-fn without_seconds(mut widths: [u8; 20]) -> [u8; 20]
-    ensures { λ r. ⌜ r ≡ set (set widths 11 0) 12 0 ⌝ }
+pub fn run_starts() -> [u8; 20]
+    ensures { λ r. ⌜ r ≡ runStarts ⌝ }
 {
-    widths[STRAIGHT_LOW] = 0;
-    widths[STRAIGHT_HIGH] = 0;
-    widths
+    STARTS
 }
 
-fn without_control(mut widths: [u8; 20]) -> [u8; 20]
-    ensures { λ r. ⌜ r ≡ set (set (set (set (set widths 13 0) 14 0) 15 0) 16 0) 17 0 ⌝ }
+pub fn full_widths() -> [u8; 20]
+    ensures { λ r. ⌜ r ≡ fullWidths ⌝ }
 {
-    widths[CONTROL_1] = 0;
-    widths[CONTROL_2] = 0;
-    widths[CONTROL_3] = 0;
-    widths[CONTROL_4] = 0;
-    widths[CONTROL_5] = 0;
+    WIDTHS
+}
+
+// The run with this number is one of those that are carried.
+pub fn is_carried(runs: u32, run: usize) -> bool
+    requires { ⌜ run < 20 ⌝ }
+    ensures { λ r. ⌜ r ≡ isCarried runs run ⌝ }
+{
+    (runs >> run) % 2 == 1
+}
+
+fn width_in(runs: u32, run: usize, full: u8) -> u8
+    requires { ⌜ run < 20 ⌝ }
+    ensures { λ r. ⌜ r ≡ cond (isCarried runs run) full 0 ⌝ }
+{
+    if is_carried(runs, run) {
+        return full;
+    }
+    0
+}
+
+// How many elements each run has, 0 where it is not carried.
+pub fn widths_of(runs: u32) -> [u8; 20]
+    ensures { λ r. ⌜ r ≡ runWidths runs ⌝ }
+{
+    let full = WIDTHS;
+    let mut widths = [0u8; RUNS];
+    let mut run = 0;
+    while run < RUNS {
+        widths[run] = width_in(runs, run, full[run]);
+        run += 1;
+    }
     widths
 }
 
@@ -332,20 +349,20 @@ fn without_year(expression: u8) -> u8
     expression
 }
 
-// What of an edition's widths an expression carries, counted from the edition's first. 0 = BCD, CF, SBS; 1 = BCD, CF; 2 = BCD; 3 = BCD, SBS.
-fn widths_in(expression: u8, widths: [u8; 20]) -> [u8; 20]
-    ensures { λ r. ⌜ r ≡ carriedIn expression widths ⌝ }
+// The runs that an expression may carry, counted from its edition's first. 0 = BCD, CF, SBS; 1 = BCD, CF; 2 = BCD; 3 = BCD, SBS.
+fn runs_in(expression: u8) -> u32
+    ensures { λ r. ⌜ r ≡ runsIn expression ⌝ }
 {
     if expression == 0 {
-        return widths;
+        return 0b11_11111_11_11_111_11_11_11;
     }
     if expression == 1 {
-        return without_seconds(widths);
+        return 0b11_11111_00_11_111_11_11_11;
     }
     if expression == 3 {
-        return without_control(widths);
+        return 0b11_00000_11_11_111_11_11_11;
     }
-    without_control(without_seconds(widths))
+    0b11_00000_00_11_111_11_11_11
 }
 
 // The row of a format: its edition's, with what its expression carries.
@@ -353,8 +370,6 @@ pub fn row_of(format: Format) -> Row
     ensures { λ r. ⌜ RowOf format r ⌝ }
 {
     let mut row = edition_row(format.letter, format.expression);
-    let all = row.widths;
-    let widths = widths_in(without_year(format.expression), all);
-    row.widths = widths;
+    row.runs = row.runs & runs_in(without_year(format.expression));
     row
 }

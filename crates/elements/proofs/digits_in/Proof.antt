@@ -1,83 +1,117 @@
--- `digits_in` meets its contract: the digits of the first j runs, then the year's two.
+-- `digits_in` meets its contract: one run after the other.
 use native.Mathlib.Omega.{arith}
-use mathlib.Core.Path.{_≡_, refl}
-use Prim.Native.Nat.{_-_, _≤_}
-use lib.ListN.{length, take, length-set}
-use Rattle.timecode.specs.Layout.{tabulate}
-use Rattle.timecode.specs.Laws.Runs.{fill-step}
-use Rattle.elements.specs.RunLoops.{runDigit, digitsAt, two-more}
+use Rattle.elements.specs.RunLoops.{digitsAt}
 use Rattle.elements.proofs.digits_in.Statement.{statement}
 use Rattle.elements.proofs.digits_in.Tie as tie
 
-abbrev Inv-loop : tie.InvT-loop
-Inv-loop starts widths frame digits₀ j₀ digits j = (j ≤ 18) × (length digits ≡ 20) × (take j digits ≡ tabulate j 0 (runDigit starts widths frame))
+run-digit-requires : tie.Need-run-digit-requires
+run-digit-requires c κs = (c .before .pre, omega arith)
 
-abbrev μ-loop : tie.MeasureT-loop
-μ-loop starts widths frame digits₀ j₀ digits j = 18 - j
+run-digit-requires-2 : tie.Need-run-digit-requires-2
+run-digit-requires-2 c κs = (c .before .before .pre, omega arith)
 
-loop-holds : tie.Need-loop-holds Inv-loop μ-loop
-loop-holds c = (omega arith, refl, refl)
+run-digit-requires-3 : tie.Need-run-digit-requires-3
+run-digit-requires-3 c κs = (c .before .before .before .pre, omega arith)
 
-run-digit-requires : tie.Need-run-digit-requires Inv-loop μ-loop
-run-digit-requires c κs = (c .before .before .before .before .before .pre, omega arith)
+run-digit-requires-4 : tie.Need-run-digit-requires-4
+run-digit-requires-4 c κs = (c .before .before .before .before .pre, omega arith)
 
-mul-digits : tie.Need-mul-digits Inv-loop μ-loop
-mul-digits c = omega arith
+run-digit-requires-5 : tie.Need-run-digit-requires-5
+run-digit-requires-5 c κs = (c .before .before .before .before .before .pre, omega arith)
 
-array-write-digits : tie.Need-array-write-digits Inv-loop μ-loop
-array-write-digits c = omega arith
+run-digit-requires-6 : tie.Need-run-digit-requires-6
+run-digit-requires-6 c κs = (c .before .before .before .before .before .before .pre, omega arith)
 
-add-j : tie.Need-add-j Inv-loop μ-loop
-add-j c = omega arith
+run-digit-requires-7 : tie.Need-run-digit-requires-7
+run-digit-requires-7 c κs = (c .before .before .before .before .before .before .before .pre, omega arith)
 
-loop-less : tie.Need-loop-less Inv-loop μ-loop
-loop-less c = omega arith
+run-digit-requires-8 : tie.Need-run-digit-requires-8
+run-digit-requires-8 c κs = (c .before .before .before .before .before .before .before .before .pre, omega arith)
 
-loop-again : tie.Need-loop-again Inv-loop μ-loop
-loop-again c =
-    let a = c .before .before .before .before .before .before .args in
-    let ds = c .before .before .loop .digits in
-    let inv = c .before .before .loop .inv in (
-      omega arith,
-      simp length-set (inv .1),
-      rw (c .run-digit .ensures) (fill-step ds (runDigit (a .starts .now) (a .widths .now) (a .frame .now)) (c .before .before .loop .j) (omega arith) (inv .2)),
-    )
+run-digit-requires-9 : tie.Need-run-digit-requires-9
+run-digit-requires-9 c κs = (c .before .before .before .before .before .before .before .before .before .pre, omega arith)
 
-run-digit-requires-2 : tie.Need-run-digit-requires-2 Inv-loop μ-loop
-run-digit-requires-2 c κs = (c .before .before .before .before .before .pre, omega arith)
+run-digit-requires-10 : tie.Need-run-digit-requires-10
+run-digit-requires-10 c κs = (c .before .before .before .before .before .before .before .before .before .before .pre, omega arith)
 
-array-write-digits-2 : tie.Need-array-write-digits-2 Inv-loop μ-loop
-array-write-digits-2 c = omega arith
+run-digit-requires-11 : tie.Need-run-digit-requires-11
+run-digit-requires-11 c κs = (c .before .before .before .before .before .before .before .before .before .before .before .pre, omega arith)
 
-run-digit-requires-3 : tie.Need-run-digit-requires-3 Inv-loop μ-loop
-run-digit-requires-3 c κs = (c .before .before .before .before .before .before .pre, omega arith)
+run-digit-requires-12 : tie.Need-run-digit-requires-12
+run-digit-requires-12 c κs = (c .before .before .before .before .before .before .before .before .before .before .before .before .pre, omega arith)
 
-array-write-digits-3 : tie.Need-array-write-digits-3 Inv-loop μ-loop
-array-write-digits-3 c = omega arith
+run-digit-requires-13 : tie.Need-run-digit-requires-13
+run-digit-requires-13 c κs = (c .before .before .before .before .before .before .before .before .before .before .before .before .before .pre, omega arith)
 
-returns : tie.Need-returns Inv-loop μ-loop
+run-digit-requires-14 : tie.Need-run-digit-requires-14
+run-digit-requires-14 c κs = (c .before .before .before .before .before .before .before .before .before .before .before .before .before .before .pre, omega arith)
+
+run-digit-requires-15 : tie.Need-run-digit-requires-15
+run-digit-requires-15 c κs = (c .before .before .before .before .before .before .before .before .before .before .before .before .before .before .before .pre, omega arith)
+
+run-digit-requires-16 : tie.Need-run-digit-requires-16
+run-digit-requires-16 c κs = (c .before .before .before .before .before .before .before .before .before .before .before .before .before .before .before .before .pre, omega arith)
+
+run-digit-requires-17 : tie.Need-run-digit-requires-17
+run-digit-requires-17 c κs = (c .before .before .before .before .before .before .before .before .before .before .before .before .before .before .before .before .before .pre, omega arith)
+
+run-digit-requires-18 : tie.Need-run-digit-requires-18
+run-digit-requires-18 c κs = (c .before .before .before .before .before .before .before .before .before .before .before .before .before .before .before .before .before .before .pre, omega arith)
+
+run-digit-requires-19 : tie.Need-run-digit-requires-19
+run-digit-requires-19 c κs = (c .before .before .before .before .before .before .before .before .before .before .before .before .before .before .before .before .before .before .before .pre, omega arith)
+
+run-digit-requires-20 : tie.Need-run-digit-requires-20
+run-digit-requires-20 c κs = (c .before .before .before .before .before .before .before .before .before .before .before .before .before .before .before .before .before .before .before .before .pre, omega arith)
+
+returns : tie.Need-returns
 unfolding digitsAt
 returns c =
-    let a = c .before .before .before .before .before .before .before .args in
-    let g = runDigit (a .starts .now) (a .widths .now) (a .frame .now) in
-    let n : c .before .before .before .loop .j ≡ 18 = omega arith in
-    two-more (c .before .before .before .loop .digits) g (c .before .run-digit2 .result) (c .run-digit3 .result) (c .before .before .before .loop .inv .1) (rw n at (c .before .before .before .loop .inv .2)) (c .before .run-digit2 .ensures) (c .run-digit3 .ensures)
+    rw (
+      c .before .before .before .before .before .before .before .before .before .before .before .before .before .before .before .before .before .before .before .run-digit .ensures,
+      c .before .before .before .before .before .before .before .before .before .before .before .before .before .before .before .before .before .before .run-digit2 .ensures,
+      c .before .before .before .before .before .before .before .before .before .before .before .before .before .before .before .before .before .run-digit3 .ensures,
+      c .before .before .before .before .before .before .before .before .before .before .before .before .before .before .before .before .run-digit4 .ensures,
+      c .before .before .before .before .before .before .before .before .before .before .before .before .before .before .before .run-digit5 .ensures,
+      c .before .before .before .before .before .before .before .before .before .before .before .before .before .before .run-digit6 .ensures,
+      c .before .before .before .before .before .before .before .before .before .before .before .before .before .run-digit7 .ensures,
+      c .before .before .before .before .before .before .before .before .before .before .before .before .run-digit8 .ensures,
+      c .before .before .before .before .before .before .before .before .before .before .before .run-digit9 .ensures,
+      c .before .before .before .before .before .before .before .before .before .before .run-digit10 .ensures,
+      c .before .before .before .before .before .before .before .before .before .run-digit11 .ensures,
+      c .before .before .before .before .before .before .before .before .run-digit12 .ensures,
+      c .before .before .before .before .before .before .before .run-digit13 .ensures,
+      c .before .before .before .before .before .before .run-digit14 .ensures,
+      c .before .before .before .before .before .run-digit15 .ensures,
+      c .before .before .before .before .run-digit16 .ensures,
+      c .before .before .before .run-digit17 .ensures,
+      c .before .before .run-digit18 .ensures,
+      c .before .run-digit19 .ensures,
+      c .run-digit20 .ensures,
+    )
 
 pub digits-in-spec : {M : Type 1} → statement M
 digits-in-spec =
     tie.close
     (tie.spec
-    Inv-loop
-    μ-loop
-    loop-holds
     run-digit-requires
-    mul-digits
-    array-write-digits
-    add-j
-    loop-less
-    loop-again
     run-digit-requires-2
-    array-write-digits-2
     run-digit-requires-3
-    array-write-digits-3
+    run-digit-requires-4
+    run-digit-requires-5
+    run-digit-requires-6
+    run-digit-requires-7
+    run-digit-requires-8
+    run-digit-requires-9
+    run-digit-requires-10
+    run-digit-requires-11
+    run-digit-requires-12
+    run-digit-requires-13
+    run-digit-requires-14
+    run-digit-requires-15
+    run-digit-requires-16
+    run-digit-requires-17
+    run-digit-requires-18
+    run-digit-requires-19
+    run-digit-requires-20
     returns)

@@ -48,29 +48,32 @@ returns-4 c =
     λ f lent o e b.
     rw (row-known f (c .before .before .before .before .before .before .before .before .before .args .row) o (c .before .before .before .before .before .before .before .before .before .args .expression) (c .before .before .before .before .before .before .before .before .takes .result) e (c .before .before .before .before .before .before .before .before .takes .ensures) ∙ not-false (c .before .before .before .before .before .before .before .before .takes .result) (c .before .before .before .before .before .before .before .if1 .left), sym (c .before .before .before .before .before .before .year-carried .ensures f (o .year-is)) ∙ not-false (c .before .before .before .before .before .before .year-carried .result) (c .before .before .before .before .before .if2 .left), row-on f (c .before .before .before .before .before .before .before .before .before .args .row) o (c .before .before .before .before .before .before .before .before .before .args .time) (c .before .before .before .before .last-day-in .result) (c .before .before .before .lies-on .result) (c .before .before .before .before .last-day-in .ensures) (c .before .before .before .lies-on .ensures) ∙ not-false (c .before .before .before .lies-on .result) (c .before .before .if3 .left), row-carries f (c .before .before .before .before .before .before .before .before .before .args .row) o (c .before .before .before .before .before .before .before .before .before .args .time) (c .before .second-allowed .result) (c .before .second-allowed .ensures) ∙ not-true (c .before .second-allowed .result) (c .if4 .taken))
 
+widths-of-requires : tie.Need-widths-of-requires
+widths-of-requires c κs = search needs
+
 slice-aggregate-control-fits : tie.Need-slice-aggregate-control-fits
 slice-aggregate-control-fits c = search needs
 
 control-fits-requires : tie.Need-control-fits-requires
-control-fits-requires c κs = row-widths (c .before .before .before .before .before .before .before .before .before .before .before .args .row) (c .before .before .before .before .before .before .before .before .before .before .before .pre)
+control-fits-requires c κs = rw (c .before .widths-of .ensures) (row-widths (c .before .before .before .before .before .before .before .before .before .before .before .args .row) (c .before .before .before .before .before .before .before .before .before .before .before .pre))
 
 returns-5 : tie.Need-returns-5
 unfolding writeOf
 returns-5 c =
     λ f lent o e b.
-    rw (row-known f (c .before .before .before .before .before .before .before .before .before .before .before .before .before .args .row) o (c .before .before .before .before .before .before .before .before .before .before .before .before .before .args .expression) (c .before .before .before .before .before .before .before .before .before .before .before .before .takes .result) e (c .before .before .before .before .before .before .before .before .before .before .before .before .takes .ensures) ∙ not-false (c .before .before .before .before .before .before .before .before .before .before .before .before .takes .result) (c .before .before .before .before .before .before .before .before .before .before .before .if1 .left), sym (c .before .before .before .before .before .before .before .before .before .before .year-carried .ensures f (o .year-is)) ∙ not-false (c .before .before .before .before .before .before .before .before .before .before .year-carried .result) (c .before .before .before .before .before .before .before .before .before .if2 .left), row-on f (c .before .before .before .before .before .before .before .before .before .before .before .before .before .args .row) o (c .before .before .before .before .before .before .before .before .before .before .before .before .before .args .time) (c .before .before .before .before .before .before .before .before .last-day-in .result) (c .before .before .before .before .before .before .before .lies-on .result) (c .before .before .before .before .before .before .before .before .last-day-in .ensures) (c .before .before .before .before .before .before .before .lies-on .ensures) ∙ not-false (c .before .before .before .before .before .before .before .lies-on .result) (c .before .before .before .before .before .before .if3 .left), row-carries f (c .before .before .before .before .before .before .before .before .before .before .before .before .before .args .row) o (c .before .before .before .before .before .before .before .before .before .before .before .before .before .args .time) (c .before .before .before .before .before .second-allowed .result) (c .before .before .before .before .before .second-allowed .ensures) ∙ not-false (c .before .before .before .before .before .second-allowed .result) (c .before .before .before .before .if4 .left), sym (c .before .control-fits .ensures f (o .widths-are)) ∙ not-true (c .before .control-fits .result) (c .if5 .taken))
+    rw (row-known f (c .before .before .before .before .before .before .before .before .before .before .before .before .before .args .row) o (c .before .before .before .before .before .before .before .before .before .before .before .before .before .args .expression) (c .before .before .before .before .before .before .before .before .before .before .before .before .takes .result) e (c .before .before .before .before .before .before .before .before .before .before .before .before .takes .ensures) ∙ not-false (c .before .before .before .before .before .before .before .before .before .before .before .before .takes .result) (c .before .before .before .before .before .before .before .before .before .before .before .if1 .left), sym (c .before .before .before .before .before .before .before .before .before .before .year-carried .ensures f (o .year-is)) ∙ not-false (c .before .before .before .before .before .before .before .before .before .before .year-carried .result) (c .before .before .before .before .before .before .before .before .before .if2 .left), row-on f (c .before .before .before .before .before .before .before .before .before .before .before .before .before .args .row) o (c .before .before .before .before .before .before .before .before .before .before .before .before .before .args .time) (c .before .before .before .before .before .before .before .before .last-day-in .result) (c .before .before .before .before .before .before .before .lies-on .result) (c .before .before .before .before .before .before .before .before .last-day-in .ensures) (c .before .before .before .before .before .before .before .lies-on .ensures) ∙ not-false (c .before .before .before .before .before .before .before .lies-on .result) (c .before .before .before .before .before .before .if3 .left), row-carries f (c .before .before .before .before .before .before .before .before .before .before .before .before .before .args .row) o (c .before .before .before .before .before .before .before .before .before .before .before .before .before .args .time) (c .before .before .before .before .before .second-allowed .result) (c .before .before .before .before .before .second-allowed .ensures) ∙ not-false (c .before .before .before .before .before .second-allowed .result) (c .before .before .before .before .if4 .left), sym (c .before .control-fits .ensures f (c .before .before .before .widths-of .ensures ∙ o .widths-are)) ∙ not-true (c .before .control-fits .result) (c .if5 .taken))
 
 returns-6 : tie.Need-returns-6
 unfolding writeOf
 returns-6 c =
     λ f lent o e b.
-    rw (row-known f (c .before .before .before .before .before .before .before .before .before .before .before .before .before .before .before .args .row) o (c .before .before .before .before .before .before .before .before .before .before .before .before .before .before .before .args .expression) (c .before .before .before .before .before .before .before .before .before .before .before .before .before .before .takes .result) e (c .before .before .before .before .before .before .before .before .before .before .before .before .before .before .takes .ensures) ∙ not-false (c .before .before .before .before .before .before .before .before .before .before .before .before .before .before .takes .result) (c .before .before .before .before .before .before .before .before .before .before .before .before .before .if1 .left), sym (c .before .before .before .before .before .before .before .before .before .before .before .before .year-carried .ensures f (o .year-is)) ∙ not-false (c .before .before .before .before .before .before .before .before .before .before .before .before .year-carried .result) (c .before .before .before .before .before .before .before .before .before .before .before .if2 .left), row-on f (c .before .before .before .before .before .before .before .before .before .before .before .before .before .before .before .args .row) o (c .before .before .before .before .before .before .before .before .before .before .before .before .before .before .before .args .time) (c .before .before .before .before .before .before .before .before .before .before .last-day-in .result) (c .before .before .before .before .before .before .before .before .before .lies-on .result) (c .before .before .before .before .before .before .before .before .before .before .last-day-in .ensures) (c .before .before .before .before .before .before .before .before .before .lies-on .ensures) ∙ not-false (c .before .before .before .before .before .before .before .before .before .lies-on .result) (c .before .before .before .before .before .before .before .before .if3 .left), row-carries f (c .before .before .before .before .before .before .before .before .before .before .before .before .before .before .before .args .row) o (c .before .before .before .before .before .before .before .before .before .before .before .before .before .before .before .args .time) (c .before .before .before .before .before .before .before .second-allowed .result) (c .before .before .before .before .before .before .before .second-allowed .ensures) ∙ not-false (c .before .before .before .before .before .before .before .second-allowed .result) (c .before .before .before .before .before .before .if4 .left), sym (c .before .before .before .control-fits .ensures f (o .widths-are)) ∙ not-false (c .before .before .before .control-fits .result) (c .before .before .if5 .left), ne-eqb (length lent) (size f) (λ q. c .if6 .taken (b ∙ q ∙ sym (o .elements-are))))
+    rw (row-known f (c .before .before .before .before .before .before .before .before .before .before .before .before .before .before .before .args .row) o (c .before .before .before .before .before .before .before .before .before .before .before .before .before .before .before .args .expression) (c .before .before .before .before .before .before .before .before .before .before .before .before .before .before .takes .result) e (c .before .before .before .before .before .before .before .before .before .before .before .before .before .before .takes .ensures) ∙ not-false (c .before .before .before .before .before .before .before .before .before .before .before .before .before .before .takes .result) (c .before .before .before .before .before .before .before .before .before .before .before .before .before .if1 .left), sym (c .before .before .before .before .before .before .before .before .before .before .before .before .year-carried .ensures f (o .year-is)) ∙ not-false (c .before .before .before .before .before .before .before .before .before .before .before .before .year-carried .result) (c .before .before .before .before .before .before .before .before .before .before .before .if2 .left), row-on f (c .before .before .before .before .before .before .before .before .before .before .before .before .before .before .before .args .row) o (c .before .before .before .before .before .before .before .before .before .before .before .before .before .before .before .args .time) (c .before .before .before .before .before .before .before .before .before .before .last-day-in .result) (c .before .before .before .before .before .before .before .before .before .lies-on .result) (c .before .before .before .before .before .before .before .before .before .before .last-day-in .ensures) (c .before .before .before .before .before .before .before .before .before .lies-on .ensures) ∙ not-false (c .before .before .before .before .before .before .before .before .before .lies-on .result) (c .before .before .before .before .before .before .before .before .if3 .left), row-carries f (c .before .before .before .before .before .before .before .before .before .before .before .before .before .before .before .args .row) o (c .before .before .before .before .before .before .before .before .before .before .before .before .before .before .before .args .time) (c .before .before .before .before .before .before .before .second-allowed .result) (c .before .before .before .before .before .before .before .second-allowed .ensures) ∙ not-false (c .before .before .before .before .before .before .before .second-allowed .result) (c .before .before .before .before .before .before .if4 .left), sym (c .before .before .before .control-fits .ensures f (c .before .before .before .before .before .widths-of .ensures ∙ o .widths-are)) ∙ not-false (c .before .before .before .control-fits .result) (c .before .before .if5 .left), ne-eqb (length lent) (size f) (λ q. c .if6 .taken (b ∙ q ∙ sym (o .elements-are))))
 
 returns-7 : tie.Need-returns-7
 unfolding writeOf
 returns-7 c =
     λ f lent o e b.
-    rw (row-known f (c .before .before .before .before .before .before .before .before .before .before .before .before .before .before .before .args .row) o (c .before .before .before .before .before .before .before .before .before .before .before .before .before .before .before .args .expression) (c .before .before .before .before .before .before .before .before .before .before .before .before .before .before .takes .result) e (c .before .before .before .before .before .before .before .before .before .before .before .before .before .before .takes .ensures) ∙ not-false (c .before .before .before .before .before .before .before .before .before .before .before .before .before .before .takes .result) (c .before .before .before .before .before .before .before .before .before .before .before .before .before .if1 .left), sym (c .before .before .before .before .before .before .before .before .before .before .before .before .year-carried .ensures f (o .year-is)) ∙ not-false (c .before .before .before .before .before .before .before .before .before .before .before .before .year-carried .result) (c .before .before .before .before .before .before .before .before .before .before .before .if2 .left), row-on f (c .before .before .before .before .before .before .before .before .before .before .before .before .before .before .before .args .row) o (c .before .before .before .before .before .before .before .before .before .before .before .before .before .before .before .args .time) (c .before .before .before .before .before .before .before .before .before .before .last-day-in .result) (c .before .before .before .before .before .before .before .before .before .lies-on .result) (c .before .before .before .before .before .before .before .before .before .before .last-day-in .ensures) (c .before .before .before .before .before .before .before .before .before .lies-on .ensures) ∙ not-false (c .before .before .before .before .before .before .before .before .before .lies-on .result) (c .before .before .before .before .before .before .before .before .if3 .left), row-carries f (c .before .before .before .before .before .before .before .before .before .before .before .before .before .before .before .args .row) o (c .before .before .before .before .before .before .before .before .before .before .before .before .before .before .before .args .time) (c .before .before .before .before .before .before .before .second-allowed .result) (c .before .before .before .before .before .before .before .second-allowed .ensures) ∙ not-false (c .before .before .before .before .before .before .before .second-allowed .result) (c .before .before .before .before .before .before .if4 .left), sym (c .before .before .before .control-fits .ensures f (o .widths-are)) ∙ not-false (c .before .before .before .control-fits .result) (c .before .before .if5 .left), eq-eqb (length lent) (size f) (sym b ∙ c .if6 .left ∙ o .elements-are))
+    rw (row-known f (c .before .before .before .before .before .before .before .before .before .before .before .before .before .before .before .args .row) o (c .before .before .before .before .before .before .before .before .before .before .before .before .before .before .before .args .expression) (c .before .before .before .before .before .before .before .before .before .before .before .before .before .before .takes .result) e (c .before .before .before .before .before .before .before .before .before .before .before .before .before .before .takes .ensures) ∙ not-false (c .before .before .before .before .before .before .before .before .before .before .before .before .before .before .takes .result) (c .before .before .before .before .before .before .before .before .before .before .before .before .before .if1 .left), sym (c .before .before .before .before .before .before .before .before .before .before .before .before .year-carried .ensures f (o .year-is)) ∙ not-false (c .before .before .before .before .before .before .before .before .before .before .before .before .year-carried .result) (c .before .before .before .before .before .before .before .before .before .before .before .if2 .left), row-on f (c .before .before .before .before .before .before .before .before .before .before .before .before .before .before .before .args .row) o (c .before .before .before .before .before .before .before .before .before .before .before .before .before .before .before .args .time) (c .before .before .before .before .before .before .before .before .before .before .last-day-in .result) (c .before .before .before .before .before .before .before .before .before .lies-on .result) (c .before .before .before .before .before .before .before .before .before .before .last-day-in .ensures) (c .before .before .before .before .before .before .before .before .before .lies-on .ensures) ∙ not-false (c .before .before .before .before .before .before .before .before .before .lies-on .result) (c .before .before .before .before .before .before .before .before .if3 .left), row-carries f (c .before .before .before .before .before .before .before .before .before .before .before .before .before .before .before .args .row) o (c .before .before .before .before .before .before .before .before .before .before .before .before .before .before .before .args .time) (c .before .before .before .before .before .before .before .second-allowed .result) (c .before .before .before .before .before .before .before .second-allowed .ensures) ∙ not-false (c .before .before .before .before .before .before .before .second-allowed .result) (c .before .before .before .before .before .before .if4 .left), sym (c .before .before .before .control-fits .ensures f (c .before .before .before .before .before .widths-of .ensures ∙ o .widths-are)) ∙ not-false (c .before .before .before .control-fits .result) (c .before .before .if5 .left), eq-eqb (length lent) (size f) (sym b ∙ c .if6 .left ∙ o .elements-are))
 
 pub check-write-spec : {M : Type 1} → statement M
 check-write-spec =
@@ -85,6 +88,7 @@ check-write-spec =
     returns-3
     second-allowed-requires
     returns-4
+    widths-of-requires
     slice-aggregate-control-fits
     control-fits-requires
     returns-5

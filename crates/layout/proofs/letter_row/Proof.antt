@@ -3,37 +3,37 @@ use mathlib.Core.Path.{refl, ap}
 use Rattle.timecode.specs.Formats.{Row, A, B, table, lookUp, rowOf, known, size, interval, carriesLeap, carriesYear, carriesControl, carriesSeconds, controlPlaces}
 use Rattle.timecode.specs.Layout.{seconds, minutes, hours, days, tenths, hundredthsDigit, hasSeconds, straightSeconds, years, timeFields}
 use Rattle.layout.specs.Runs.{codeRange, codeControl, codeFields, codeRuns}
-use Rattle.layout.specs.Tables.{widthsOf}
-use Rattle.layout.specs.Letters.{in-row, earlier-row, no-year, Other, other-row, other-widths, other-leap}
+use Rattle.layout.specs.Tables.{widthsOf, runWidths, isCarried}
+use Rattle.layout.specs.Letters.{in-row, earlier-row, no-year, Other, other-row, other-widths, other-leap, as-carried}
 use Rattle.layout.proofs.letter_row.Statement.{statement}
 use Rattle.layout.proofs.letter_row.Tie as tie
 
 returns : tie.Need-returns
-unfolding known size interval carriesLeap rowOf lookUp table widthsOf codeRuns codeFields timeFields seconds minutes hours days tenths hundredthsDigit straightSeconds hasSeconds carriesSeconds codeControl codeRange carriesControl carriesYear controlPlaces years
-returns c = rw (c .if1 .taken) (λ e n. record { elements-are = refl; interval-is = refl; expressions-are = earlier-row e (no-year A e refl n); leap-is = refl; year-is = n; starts-are = refl; widths-are = rw n refl })
+unfolding known size interval carriesLeap rowOf lookUp table widthsOf codeRuns codeFields timeFields seconds minutes hours days tenths hundredthsDigit straightSeconds hasSeconds carriesSeconds codeControl codeRange carriesControl carriesYear controlPlaces years runWidths isCarried
+returns c = rw (c .if1 .taken) (λ e n. record { elements-are = refl; interval-is = refl; expressions-are = earlier-row e (no-year A e refl n); leap-is = refl; year-is = n; widths-are = rw n (as-carried 64511 _ refl refl refl refl) })
 
 returns-2 : tie.Need-returns-2
-unfolding known size interval carriesLeap rowOf lookUp table widthsOf codeRuns codeFields timeFields seconds minutes hours days tenths hundredthsDigit straightSeconds hasSeconds carriesSeconds codeControl codeRange carriesControl carriesYear controlPlaces years
-returns-2 c = rw (c .if2 .taken) (λ e n. record { elements-are = refl; interval-is = refl; expressions-are = earlier-row e (no-year B e refl n); leap-is = refl; year-is = n; starts-are = refl; widths-are = rw n refl })
+unfolding known size interval carriesLeap rowOf lookUp table widthsOf codeRuns codeFields timeFields seconds minutes hours days tenths hundredthsDigit straightSeconds hasSeconds carriesSeconds codeControl codeRange carriesControl carriesYear controlPlaces years runWidths isCarried
+returns-2 c = rw (c .if2 .taken) (λ e n. record { elements-are = refl; interval-is = refl; expressions-are = earlier-row e (no-year B e refl n); leap-is = refl; year-is = n; widths-are = rw n (as-carried 63999 _ refl refl refl refl) })
 
 returns-3 : tie.Need-returns-3
-unfolding known size interval carriesLeap rowOf lookUp table widthsOf codeRuns codeFields timeFields seconds minutes hours days tenths hundredthsDigit straightSeconds hasSeconds carriesSeconds codeControl codeRange carriesControl carriesYear controlPlaces years
-returns-3 c = rw (c .if3 .taken) (λ e n. record { elements-are = refl; interval-is = refl; expressions-are = in-row 2 1 2 refl e; leap-is = refl; year-is = n; starts-are = refl; widths-are = rw n refl })
+unfolding known size interval carriesLeap rowOf lookUp table widthsOf codeRuns codeFields timeFields seconds minutes hours days tenths hundredthsDigit straightSeconds hasSeconds carriesSeconds codeControl codeRange carriesControl carriesYear controlPlaces years runWidths isCarried
+returns-3 c = rw (c .if3 .taken) (λ e n. record { elements-are = refl; interval-is = refl; expressions-are = in-row 2 1 2 refl e; leap-is = refl; year-is = n; widths-are = rw n (as-carried 8688 _ refl refl refl refl) })
 
 returns-4 : tie.Need-returns-4
-unfolding known size interval carriesLeap rowOf lookUp table widthsOf codeRuns codeFields timeFields seconds minutes hours days tenths hundredthsDigit straightSeconds hasSeconds carriesSeconds codeControl codeRange carriesControl carriesYear controlPlaces years
-returns-4 c = rw (c .if4 .taken) (λ e n. record { elements-are = refl; interval-is = refl; expressions-are = in-row 2 1 2 refl e; leap-is = refl; year-is = n; starts-are = refl; widths-are = rw n refl })
+unfolding known size interval carriesLeap rowOf lookUp table widthsOf codeRuns codeFields timeFields seconds minutes hours days tenths hundredthsDigit straightSeconds hasSeconds carriesSeconds codeControl codeRange carriesControl carriesYear controlPlaces years runWidths isCarried
+returns-4 c = rw (c .if4 .taken) (λ e n. record { elements-are = refl; interval-is = refl; expressions-are = in-row 2 1 2 refl e; leap-is = refl; year-is = n; widths-are = rw n (as-carried 254462 _ refl refl refl refl) })
 
 returns-5 : tie.Need-returns-5
-unfolding known size interval carriesLeap rowOf lookUp table widthsOf codeRuns codeFields timeFields seconds minutes hours days tenths hundredthsDigit straightSeconds hasSeconds carriesSeconds codeControl codeRange carriesControl carriesYear controlPlaces years
-returns-5 c = rw (c .if5 .taken) (λ e n. record { elements-are = refl; interval-is = refl; expressions-are = in-row 2 1 2 refl e; leap-is = refl; year-is = n; starts-are = refl; widths-are = rw n refl })
+unfolding known size interval carriesLeap rowOf lookUp table widthsOf codeRuns codeFields timeFields seconds minutes hours days tenths hundredthsDigit straightSeconds hasSeconds carriesSeconds codeControl codeRange carriesControl carriesYear controlPlaces years runWidths isCarried
+returns-5 c = rw (c .if5 .taken) (λ e n. record { elements-are = refl; interval-is = refl; expressions-are = in-row 2 1 2 refl e; leap-is = refl; year-is = n; widths-are = rw n (as-carried 247807 _ refl refl refl refl) })
 
 returns-6 : tie.Need-returns-6
-unfolding known size interval carriesLeap rowOf lookUp table widthsOf codeRuns codeFields timeFields seconds minutes hours days tenths hundredthsDigit straightSeconds hasSeconds carriesSeconds codeControl codeRange carriesControl carriesYear controlPlaces years
-returns-6 c = rw (c .if6 .taken) (λ e n. record { elements-are = refl; interval-is = refl; expressions-are = in-row 2 1 2 refl e; leap-is = refl; year-is = n; starts-are = refl; widths-are = rw n refl })
+unfolding known size interval carriesLeap rowOf lookUp table widthsOf codeRuns codeFields timeFields seconds minutes hours days tenths hundredthsDigit straightSeconds hasSeconds carriesSeconds codeControl codeRange carriesControl carriesYear controlPlaces years runWidths isCarried
+returns-6 c = rw (c .if6 .taken) (λ e n. record { elements-are = refl; interval-is = refl; expressions-are = in-row 2 1 2 refl e; leap-is = refl; year-is = n; widths-are = rw n (as-carried 8700 _ refl refl refl refl) })
 
 returns-7 : tie.Need-returns-7
-unfolding known size interval rowOf
+unfolding known size interval rowOf runWidths isCarried
 returns-7 c =
     let l = c .before .before .before .before .before .before .args .letter in
     let o : Other (c .before .before .before .before .before .before .args .letter) =
@@ -53,8 +53,7 @@ returns-7 c =
       expressions-are = rw none (in-row 0 1 0 refl e);
       leap-is = other-leap l e o;
       year-is = n;
-      starts-are = refl;
-      widths-are = rw n (other-widths l o);
+      widths-are = rw (n, other-widths l o) (as-carried 496 _ refl refl refl refl);
     }
 
 pub letter-row-spec : {M : Type 1} → statement M

@@ -1,8 +1,9 @@
 -- `row_of` meets its contract: the edition's row, with what the expression carries.
 use borrow.Author.Needs.{needs}
-use mathlib.Core.Path.{sym, ap, ap₂, _∙_}
+use mathlib.Core.Path.{sym, ap, _∙_}
+use lib.Bits.{bitAnd}
 use Rattle.layout.specs.Letters.{carried-widths}
-use Rattle.layout.specs.Tables.{carriedIn}
+use Rattle.layout.specs.Tables.{runWidths, runsIn}
 use Rattle.layout.proofs.row_of.Statement.{statement}
 use Rattle.layout.proofs.row_of.Tie as tie
 
@@ -12,22 +13,23 @@ edition-row-requires c κs = search needs
 without-year-requires : tie.Need-without-year-requires
 without-year-requires c κs = search needs
 
-widths-in-requires : tie.Need-widths-in-requires
-widths-in-requires c κs = search needs
+runs-in-requires : tie.Need-runs-in-requires
+runs-in-requires c κs = search needs
 
 returns : tie.Need-returns
 returns c =
     let f = c .before .before .before .before .args .format in
     let row = c .before .before .before .edition-row .ensures in
+    let all = c .before .before .before .edition-row .result .runs in
     record {
       elements-are = sym (row .elements-are);
       interval-is = sym (row .interval-is);
       known-is = sym (row .expressions-are);
       leap-is = sym (row .leap-is);
       year-is = sym (row .year-is);
-      starts-are = row .starts-are;
-      widths-are = c .widths-in .ensures ∙ ap₂ carriedIn (c .before .without-year .ensures) (sym (row .widths-are)) ∙ carried-widths (f .letter) (f .expression);
+      widths-are = ap (λ n. runWidths (bitAnd all n)) (c .before .runs-in .ensures ∙ ap runsIn (c .before .before .without-year .ensures)) ∙ row .widths-are _ ∙ carried-widths (f .letter) (f .expression);
     }
 
 pub row-of-spec : {M : Type 1} → statement M
-row-of-spec = tie.close (tie.spec edition-row-requires without-year-requires widths-in-requires returns)
+row-of-spec =
+    tie.close (tie.spec edition-row-requires without-year-requires runs-in-requires returns)
