@@ -11,13 +11,14 @@ use borrow.Author.Tests.{leb-true, le-leb, lt-leb, eqb-true, eq-eqb}
 use lib.Dec.{leb, eqb}
 use lib.ListN.{getD, length, take, drop, length-drop, List·getD-append}
 use lib.Seq.{getD-take, getD-drop, drop-drop, drop-append-le, take-append-le}
-use Rattle.timecode.specs.Formats.{size}
+use Rattle.timecode.specs.Formats.{isX, size}
 use Rattle.timecode.specs.Frames.{nextAfter, readOf}
 use Rattle.timecode.specs.Laws.Checks.{quiet-no-report}
-use Rattle.timecode.specs.Laws.Marks.{accepted-first, accepted-last, mark-index, mark-only}
+use Rattle.timecode.specs.Laws.Marks.{accepted-first, accepted-last, mark-index, x-mark-index, mark-only}
 use Rattle.timecode.specs.Laws.Reading.{accepted-was-written}
 use Rattle.timecode.specs.Laws.Table.{size-range}
 use Rattle.timecode.specs.Laws.Tests.{by-test, clash, and-left, and-right}
+use Rattle.timecode.specs.Laws.Windows.{lead-one, lead-none}
 use Rattle.timecode.specs.Layout.{filler}
 use Rattle.timecode.specs.Stream.{lead, opens, windowLength, frameIn, firstInRow, nextInRow, inRow, windowAnswer, lastOf, plainAnswer}
 use Rattle.timecode.specs.declared.Answer.{Answer}
@@ -31,11 +32,20 @@ use Rattle.timecode.specs.declared.Time.{Time}
 abbrev pub before : List ℕ → ℕ → ℕ
 before received e = getD (3 ∷ received) e 0
 
--- a frame may begin directly after this symbol: after a mark
-abbrev pub leadsFrame : Format → ℕ → Bool
-leadsFrame f s = eqb s 2
+-- a frame may begin directly after this symbol: after a mark, in X after any
+unfoldable pub leadsFrame : Format → ℕ → Bool
+leadsFrame f s = cond (isX f) true (eqb s 2)
 
--- a symbol that begins a frame, directly after the symbol `last`
+-- where the format asks for a mark there, and in X
+leads-marked : (f : Format) (s : ℕ) → isX f ≡ false → leadsFrame f s ≡ eqb s 2
+unfolding leadsFrame
+leads-marked f s n = rw n
+
+leads-any : (f : Format) (s : ℕ) → isX f ≡ true → leadsFrame f s ≡ true
+unfolding leadsFrame
+leads-any f s x = rw x
+
+-- a symbol that begins a frame, directly after the symbol `last`: in X any mark
 unfoldable pub opensFrame : Format → ℕ → ℕ → Bool
 opensFrame f last s = eqb s 2 && leadsFrame f last
 
@@ -106,18 +116,20 @@ pub record EndsAt (f : Format) (received : List ℕ) (e : ℕ) (t : Time) (w : �
 
 last-leads : (f : Format) (received : List ℕ) (e : ℕ) (t : Time) (w : ℕ) → e ≤ length received → EndsAt f received e t w → mayBegin f received e ≡ true
 unfolding mayBegin frameBefore
-last-leads f received e t w b p =
-    let s = size-range f in
-    let back : e - size f + (size f - 1) ≡ e - 1 = omega (arith, p .long) in
-    let up : suc (e - 1) ≡ e = omega (arith, p .long) in
-    let last : getD received (e - 1) 0 ≡ 2 =
-    ap (λ (i : ℕ). getD received i 0) (sym back)
-    ∙ sym (getD-drop (e - size f) received (size f - 1) 0)
-    ∙ sym (getD-take (size f) (drop (e - size f) received) (size f - 1) 0 (omega arith))
-    ∙ accepted-last f (take (size f) (drop (e - size f) received)) t w (p .reads) in
-    eq-eqb (before received e) 2 (ap (before received) (sym up) ∙ last)
+last-leads f received e t w b p = by-test (isX f) (leads-any f (before received e)) (λ n. leads-marked f (before received e) n ∙ eq-eqb (before received e) 2 (marked n))
+  where
+    marked : isX f ≡ false → before received e ≡ 2
+    marked n =
+        let s = size-range f in
+        let back : e - size f + (size f - 1) ≡ e - 1 = omega (arith, p .long) in
+        let up : suc (e - 1) ≡ e = omega (arith, p .long) in
+        ap (before received) (sym up)
+        ∙ ap (λ (i : ℕ). getD received i 0) (sym back)
+        ∙ sym (getD-drop (e - size f) received (size f - 1) 0)
+        ∙ sym (getD-take (size f) (drop (e - size f) received) (size f - 1) 0 (omega arith))
+        ∙ accepted-last f (take (size f) (drop (e - size f) received)) t w n (p .reads)
 
--- the last frame of a row is accepted, and a mark stands before it
+-- the last frame of a row is accepted, and what may stand before a frame stands before it
 pub row-ends : (f : Format) (received : List ℕ) (m e : ℕ) (t : Time) (w : ℕ) → e ≤ length received → rowTo f received m e ≡ Report t w → EndsAt f received e t w
 unfolding rowTo
 row-ends f received zero e t w b h =
@@ -165,9 +177,9 @@ row-quiet-next : (f : Format) (received : List ℕ) (m e : ℕ) → rowTo f rece
 unfolding rowTo nextInRow
 row-quiet-next f received m e h = by-test (leb (size f) e) (λ y. rw (y, h)) (λ n. rw n)
 
-nothing-before : (f : Format) (received : List ℕ) → mayBegin f received 0 ≡ false
+nothing-before : (f : Format) (received : List ℕ) → isX f ≡ false → mayBegin f received 0 ≡ false
 unfolding mayBegin
-nothing-before f received = refl
+nothing-before f received n = leads-marked f 3 n
 
 -- too short for its frames and their lead
 row-short : (f : Format) (received : List ℕ) (m e : ℕ) → e < suc m * size f + lead f → rowTo f received m e ≡ Quiet
@@ -178,8 +190,9 @@ row-short f received zero e h =
     by-test (mayBegin f received (e - size f))
     (λ z.
     let l = leb-true (size f) e y in
-    let none : e - size f ≡ 0 = omega arith in
-    clash (rw none at z) (nothing-before f received))
+    by-test (isX f)
+    (λ x. let no : ⊥ = omega (arith, lead-none f x) in absurd no)
+    (λ n. let none : e - size f ≡ 0 = omega (arith, lead-one f n) in clash (rw none at z) (nothing-before f received n)))
     (λ n. rw (y, n)))
     (λ n. rw n)
 row-short f received (suc m) e h =
@@ -196,7 +209,7 @@ product : (n j d m : ℕ) → j + d ≡ m → suc m * n ≡ n * j + n * d + n
 product n j d m e = rw (← e) (omega arith)
 
 module _ (f : Format) (received : List ℕ) where
-  -- frame j of the window that d frames nextInRow
+  -- frame j of the window that d frames follow
   window-frame : (j d : ℕ) → windowLength f (suc (j + d)) ≤ length received
       → frameIn f (lastOf (windowLength f (suc (j + d))) received) j ≡ frameBefore f received (length received - size f * d)
   unfolding frameIn frameBefore lastOf windowLength
@@ -205,11 +218,15 @@ module _ (f : Format) (received : List ℕ) where
       ∙ same-take (size f) (length received - (suc (j + d) * size f + lead f) + (lead f + size f * j)) (length received - size f * d - size f) received (omega arith)
 
   window-begins : (m : ℕ) → windowLength f (suc m) ≤ length received → opens f (lastOf (windowLength f (suc m)) received) ≡ mayBegin f received (length received - size f * m - size f)
-  unfolding mayBegin lastOf windowLength
+  unfolding mayBegin lastOf windowLength opens
   window-begins m h =
-      let at : length received - size f * m - size f ≡ suc (length received - (suc m * size f + lead f)) = omega arith in
+      by-test (isX f)
+      (λ x. rw x (sym (leads-any f (before received (length received - size f * m - size f)) x)))
+      (λ n.
+      let at : length received - size f * m - size f ≡ suc (length received - (suc m * size f + lead f)) = omega (arith, lead-one f n) in
       let zero-on : length received - (suc m * size f + lead f) + 0 ≡ length received - (suc m * size f + lead f) = omega arith in
-      rw at (ap (λ (x : ℕ). eqb x 2) (getD-drop (length received - (suc m * size f + lead f)) received 0 0 ∙ ap (λ (i : ℕ). getD received i 0) zero-on))
+      let first = getD-drop (length received - (suc m * size f + lead f)) received 0 0 ∙ ap (λ (i : ℕ). getD received i 0) zero-on in
+      rw n (ap (λ (x : ℕ). eqb x 2) first ∙ sym (rw at (leads-marked f (before received (suc (length received - (suc m * size f + lead f)))) n))))
 
   window-row : (j d m : ℕ) → j + d ≡ m → windowLength f (suc m) ≤ length received → opens f (lastOf (windowLength f (suc m)) received) ≡ true → inRow f (lastOf (windowLength f (suc m)) received) (suc j) ≡ rowTo f received j (length received - size f * d)
   unfolding inRow rowTo windowLength
@@ -266,14 +283,19 @@ marks-apart i (inl a) (inr b) = omega arith
 marks-apart i (inr a) (inl b) = omega arith
 marks-apart i (inr a) (inr b) = omega arith
 
+-- no two marks stand side by side in an accepted frame, and in X no mark but the first
 pub no-opening-inside : (f : Format) (frame : List ℕ) (t : Time) (w : ℕ) → readOf f frame ≡ Accepted t w → (i : ℕ) → suc i < size f → opensFrame f (getD frame i 0) (getD frame (suc i) 0) ≡ true → ⊥
 unfolding opensFrame
 no-opening-inside f frame t w h i b o =
     let p = accepted-was-written f frame t w h in
-    let second = eqb-true (getD frame (suc i) 0) 2 (and-left (eqb (getD frame (suc i) 0) 2) (leadsFrame f (getD frame i 0)) o) in
-    let first = eqb-true (getD frame i 0) 2 (and-right (eqb (getD frame (suc i) 0) 2) (leadsFrame f (getD frame i 0)) o) in
     let at : (k : ℕ) → k < size f → getD frame k 0 ≡ 2 → filler f k ≡ 2 = λ k c m. mark-only f t w (p .0) k c (ap (λ (xs : List ℕ). getD xs k 0) (p .1) ∙ m) in
-    marks-apart i (mark-index f i (at i (omega arith) first)) (mark-index f (suc i) (at (suc i) b second))
+    let second = at (suc i) b (eqb-true (getD frame (suc i) 0) 2 (and-left (eqb (getD frame (suc i) 0) 2) (leadsFrame f (getD frame i 0)) o)) in
+    let leads = and-right (eqb (getD frame (suc i) 0) 2) (leadsFrame f (getD frame i 0)) o in
+    by-test (isX f)
+    (λ x. let n : ⊥ = omega (arith, x-mark-index f (suc i) x second) in n)
+    (λ n.
+    let first = at i (omega arith) (eqb-true (getD frame i 0) 2 (sym (leads-marked f (getD frame i 0) n) ∙ leads)) in
+    marks-apart i (mark-index f i n first) (mark-index f (suc i) n second))
 
 pub accepted-opens : (f : Format) (frame : List ℕ) (t : Time) (w : ℕ) → readOf f frame ≡ Accepted t w → getD frame 0 0 ≡ 2
 accepted-opens f frame t w h = accepted-first f frame t w h
@@ -282,7 +304,7 @@ at-to : (f : Format) (received : List ℕ) (e i : ℕ) → i < size f → getD (
 unfolding frameBefore
 at-to f received e i b = getD-take (size f) (drop (e - size f) received) i 0 b ∙ getD-drop (e - size f) received i 0
 
--- Two accepted frames, each directly after a mark, do not overlap.
+-- Two accepted frames, each directly after a mark or in X after anything, do not overlap.
 pub no-overlap : (f : Format) (received : List ℕ) (e i : ℕ) (t u : Time) (w v : ℕ) → EndsAt f received e t w → EndsAt f received (e + suc i) u v → suc i < size f → ⊥
 unfolding opensFrame mayBegin
 no-overlap f received e i t u w v a b l =

@@ -7,8 +7,9 @@ use lib.Dec.{leb, eqb}
 use lib.IntN.{pos, _+ℤ_, _-ℤ_, _*ℤ_}
 use lib.ListN.{getD, length, take, drop}
 use Rattle.timecode.specs.Answers.{check}
-use Rattle.timecode.specs.Formats.{known, size, lastDay, dayLength, inRange}
+use Rattle.timecode.specs.Formats.{isX, known, size, lastDay, dayLength, inRange}
 use Rattle.timecode.specs.Frames.{left, readOf}
+use Rattle.timecode.specs.Stream.{lead}
 use Rattle.timecode.specs.declared.Classified.{Classified}
 use Rattle.timecode.specs.declared.Classified.the-variants.{Symbol}
 use Rattle.timecode.specs.declared.Format.{Format}
@@ -74,7 +75,11 @@ differenceOf t u =
 unfoldable pub partAt : Format → List ℕ → ℕ → List ℕ
 partAt f recording a = take (size f) (drop a recording)
 
--- a is found where element a - 1 is a mark and the frame beginning at a is accepted; else the places after it are looked at
+-- the lead of a frame that begins at a: element a - 1 is a mark; an X frame needs none
+unfoldable pub leadAt : Format → List ℕ → ℕ → Bool
+leadAt f recording a = cond (isX f) true (eqb (getD recording (a - 1) 0) 2)
+
+-- a is found where its lead stands and the frame beginning at a is accepted; else the places after it are looked at
 abbrev pub found : Bool → Reading → ℕ → Scanned → Scanned
 found true (Accepted t w) a after = Found a t w
 found true (Reading.Refused r) a after = after
@@ -83,27 +88,27 @@ found false reading a after = after
 -- the lowest of k places, a the first of them
 unfoldable pub lowestOf : Format → List ℕ → ℕ → ℕ → Scanned
 lowestOf f recording zero a = None
-lowestOf f recording (suc k) a = found (eqb (getD recording (a - 1) 0) 2) (readOf f (partAt f recording a)) a (lowestOf f recording k (suc a))
+lowestOf f recording (suc k) a = found (leadAt f recording a) (readOf f (partAt f recording a)) a (lowestOf f recording k (suc a))
 
--- at least 1 and at least the start
-abbrev pub firstPlace : ℕ → ℕ
-firstPlace start = cond (leb 1 start) start 1
+-- at least 1 (in X 0), so that there is room for the lead, and at least the start
+unfoldable pub firstPlace : Format → ℕ → ℕ
+firstPlace f start = cond (leb (lead f) start) start (lead f)
 
 -- Scan checks 1, 12; a frame at a has room where a + n is at most the recording's length.
 unfoldable pub scanOf : Format → List ℕ → ℕ → Scanned
 scanOf f recording start =
     check Scanned.Refused UnknownFormat (known f)  -- 1
     (check Scanned.Refused StartPastEnd (leb start (length recording))  -- 12
-    (lowestOf f recording (length recording + 1 - (firstPlace start + size f)) (firstPlace start)))
+    (lowestOf f recording (length recording + 1 - (firstPlace f start + size f)) (firstPlace f start)))
 
--- element a - 1 is a mark and the frame beginning at a is accepted
+-- element a - 1 is a mark, but in X, and the frame beginning at a is accepted
 pub record FrameAt (f : Format) (recording : List ℕ) (a : ℕ) (t : Time) (w : ℕ) : Type 0 where
-  pub mark : getD recording (a - 1) 0 ≡ 2
+  pub lead-stands : leadAt f recording a ≡ true
   pub frame : readOf f (partAt f recording a) ≡ Accepted t w
 
--- a is at least 1 and at least the start, and a frame is found there
+-- a is at least 1 (in X 0) and at least the start, and a frame is found there
 pub record FoundAt (f : Format) (recording : List ℕ) (start a : ℕ) (t : Time) (w : ℕ) : Type 0 where
-  pub first : 1 ≤ a
+  pub first : lead f ≤ a
   pub from : start ≤ a
   pub fits : FrameAt f recording a t w
 

@@ -1,27 +1,28 @@
 -- Demand 3 and document 01's sentences after it, for every setting k of document 02: one record of what holds of a list of Feeds from fresh and the list of their answers.
 -- It holds of any answers that are the plain machine's.
 use mathlib.Core.Path.{_≡_, refl, sym, ap, subst, _∙_}
-use mathlib.Core.Bool.{true, cond}
+use mathlib.Core.Bool.{true, false, cond}
 use mathlib.Core.List.{List, [], _∷_, _++_}
 use mathlib.Core.Logic.{_↔_}
 use Prim.Native.Nat.{ℕ, zero, suc, _+_, _*_, _-_, _/_, _%_, _<_, _≤_}
-use native.Mathlib.Nat.{not-suc-le-zero, div-add-mod, mod-lt, mul-le-mul-left}
+use native.Mathlib.Nat.{not-suc-le-zero, div-add-mod, mod-lt, mul-le-mul-left, lt-of-mul-lt-mul-left}
 use native.Mathlib.Omega.{arith}
 use native.Mathlib.Decide.{decLe}
 use borrow.Author.Tests.{leb-true}
 use lib.Dec.{leb, eqb}
 use lib.ListN.{getD, length, take, drop, set, length-drop, List·getD-append}
 use lib.Seq.{getD-take, length-take-le}
-use Rattle.timecode.specs.Formats.{size}
+use Rattle.timecode.specs.Formats.{isX, size}
 use Rattle.timecode.specs.Frames.{readOf, Sent, Generator, elements, sentAt, EndsFrame}
 use Rattle.timecode.specs.Laws.Checks.{refused-no-report}
 use Rattle.timecode.specs.Laws.Generators.{length-elements}
 use Rattle.timecode.specs.Laws.Machine.{feed-accepts, feed-refuses, received-elements, answer-no-refusal, feed-reports, same-answer, same-answers, length-answers, answers-append, answers-after, feed-at, elements-next, elements-to-newest, first-elements, all-elements, higher-report}
 use Rattle.timecode.specs.Laws.Marks.{size-positive}
 use Rattle.timecode.specs.Laws.Streams.{places-within-le, part-report, part-intact, part-replaced, none-replaced, one-replaced, symbol-replaced, report, first-report}
+use Rattle.timecode.specs.Laws.Table.{x-size}
 use Rattle.timecode.specs.Laws.Tests.{and-left, and-right}
-use Rattle.timecode.specs.Laws.Windows.{two-frames}
-use Rattle.timecode.specs.Stream.{isSetting, twoFrames, lead, windowLength, frameIn, confirm, lastOf, plainAnswer, Plain, plainAnswers, plainReceived, elementsOf, IsRefused, IsElement, IsNewest, elementsUpTo, EndsInFrames, SameWindow, ReplacedAt, placesWithin}
+use Rattle.timecode.specs.Laws.Windows.{lead-none, lead-small, two-frames}
+use Rattle.timecode.specs.Stream.{isSetting, twoFrames, lead, opens, windowLength, frameIn, confirm, lastOf, plainAnswer, Plain, plainAnswers, plainReceived, elementsOf, IsRefused, IsElement, IsNewest, elementsUpTo, EndsInFrames, SameWindow, ReplacedAt, placesWithin}
 use Rattle.timecode.specs.declared.Answer.{Answer}
 use Rattle.timecode.specs.declared.Answer.the-variants.{Quiet, Report}
 use Rattle.timecode.specs.declared.Format.{Format}
@@ -42,29 +43,33 @@ pub record Demand3 (f : Format) (k : ℕ) (ss : List ℕ) (answers : List Answer
   pub refused-reports-nothing : (i : ℕ) → IsRefused ss i → (t : Time) (w : ℕ) → getD answers i none ≡ Report t w → ⊥
   -- and its symbol counts as no element: the elements alone decide what an element is answered.
   pub elements-decide : (i : ℕ) → IsElement ss i → getD answers i none ≡ plainAnswer f k (elementsUpTo ss i)
-  -- However the elements before were spoiled, lost or made up: a time is reported with an element exactly when the last kn + 1 elements are a mark and k accepted frames, each time next after the one before. The report is the last one's time and control word.
+  -- However the elements before were spoiled, lost or made up: a time is reported with an element exactly when the last kn + 1 elements are a mark and k accepted frames (in X the last kn are k accepted frames), each time next after the one before. The report is the last one's time and control word.
   pub reports-exactly-when : (i : ℕ) → i < length ss → (t : Time) (w : ℕ) → (getD answers i none ≡ Report t w) ↔ (IsElement ss i × EndsInFrames f k (elementsUpTo ss i) t w)
-  -- If the last kn + 1 came intact from a generator, a frame's last mark and the k frames after it, the last one's time is reported, with its control word.
-  pub intact-window-reports : (sent : List Sent) → Generator f sent → (i : ℕ) → IsElement ss i → (before : List ℕ) (q : ℕ) → q + k < length sent
-      → elementsUpTo ss i ≡ before ++ take (windowLength f k) (drop (size f * suc q - lead f) (elements f sent))
-      → getD answers i none ≡ Report (sentAt sent (q + k) .time) (sentAt sent (q + k) .control)
+  -- If the last kn + 1 came intact from a generator, a frame's last mark and the k frames after it (in X k frames), the last one's time is reported, with its control word.
+  pub intact-window-reports : (sent : List Sent) → Generator f sent → (i : ℕ) → IsElement ss i → (before : List ℕ) (q : ℕ) → lead f ≤ size f * q → q + k ≤ length sent
+      → elementsUpTo ss i ≡ before ++ take (windowLength f k) (drop (size f * q - lead f) (elements f sent))
+      → getD answers i none ≡ Report (sentAt sent (q + k - 1) .time) (sentAt sent (q + k - 1) .control)
   -- If they are any consecutive ones of a generator with at most k - 1 replaced by another symbol, a time is reported only where a frame of that generator has just ended, and it is that frame's.
   pub no-false-time : (sent : List Sent) → Generator f sent → (i : ℕ) → IsElement ss i → (before window places : List ℕ) (start : ℕ) → start + windowLength f k ≤ length (elements f sent)
       → ReplacedAt places window (take (windowLength f k) (drop start (elements f sent))) → length places < k
       → elementsUpTo ss i ≡ before ++ window
       → (t : Time) (w : ℕ) → getD answers i none ≡ Report t w → EndsFrame f sent (start + windowLength f k) t
-  -- The same of every answer to a whole stream of a generator, joined at any element, refused Feeds among it, with at most k - 1 replaced of the kn + 1 elements that end there.
+  -- The same of every answer to a whole stream of a generator, joined at any element, refused Feeds among it, with at most k - 1 replaced of the kn + 1 elements (in X kn) that end there.
   pub no-false-time-in-stream : (sent : List Sent) → Generator f sent → (places : List ℕ) (start : ℕ) → ReplacedAt places (elementsOf ss) (drop start (elements f sent))
       → (i : ℕ) → IsElement ss i → length (placesWithin (length (elementsUpTo ss i) - windowLength f k) (windowLength f k) places) < k
       → (t : Time) (w : ℕ) → getD answers i none ≡ Report t w → EndsFrame f sent (start + length (elementsUpTo ss i)) t
-  -- In an undamaged stream joined at index i of a frame, the first report comes with element (k + 1)n - i, counted from 1,
-  pub first-report-exactly : (sent : List Sent) → Generator f sent → (q i : ℕ) → i < size f → q + k < length sent → ss ≡ drop (size f * q + i) (elements f sent)
+  -- In an undamaged stream joined at index i of a frame, the first report comes with element (k + 1)n - i, counted from 1 (in X where i is not 0);
+  pub first-report-exactly : (sent : List Sent) → Generator f sent → (q i : ℕ) → i < size f → 0 < i + lead f → q + k < length sent → ss ≡ drop (size f * q + i) (elements f sent)
       → ((j : ℕ) → suc j < suc k * size f - i → getD answers j none ≡ Quiet)
       × (getD answers (suc k * size f - i - 1) none ≡ Report (sentAt sent (q + k) .time) (sentAt sent (q + k) .control))
-  -- so, joined at any element, within (k + 1)n elements.
+  -- joined at a frame's last mark, with the last of the k frames after it, element kn + 1; in X joined at a frame's first element, with element kn;
+  pub first-report-from-lead : (sent : List Sent) → Generator f sent → (q : ℕ) → lead f ≤ size f * q → q + k ≤ length sent → ss ≡ drop (size f * q - lead f) (elements f sent)
+      → ((j : ℕ) → suc j < windowLength f k → getD answers j none ≡ Quiet)
+      × (getD answers (windowLength f k - 1) none ≡ Report (sentAt sent (q + k - 1) .time) (sentAt sent (q + k - 1) .control))
+  -- so, joined at any element, within (k + 1)n elements, in X within (k + 1)n - 1, which is 74 for k = 2; it is of the frame that ends there.
   pub first-report-within : (sent : List Sent) → Generator f sent → (start : ℕ) → start / size f + k < length sent → ss ≡ drop start (elements f sent)
-      → (i : ℕ) × (i < suc k * size f) × ((j : ℕ) → j < i → getD answers j none ≡ Quiet)
-      × (getD answers i none ≡ Report (sentAt sent (start / size f + k) .time) (sentAt sent (start / size f + k) .control))
+      → (i : ℕ) × (q : ℕ) × (suc i < suc k * size f + lead f) × (q < length sent) × (start + suc i ≡ size f * suc q) × ((j : ℕ) → j < i → getD answers j none ≡ Quiet)
+      × (getD answers i none ≡ Report (sentAt sent q .time) (sentAt sent q .control))
 
 -- Two readers fed ss and rs, and both the same symbols after these: the newest elements of ss and rs got the same answer (Laws.Machine.newest-exists: where there are elements one is the newest), and so did, refusals too, the symbols after these.
 pub record SameAnswers (ss rs : List ℕ) (first second : List Answer) (none : Answer) : Type 0 where
@@ -102,20 +107,18 @@ module _ (f : Format) (m : ℕ) (ss : List ℕ) (none : Answer) where
 
 -- a window of a generator's elements, whatever was received before
 module _ (f : Format) (m : ℕ) (few : suc m ≤ 5) (sent : List Sent) (gen : Generator f sent) where
-  intact : (before : List ℕ) (q : ℕ) → q + suc m < length sent
-      → plainAnswer f (suc m) (before ++ take (windowLength f (suc m)) (drop (size f * suc q - lead f) (elements f sent))) ≡ Report (sentAt sent (q + suc m) .time) (sentAt sent (q + suc m) .control)
+  intact : (before : List ℕ) (q : ℕ) → lead f ≤ size f * q → q + m < length sent
+      → plainAnswer f (suc m) (before ++ take (windowLength f (suc m)) (drop (size f * q - lead f) (elements f sent))) ≡ Report (sentAt sent (q + m) .time) (sentAt sent (q + m) .control)
   unfolding windowLength
-  intact before q h =
-      let start = size f * suc q - lead f in
+  intact before q a h =
+      let start = size f * q - lead f in
       let n = suc m * size f + lead f in
       let window = take n (drop start (elements f sent)) in
-      let whole : size f * suc (q + suc m) ≤ size f * length sent = mul-le-mul-left (size f) h in
-      let inside : size f * suc q - lead f + (suc m * size f + lead f) ≤ length (elements f sent) = omega (arith, length-elements f sent, size-positive f) in
-      let l : length (take (suc m * size f + lead f) (drop (size f * suc q - lead f) (elements f sent))) ≡ suc m * size f + lead f =
-      length-take-le n (drop start (elements f sent)) (omega (arith, length-drop (size f * suc q - lead f) (elements f sent))) in
-      let u : q + suc m ≡ suc q + m = omega arith in
-      rw u
-      (part-intact f m sent gen start [] before window (part-replaced f sent start n [] window inside (none-replaced window)) (omega arith) (λ j b. refl) (suc q) (omega (arith, size-positive f)))
+      let whole : size f * suc (q + m) ≤ size f * length sent = mul-le-mul-left (size f) h in
+      let inside : size f * q - lead f + (suc m * size f + lead f) ≤ length (elements f sent) = omega (arith, length-elements f sent) in
+      let l : length (take (suc m * size f + lead f) (drop (size f * q - lead f) (elements f sent))) ≡ suc m * size f + lead f =
+      length-take-le n (drop start (elements f sent)) (omega (arith, length-drop (size f * q - lead f) (elements f sent))) in
+      part-intact f m sent gen start [] before window (part-replaced f sent start n [] window inside (none-replaced window)) (omega arith) (λ j b. refl) q (omega arith)
 
   replaced : (before window places : List ℕ) (start : ℕ) → start + windowLength f (suc m) ≤ length (elements f sent)
       → ReplacedAt places window (take (windowLength f (suc m)) (drop start (elements f sent))) → length places < suc m → (t : Time) (w : ℕ)
@@ -126,18 +129,39 @@ module _ (f : Format) (m : ℕ) (few : suc m ≤ 5) (sent : List Sent) (gen : Ge
       let e = part-report f m sent gen start places before window (part-replaced f sent start (windowLength f (suc m)) places window h is) (omega arith) (omega (arith, within)) (omega (arith, within)) t w r in
       rw n at e
 
-  first-exactly : (q i : ℕ) → i < size f → q + suc m < length sent → (none : Answer)
+  first-exactly : (q i : ℕ) → i < size f → 0 < i + lead f → q + suc m < length sent → (none : Answer)
       → ((j : ℕ) → suc j < suc (suc m) * size f - i → getD (plainAnswers f (suc m) [] (drop (size f * q + i) (elements f sent))) j none ≡ Quiet)
       × (getD (plainAnswers f (suc m) [] (drop (size f * q + i) (elements f sent))) (suc (suc m) * size f - i - 1) none ≡ Report (sentAt sent (q + suc m) .time) (sentAt sent (q + suc m) .control))
-  first-exactly q i h b none = let u : q + suc m ≡ suc q + m = omega arith in rw u (first-report f m sent gen q i h (omega arith) none)
+  first-exactly q i h l b none =
+      let u : q + suc m ≡ suc q + m = omega arith in
+      let v : suc (suc m) * size f - i - 1 ≡ size f * suc (suc q + m) - (size f * q + i) - 1 = omega arith in
+      let first = first-report f m sent gen (size f * q + i) (suc q) (omega (arith, lead-small f)) (omega arith) (omega arith) none in
+      (λ j c. first .0 j (omega arith), rw (u, v) (first .1))
+
+  first-from-lead : (q : ℕ) → lead f ≤ size f * q → q + m < length sent → (none : Answer)
+      → ((j : ℕ) → suc j < windowLength f (suc m) → getD (plainAnswers f (suc m) [] (drop (size f * q - lead f) (elements f sent))) j none ≡ Quiet)
+      × (getD (plainAnswers f (suc m) [] (drop (size f * q - lead f) (elements f sent))) (windowLength f (suc m) - 1) none ≡ Report (sentAt sent (q + m) .time) (sentAt sent (q + m) .control))
+  unfolding windowLength
+  first-from-lead q l b none =
+      let v : suc m * size f + lead f - 1 ≡ size f * suc (q + m) - (size f * q - lead f) - 1 = omega arith in
+      let first = first-report f m sent gen (size f * q - lead f) q (omega arith) (omega (arith, size-positive f)) b none in
+      (λ j c. first .0 j (omega arith), rw v (first .1))
 
   first-within : (start : ℕ) → start / size f + suc m < length sent → (none : Answer)
-      → (i : ℕ) × (i < suc (suc m) * size f) × ((j : ℕ) → j < i → getD (plainAnswers f (suc m) [] (drop start (elements f sent))) j none ≡ Quiet)
-      × (getD (plainAnswers f (suc m) [] (drop start (elements f sent))) i none ≡ Report (sentAt sent (start / size f + suc m) .time) (sentAt sent (start / size f + suc m) .control))
+      → (i : ℕ) × (q : ℕ) × (suc i < suc (suc m) * size f + lead f) × (q < length sent) × (start + suc i ≡ size f * suc q)
+      × ((j : ℕ) → j < i → getD (plainAnswers f (suc m) [] (drop start (elements f sent))) j none ≡ Quiet)
+      × (getD (plainAnswers f (suc m) [] (drop start (elements f sent))) i none ≡ Report (sentAt sent q .time) (sentAt sent q .control))
   first-within start h none =
-      let index : start % size f < size f = mod-lt start (size-positive f) in
-      let first = rw (div-add-mod start (size f)) at (first-exactly (start / size f) (start % size f) index h none) in
-      (suc (suc m) * size f - start % size f - 1, omega (arith, size-positive f), λ j b. first .0 j (omega arith), first .1)
+      let n = size-positive f in
+      let x = start + lead f + (size f - 1) in
+      let q = x / size f in
+      let r : x % size f < size f = mod-lt x n in
+      let d : size f * (x / size f) + x % size f ≡ x = div-add-mod x (size f) in
+      let e : size f * (start / size f) + start % size f ≡ start = div-add-mod start (size f) in
+      let s : start % size f < size f = mod-lt start n in
+      let u : x / size f < suc (start / size f + 1) = lt-of-mul-lt-mul-left (size f) (omega (arith, lead-small f)) in
+      let first = first-report f m sent gen start q (omega arith) (omega arith) (omega arith) none in
+      (size f * suc (q + m) - start - 1, q + m, omega arith, omega arith, omega arith, λ j b. first .0 j (omega arith), first .1)
 
 plain-demand-3 : (f : Format) (m : ℕ) → suc m ≤ 5 → (ss : List ℕ) (none : Answer) → Demand3 f (suc m) ss (plainAnswers f (suc m) [] ss) none
 plain-demand-3 f m few ss none =
@@ -148,14 +172,15 @@ plain-demand-3 f m few ss none =
       refused-reports-nothing = λ i r t w h. refused-no-report UnknownSymbol t w (sym (to-refused f (suc m) ss none i r) ∙ h);
       elements-decide = to-element f (suc m) ss none;
       reports-exactly-when = exactly-when f m ss none;
-      intact-window-reports = λ sent gen i e before q h is. to-element f (suc m) ss none i e ∙ ap (plainAnswer f (suc m)) is ∙ intact f m few sent gen before q h;
+      intact-window-reports = λ sent gen i e before q l h is. let u : q + suc m - 1 ≡ q + m = omega arith in rw u (to-element f (suc m) ss none i e ∙ ap (plainAnswer f (suc m)) is ∙ intact f m few sent gen before q l (omega arith));
       no-false-time = λ sent gen i e before window places start h at b is t w r.
           replaced f m few sent gen before window places start h at b t w (sym (ap (plainAnswer f (suc m)) is) ∙ sym (to-element f (suc m) ss none i e) ∙ r);
       no-false-time-in-stream = λ sent gen places start at i e c t w r.
           let first = first-elements ss i in
           report f m sent gen start places (elementsOf ss) at (length (elementsUpTo ss i)) (first .0) (omega arith) (omega arith) t w
           (sym (ap (plainAnswer f (suc m)) (first .1)) ∙ sym (to-element f (suc m) ss none i e) ∙ r);
-      first-report-exactly = λ sent gen q i h b is. rw is (first-exactly f m few sent gen q i h b none);
+      first-report-exactly = λ sent gen q i h l b is. rw is (first-exactly f m few sent gen q i h l b none);
+      first-report-from-lead = λ sent gen q l h is. let u : q + suc m - 1 ≡ q + m = omega arith in rw (is, u) (first-from-lead f m few sent gen q l (omega arith) none);
       first-report-within = λ sent gen start h is. rw is (first-within f m few sent gen start h none);
     }
 
@@ -177,19 +202,25 @@ pub demand-3 : (f : Format) (k : ℕ) → isSetting k ≡ true → (ss : List �
 demand-3 f zero h ss answers plain none = absurd (not-suc-le-zero (setting-range 0 h .0))
 demand-3 f (suc m) h ss answers plain none = subst (λ (as′ : List Answer). Demand3 f (suc m) ss as′ none) (sym plain) (plain-demand-3 f m (setting-range (suc m) h .1) ss none)
 
--- k = 2 is the machine of before: a window of 2n + 1, a symbol 2 and two frames that Read accepts, the second's time next after the first's.
+-- k = 2 is the machine of before, in every format but X: a window of 2n + 1, a symbol 2 and two frames that Read accepts, the second's time next after the first's.
 pub two-is-setting : isSetting twoFrames ≡ true
 unfolding isSetting
 two-is-setting = refl
 
-pub two-frames-as-before : (f : Format) (received : List ℕ)
+pub two-frames-as-before : (f : Format) → isX f ≡ false → (received : List ℕ)
     → let window = lastOf (2 * size f + 1) received in
     plainAnswer f twoFrames received
     ≡ cond (leb (2 * size f + 1) (length received)) (cond (eqb (getD window 0 0) 2) (confirm f (readOf f (frameIn f window 0)) (readOf f (frameIn f window 1))) Quiet) Quiet
-unfolding plainAnswer windowLength
-two-frames-as-before f received = ap (λ (a : Answer). cond (leb (2 * size f + 1) (length received)) a Quiet) (two-frames f (lastOf (2 * size f + 1) received))
+unfolding plainAnswer windowLength lead opens
+two-frames-as-before f n received = rw n (ap (λ (a : Answer). cond (leb (2 * size f + 1) (length received)) a Quiet) (rw n at (two-frames f (lastOf (2 * size f + 1) received))))
 
--- Two readers of one format and one setting k, each fed from fresh, whose last kn + 1 elements agree gave the same answer to the newest of them, and give the same answers, refusals too, to the same symbols after it.
+-- In X it is a window of 50 symbols: two frames that Read accepts, the second's time next after the first's.
+pub two-frames-of-x : (f : Format) → isX f ≡ true → (received : List ℕ)
+    → let window = lastOf 50 received in plainAnswer f twoFrames received ≡ cond (leb 50 (length received)) (confirm f (readOf f (take 25 window)) (readOf f (take 25 (drop 25 window)))) Quiet
+unfolding plainAnswer windowLength lead opens frameIn
+two-frames-of-x f x received = rw (x, x-size f x) (ap (λ (a : Answer). cond (leb 50 (length received)) a Quiet) (rw (x, x-size f x) at (two-frames f (lastOf 50 received))))
+
+-- Two readers of one format and one setting k, each fed from fresh, whose last kn + 1 elements (in X kn) agree gave the same answer to the newest of them, and give the same answers, refusals too, to the same symbols after it.
 pub two-readers : (f : Format) (k : ℕ) (ss rs xs : List ℕ) (first second : List Answer) → first ≡ plainAnswers f k [] (ss ++ xs) → second ≡ plainAnswers f k [] (rs ++ xs)
     → SameWindow f k (elementsOf ss) (elementsOf rs) → (none : Answer) → SameAnswers ss rs first second none
 two-readers f k ss rs xs first second first-plain second-plain same none = rw (first-plain, second-plain) (record { to-newest = newest; after = after-them })
@@ -246,3 +277,14 @@ module _ (f : Format) (k : ℕ) (two : 2 ≤ k) (ss : List ℕ) (answers : List 
       let n : length (elementsUpTo ss i) ≡ suc i = ap length first ∙ length-take-le (suc i) ss b in
       let few = places-within-le (length (elementsUpTo ss i) - windowLength f k) (windowLength f k) (p ∷ []) in
       rw n at (holds .no-false-time-in-stream sent gen (p ∷ []) start at i (b, symbols i) (omega (arith, few)) t w r)
+
+-- ---- X
+
+-- With two frames, joined at any element, the first report comes within 74 elements.
+pub first-report-of-x-within-74 : (f : Format) → isX f ≡ true → (ss : List ℕ) (answers : List Answer) (none : Answer) → Demand3 f twoFrames ss answers none
+    → (sent : List Sent) → Generator f sent → (start : ℕ) → start / size f + twoFrames < length sent → ss ≡ drop start (elements f sent)
+    → (i : ℕ) × (q : ℕ) × (suc i ≤ 74) × (q < length sent) × (start + suc i ≡ size f * suc q) × ((j : ℕ) → j < i → getD answers j none ≡ Quiet)
+    × (getD answers i none ≡ Report (sentAt sent q .time) (sentAt sent q .control))
+first-report-of-x-within-74 f x ss answers none holds sent gen start h is =
+    let first = holds .first-report-within sent gen start h is in
+    (first .0, first .1, omega (arith, first .2, x-size f x, lead-none f x), first .3, first .4, first .5, first .6)

@@ -2,7 +2,7 @@
 use mathlib.Core.Path.{_≡_, sym, ap, _∙_, subst}
 use mathlib.Core.Bool.{true, false}
 use mathlib.Core.List.{List, [], _∷_, _++_}
-use Prim.Native.Nat.{ℕ, suc, _-_, _*_, _/_, _%_, _<_, _≤_}
+use Prim.Native.Nat.{ℕ, suc, _-_, _*_, _/_, _%_, _^_, _<_, _≤_}
 use lib.Dec.{eqb}
 use lib.ListN.{getD, length, take, drop, replicate, length-replicate}
 use mathlib.Core.Logic.{_↔_, _⊎_, inl, inr}
@@ -11,15 +11,16 @@ use native.Mathlib.Omega.{arith}
 use Rattle.timecode.specs.Answers.{refusalNumber}
 use Rattle.timecode.specs.Calls.{classifyListOf, classifyListLeaves}
 use Rattle.timecode.specs.Editions.{withYear, withoutYear, timeInYear, nineBits, forwardOf, forwardLeaves, backwardOf, backwardLeaves}
-use Rattle.timecode.specs.Formats.{member, rowOf, known, size, interval, carriesYear, lastHundredth, dayLength, yearCarried, onFormat, carriesLeap, secondCarried}
-use Rattle.timecode.specs.Frames.{newYear, yearLengths, lengthIn, usual, kinds, dayEnd, sameDay, nextDay, stepOf, Follows, nextAfter, stepBackOf, Precedes, writeOf, writeLeaves, readOf, Sent, Generator, sentAt, dayBefore, yearOfTimeBefore, following, preceding, onDay, areSymbols, isTime, timeIn, secondsAgree}
+use Rattle.timecode.specs.Formats.{member, isX, rowOf, known, size, interval, carriesYear, lastHundredth, dayLength, yearCarried, onFormat, carriesLeap, secondCarried}
+use Rattle.timecode.specs.Frames.{newYear, turnDay, yearLengths, lengthIn, usual, kinds, dayEnd, sameDay, nextDay, stepOf, Follows, nextAfter, stepBackOf, Precedes, writeOf, writeLeaves, readOf, Sent, Generator, sentAt, dayBefore, yearOfTimeBefore, following, preceding, onDay, areSymbols, isTime, timeIn, secondsAgree}
 use Rattle.timecode.specs.Laws.Back.{step-back, lengthBefore, checks-alike, back-step, back-on-format, follows-precedes, precedes-follows, any-length-back}
 use Rattle.timecode.specs.Laws.Checks.{accepted, by-reading, refused-up-to}
 use Rattle.timecode.specs.Laws.Editions.{Forward, forward-done, forward-leaves, forward-reads, forward-back, back-forward, forward-keeps, backward-keeps, backward-year, with-without}
 use Rattle.timecode.specs.Laws.Existence.{frames, length-frames, control-at, first-time, generator, goes-on}
 use Rattle.timecode.specs.Laws.Reading.{accepted-was-written, elements-up-to}
 use Rattle.timecode.specs.Laws.Stepping.{step-on-format, next-follows, follows-next, usual-end, step-answers, year-range, day-end-range, refuses-alike, lengthFor, length-in, never-refuses-length, any-length, Went, went, Lands, lands, year-is}
-use Rattle.timecode.specs.Laws.Times.{last-range, is-on-format, is-carried, none-added, one-added}
+use Rattle.timecode.specs.Laws.Table.{x-no-year, x-no-control}
+use Rattle.timecode.specs.Laws.Times.{last-range, year-none, only-day, is-on-format, is-carried, none-added, one-added}
 use Rattle.timecode.specs.Laws.Writing.{written-is-accepted, taken, takes, leaves}
 use Rattle.timecode.specs.Layout.{second, minute, hour, filler, runs, control, numberIn}
 use Rattle.timecode.specs.declared.Format.{Format}
@@ -37,7 +38,7 @@ use Rattle.timecode.specs.declared.Written.the-variants.{Done}
 pub use Rattle.timecode.specs.Laws.Stepping.{two-that-follow}
 -- Two that are not the same are written at least seven elements apart, whatever the control words.
 pub use Rattle.timecode.specs.Laws.Successors.{two-that-follow-are-apart}
--- Scan answers the lowest place, at least 1 and at least the start, where a mark stands before and Read accepts; None exactly if there is none.
+-- Scan answers the lowest place, at least 1 (in X 0) and at least the start, where a mark stands before (in X anything or nothing) and Read accepts; None exactly if there is none.
 pub use Rattle.timecode.specs.Laws.Scanning.{scan-finds-the-lowest, scan-finds-none}
 
 -- ---- Demand 1: a refusal leaves lent memory with the contents it had. Write, the converters and the classifier over lists set lent memory; Read, Step, Difference, the classifier for one pulse and Scan set none.
@@ -127,7 +128,7 @@ generators-go-on f sent s = goes-on sent s f
 pub step-stays-on-format : (f : Format) (t u : Time) → Follows f t u → (onFormat f u ≡ true) × (secondCarried f u ≡ true) × (yearCarried f (u .year) ≡ true)
 step-stays-on-format f t u s = let o = step-on-format f t u s in (is-on-format f u o, is-carried f u o, o .year-is)
 
--- D, E and H step as usual for every kind.
+-- D, E, H and X step as usual for every kind.
 pub step-as-usual-without-leap : (f : Format) (t : Time) (given kind : ℕ) → carriesLeap f ≡ false → member kind kinds ≡ true → stepOf f t given kind ≡ stepOf f t given usual
 unfolding stepOf onDay following
 step-as-usual-without-leap f t given kind m h = rw (h, usual-end f kind m, usual-end f usual m)
@@ -174,17 +175,17 @@ back-refuses-as-step f t given kind r = (
     after : ℕ
     after = lengthFor f t given
 
--- Day 1, c 0 goes to the last frame of the year before, whose length is the one given, or where the format carries the year its own.
+-- Day 1, c 0 goes to the last frame of the year before, whose length is the one given, or where the format carries the year its own; in X to the last frame of day 1.
 pub first-frame-back-to-last : (f : Format) (year given kind : ℕ) → known f ≡ true → yearCarried f year ≡ true → member given yearLengths ≡ true → member kind kinds ≡ true
     → stepBackOf f (newYear year) given kind
-    ≡ To (record { year = yearOfTimeBefore f (newYear year); day = lengthIn f (yearOfTimeBefore f (newYear year)) given; hundredths = dayEnd f kind - interval f })
+    ≡ To (record { year = yearOfTimeBefore f (newYear year); day = turnDay f (lengthIn f (yearOfTimeBefore f (newYear year)) given); hundredths = dayEnd f kind - interval f })
 unfolding stepBackOf preceding dayBefore
 first-frame-back-to-last f year given kind k y l m =
     let length = length-in f (yearOfTimeBefore f (newYear year)) given l in
     step-answers f (newYear year) (lengthBefore f (newYear year) given) kind k
     (record { year-is = y; first = omega arith; in-year = omega (arith, last-range f year); last = omega arith; below = omega arith; grid = zero-mod (interval f); carried = λ n. omega arith })
     length (year-range (lengthBefore f (newYear year) given) length .0) m (omega (arith, day-end-range f kind))
-    (To (record { year = yearOfTimeBefore f (newYear year); day = lengthBefore f (newYear year) given; hundredths = dayEnd f kind - interval f }))
+    (To (record { year = yearOfTimeBefore f (newYear year); day = turnDay f (lengthBefore f (newYear year) given); hundredths = dayEnd f kind - interval f }))
 
 -- Next after, read backwards, is some step back.
 pub next-after-backwards : (f : Format) (t u : Time) → (nextAfter f t u ≡ true) ↔ Precedes f t u
@@ -194,7 +195,7 @@ next-after-backwards f t u = (λ h. follows-precedes f t u (next-follows f t u h
 pub back-stays-on-format : (f : Format) (t u : Time) → Precedes f t u → (onFormat f t ≡ true) × (secondCarried f t ≡ true) × (yearCarried f (t .year) ≡ true)
 back-stays-on-format f t u s = let o = back-on-format f t u s in (is-on-format f t o, is-carried f t o, o .year-is)
 
--- D, E and H step back as usual for every kind.
+-- D, E, H and X step back as usual for every kind.
 pub back-as-usual-without-leap : (f : Format) (t : Time) (given kind : ℕ) → carriesLeap f ≡ false → member kind kinds ≡ true → stepBackOf f t given kind ≡ stepBackOf f t given usual
 unfolding stepBackOf onDay preceding
 back-as-usual-without-leap f t given kind m h = rw (h, usual-end f kind m, usual-end f usual m)
@@ -214,6 +215,19 @@ pub year-length-never-refused : (f : Format) (t : Time) (given kind : ℕ) → c
 year-length-never-refused = never-refuses-length
 
 -- No false year with one element replaced: Demand3.no-false-year-with-one-replaced.
+
+-- ---- X. Demand 2, demand 3 and the theorems on both steps hold for every format, so for X too.
+
+-- What Read gives of an X frame: day 1 always, no year, no control bits.
+pub x-is-day-1 : (f : Format) (bytes : List ℕ) (t : Time) (w : ℕ) → isX f ≡ true → readOf f bytes ≡ Accepted t w → (t .year ≡ 0) × (t .day ≡ 1) × (w ≡ 0)
+x-is-day-1 f bytes t w x h =
+    let v = accepted-was-written f bytes t w h .0 in
+    let room : w < 2 ^ 0 = rw (x-no-control f (v .format) x) at (v .room) in
+    (year-none f (t .year) (v .time .year-is) (x-no-year f x), only-day f t (v .time) x, omega arith)
+
+-- After every time of X comes one of day 1, and before it.
+pub x-steps-to-day-1 : (f : Format) (t u : Time) → isX f ≡ true → (Follows f t u → u .day ≡ 1) × (Precedes f t u → t .day ≡ 1)
+x-steps-to-day-1 f t u x = (λ s. only-day f u (step-on-format f t u s) x, λ s. only-day f t (back-on-format f t u s) x)
 
 -- ---- Converters. What they read, where they are done, stands in the frame that they leave.
 

@@ -1,5 +1,6 @@
 -- Document 01, "Elements and formats": the formats, their table, and the times that lie on them.
 -- Document 02, "Leap second": a second may be added to a day or taken from it; A, B and G carry that.
+-- Document 02, "XR3 tapes": letter X has frames of one second, without a day.
 -- Document 02, "The year on the wire": A and B carry the year in expressions 4 to 7.
 use mathlib.Core.Path.{_≡_}
 use mathlib.Core.Bool.{Bool, true, false, cond, _&&_, _||_}
@@ -37,6 +38,9 @@ G = 71
 abbrev pub H : ℕ
 H = 72
 
+abbrev pub X : ℕ
+X = 88
+
 -- A line of the table: the letter, the expressions that it takes, n, S, and where each nine control bits begin in an expression without the year.
 pub record Row : Type 0 where
   pub letter : ℕ
@@ -53,6 +57,7 @@ table =
     ∷ record { letter = E; expressions = 1 ∷ 2 ∷ []; elements = 100; interval = 1000; control = 50 ∷ 60 ∷ 70 ∷ 80 ∷ 90 ∷ [] }
     ∷ record { letter = G; expressions = 1 ∷ 2 ∷ []; elements = 100; interval = 1; control = 60 ∷ 70 ∷ 80 ∷ 90 ∷ [] }
     ∷ record { letter = H; expressions = 1 ∷ 2 ∷ []; elements = 60; interval = 6000; control = 50 ∷ [] }
+    ∷ record { letter = X; expressions = 2 ∷ []; elements = 25; interval = 100; control = [] }
     ∷ []
 
 -- Any other letter takes no expression, so every call refuses it before it asks for the rest.
@@ -65,6 +70,10 @@ lookUp l (r ∷ rs) = cond (eqb (r .letter) l) r (lookUp l rs)
 
 unfoldable pub rowOf : Format → Row
 rowOf f = lookUp (f .letter) table
+
+-- letter X, the XR3 code: its time has day 1 always
+unfoldable pub isX : Format → Bool
+isX f = eqb (f .letter) X
 
 -- number 1: the letter and the expression are ones of the table
 unfoldable pub known : Format → Bool
@@ -114,9 +123,9 @@ daysIn year = cond (eqb (year % 4) 0) 366 365
 unfoldable pub yearCarried : Format → ℕ → Bool
 yearCarried f year = cond (carriesYear f) (leb year lastYear) (eqb year 0)
 
--- the last day of a year: where the format carries the year, that year's own
+-- the last day of a year: where the format carries the year, that year's own; in X day 1
 unfoldable pub lastDayIn : Format → ℕ → ℕ
-lastDayIn f year = cond (carriesYear f) (daysIn year) lastDay
+lastDayIn f year = cond (isX f) 1 (cond (carriesYear f) (daysIn year) lastDay)
 
 -- day and c are in range, the day up to that last one
 unfoldable pub inRange : ℕ → Time → Bool
@@ -126,7 +135,7 @@ inRange last t = leb 1 (t .day) && (leb (t .day) last && leb (t .hundredths) las
 unfoldable pub onFormat : Format → Time → Bool
 onFormat f t = inRange (lastDayIn f (t .year)) t && eqb (t .hundredths % interval f) 0
 
--- A, B and G carry an added or taken second; D, E and H do not.
+-- A, B and G carry an added or taken second; D, E, H and X do not.
 unfoldable pub carriesLeap : Format → Bool
 carriesLeap f = member (f .letter) (A ∷ B ∷ G ∷ [])
 

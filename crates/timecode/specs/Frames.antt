@@ -1,5 +1,5 @@
 -- Document 01, "Stepping, writing, reading": Step and next after, Write, Read, and the generator.
--- Document 02: the step back; both steps are given the kind of the earlier time's day, and 23:59:60 is read where it is carried. Where the format carries the year, it gives the year's length.
+-- Document 02: the step back; both steps are given the kind of the earlier time's day, and 23:59:60 is read where it is carried. Where the format carries the year, it gives the year's length. In X every day is day 1.
 use mathlib.Core.Path.{_≡_}
 use mathlib.Core.Bool.{Bool, true, false, cond, not, _&&_, _||_}
 use mathlib.Core.List.{List, [], _∷_, _++_}
@@ -8,7 +8,7 @@ use Prim.Native.Nat.{ℕ, suc, _+_, _-_, _*_, _/_, _^_, _<_}
 use lib.Dec.{leb, ltb, eqb}
 use lib.ListN.{getD, length}
 use Rattle.timecode.specs.Answers.{check}
-use Rattle.timecode.specs.Formats.{member, isSymbol, known, size, interval, carriesYear, dayLength, lastYear, daysIn, yearCarried, lastDayIn, onFormat, carriesLeap, secondCarried, OnFormat}
+use Rattle.timecode.specs.Formats.{member, isSymbol, isX, known, size, interval, carriesYear, dayLength, lastYear, daysIn, yearCarried, lastDayIn, onFormat, carriesLeap, secondCarried, OnFormat}
 use Rattle.timecode.specs.Layout.{Run, Field, seconds, minutes, hours, days, tenths, hundredthsDigit, hasSeconds, straightSeconds, control, years, timeFields, fields, flatten, runs, numbers, allDigits, inRun, filler, encode, digitIn, numberIn}
 use Rattle.timecode.specs.declared.Format.{Format}
 use Rattle.timecode.specs.declared.Reading.{Reading}
@@ -54,6 +54,10 @@ inYear t length = member length yearLengths && leb (t .day) length
 unfoldable pub dayAfter : ℕ → ℕ → ℕ
 dayAfter day length = cond (eqb day length) 1 (day + 1)
 
+-- the day after which day 1 comes: the year's last, in X day 1
+unfoldable pub turnDay : Format → ℕ → ℕ
+turnDay f length = cond (isX f) 1 length
+
 -- Year 99 is followed by 0.
 unfoldable pub yearAfter : ℕ → ℕ
 yearAfter year = cond (eqb year lastYear) 0 (year + 1)
@@ -79,11 +83,11 @@ kinds = usual ∷ secondAdded ∷ secondTaken ∷ []
 unfoldable pub dayLengthOf : ℕ → ℕ
 dayLengthOf kind = cond (eqb kind secondAdded) 8640100 (cond (eqb kind secondTaken) 8639900 dayLength)
 
--- where a day of the kind ends; D, E and H step as usual for every kind
+-- where a day of the kind ends; D, E, H and X step as usual for every kind
 unfoldable pub dayEnd : Format → ℕ → ℕ
 dayEnd f kind = cond (carriesLeap f) (dayLengthOf kind) dayLength
 
--- number 15: the kind is at most 2, and c is not past the end of a day of that kind (in D, E and H 14 has asked that before)
+-- number 15: the kind is at most 2, and c is not past the end of a day of that kind (in D, E, H and X 14 has asked that before)
 unfoldable pub onDay : Format → Time → ℕ → Bool
 onDay f t kind = member kind kinds && ltb (t .hundredths) (dayEnd f kind)
 
@@ -93,7 +97,7 @@ sameDay f t = sameDayAt t (t .hundredths + interval f)
 
 -- the first frame of the day after
 abbrev pub nextDay : Format → Time → ℕ → Time
-nextDay f t length = record { year = yearOfDayAfter f t length; day = dayAfter (t .day) length; hundredths = 0 }
+nextDay f t length = record { year = yearOfDayAfter f t length; day = dayAfter (t .day) (turnDay f length); hundredths = 0 }
 
 -- c + S, or at the day's end the day after and c = 0
 unfoldable pub following : Format → Time → ℕ → ℕ → Time
@@ -170,7 +174,7 @@ sameDayBefore f t = sameDayAt t (t .hundredths - interval f)
 
 -- the last frame of the day before, which is of that kind
 abbrev pub lastBefore : Format → Time → ℕ → ℕ → Time
-lastBefore f t length kind = record { year = yearOfTimeBefore f t; day = dayBefore (t .day) length; hundredths = dayEnd f kind - interval f }
+lastBefore f t length kind = record { year = yearOfTimeBefore f t; day = dayBefore (t .day) (turnDay f length); hundredths = dayEnd f kind - interval f }
 
 -- c - S, or at c = 0 the last frame of the day before
 unfoldable pub preceding : Format → Time → ℕ → ℕ → Time
@@ -191,7 +195,7 @@ Precedes f t u = (length : ℕ) × (kind : ℕ) × (stepBackOf f u length kind �
 
 -- the bytes as which a time and a control word are written
 unfoldable pub written : Format → Time → ℕ → List ℕ
-written f t w = encode (size f) (filler f) (runs f) (allDigits (fields f) (numbers t w))
+written f t w = encode (size f) (filler f) (runs f) (allDigits (fields f) (numbers f t w))
 
 -- how many control bits the format carries
 abbrev pub totalWidth : Field → ℕ
@@ -274,6 +278,10 @@ areDigits frame (r ∷ rs) = leb (digitIn frame r) 9 && areDigits frame rs
 unfoldable pub lastSecond : Format → ℕ → ℕ → ℕ
 lastSecond f hour minute = cond (carriesLeap f && (eqb hour 23 && eqb minute 59)) 60 59
 
+-- the day that the digits say; X has none, and its day is 1
+unfoldable pub dayIn : Format → List ℕ → ℕ
+dayIn f frame = cond (isX f) 1 (numberIn frame (days f))
+
 -- number 7: no digit over 9, hours over 23, minutes over 59, seconds over the minute's last, day 0 or over 366, or over the last of a year that the format carries
 unfoldable pub isTime : Format → List ℕ → Bool
 isTime f frame =
@@ -281,14 +289,14 @@ isTime f frame =
     && (leb (numberIn frame (hours f)) 23
     && (leb (numberIn frame (minutes f)) 59
     && (leb (numberIn frame (seconds f)) (lastSecond f (numberIn frame (hours f)) (numberIn frame (minutes f)))
-    && (leb 1 (numberIn frame (days f)) && leb (numberIn frame (days f)) (lastDayIn f (numberIn frame (years f)))))))
+    && (leb 1 (dayIn f frame) && leb (dayIn f frame) (lastDayIn f (numberIn frame (years f)))))))
 
 -- the time that the digits say
 unfoldable pub timeIn : Format → List ℕ → Time
 timeIn f frame =
     record {
       year = numberIn frame (years f);
-      day = numberIn frame (days f);
+      day = dayIn f frame;
       hundredths = ((numberIn frame (hours f) * 60 + numberIn frame (minutes f)) * 60 + numberIn frame (seconds f)) * 100 + numberIn frame (tenths f) * 10 + numberIn frame (hundredthsDigit f);
     }
 

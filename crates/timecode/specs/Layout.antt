@@ -1,18 +1,19 @@
--- Document 01, "Where each element stands", with document 02's year: the runs of elements that carry digits and bits, and the symbol at each index of a frame.
-use mathlib.Core.Bool.{Bool, cond, _&&_, _||_}
+-- Document 01, "Where each element stands", with document 02's year and XR3: the runs of elements that carry digits and bits, and the symbol at each index of a frame.
+use mathlib.Core.Bool.{Bool, false, cond, not, _&&_, _||_}
 use mathlib.Core.List.{List, [], _∷_, _++_, map}
 use Prim.Native.Nat.{ℕ, zero, suc, _+_, _*_, _-_, _/_, _%_, _^_, _<_}
 use lib.Dec.{leb, ltb, eqb}
 use lib.ListN.{getD}
-use Rattle.timecode.specs.Formats.{A, B, E, G, H, member, carriesControl, carriesSeconds, carriesYear, controlPlaces, dayLength}
+use Rattle.timecode.specs.Formats.{A, B, E, G, H, member, isX, carriesControl, carriesSeconds, carriesYear, controlPlaces, dayLength}
 use Rattle.timecode.specs.declared.Format.{Format}
 use Rattle.timecode.specs.declared.Time.{Time}
 
--- A run of elements that carries one digit: its first index, its number of elements (0 where the format does not carry it) and the digit's radix.
+-- A run of elements that carries one digit: its first index, its number of elements (0 where the format does not carry it), the digit's radix, and whether its weights fall: the highest first, not the lowest.
 pub record Run : Type 0 where
   pub start : ℕ
   pub width : ℕ
   pub radix : ℕ
+  pub falls : Bool
 
 -- A field carries one number: the runs of its digits, lowest digit first.
 abbrev pub Field : Type 0
@@ -22,7 +23,7 @@ Field = List Run
 
 -- a decimal digit in the weights 1, 2, 4, 8
 abbrev pub decimalRun : ℕ → ℕ → Run
-decimalRun start width = record { start = start; width = width; radix = 10 }
+decimalRun start width = record { start = start; width = width; radix = 10; falls = false }
 
 -- the same, where it is carried
 abbrev pub decimalIf : Bool → ℕ → ℕ → Run
@@ -34,23 +35,27 @@ decimalIn letters f start width = decimalIf (member (f .letter) letters) start w
 
 -- bits of a binary number, where they are carried
 abbrev pub binaryIf : Bool → ℕ → ℕ → Run
-binaryIf carried start width = record { start = start; width = cond carried width 0; radix = 2 ^ cond carried width 0 }
+binaryIf carried start width = record { start = start; width = cond carried width 0; radix = 2 ^ cond carried width 0; falls = false }
 
--- units 1-4, tens 6-8 (A, B, G; E has only the tens)
+-- in X the digit stands there, highest weight first; in the other letters as the run says
+abbrev pub inX : Format → ℕ → ℕ → Run → Run
+inX f start width r = record { start = cond (isX f) start (r .start); width = cond (isX f) width (r .width); radix = r .radix; falls = isX f }
+
+-- units 1-4, tens 6-8 (A, B, G; E has only the tens); in X units 17-20, tens 14-16
 unfoldable pub seconds : Format → Field
-seconds f = decimalIn (A ∷ B ∷ G ∷ []) f 1 4 ∷ decimalIn (A ∷ B ∷ E ∷ G ∷ []) f 6 3 ∷ []
+seconds f = inX f 17 4 (decimalIn (A ∷ B ∷ G ∷ []) f 1 4) ∷ inX f 14 3 (decimalIn (A ∷ B ∷ E ∷ G ∷ []) f 6 3) ∷ []
 
--- units 10-13, tens 15-17 (all but D)
+-- units 10-13, tens 15-17 (all but D); in X units 10-13, tens 7-9
 unfoldable pub minutes : Format → Field
-minutes f = decimalIn (A ∷ B ∷ E ∷ G ∷ H ∷ []) f 10 4 ∷ decimalIn (A ∷ B ∷ E ∷ G ∷ H ∷ []) f 15 3 ∷ []
+minutes f = inX f 10 4 (decimalIn (A ∷ B ∷ E ∷ G ∷ H ∷ []) f 10 4) ∷ inX f 7 3 (decimalIn (A ∷ B ∷ E ∷ G ∷ H ∷ []) f 15 3) ∷ []
 
--- units 20-23, tens 25-26
+-- units 20-23, tens 25-26; in X units 3-6, tens 1-2
 unfoldable pub hours : Format → Field
-hours f = decimalRun 20 4 ∷ decimalRun 25 2 ∷ []
+hours f = inX f 3 4 (decimalRun 20 4) ∷ inX f 1 2 (decimalRun 25 2) ∷ []
 
--- units 30-33, tens 35-38, hundreds 40-41
+-- units 30-33, tens 35-38, hundreds 40-41 (all but X)
 unfoldable pub days : Format → Field
-days f = decimalRun 30 4 ∷ decimalRun 35 4 ∷ decimalRun 40 2 ∷ []
+days f = decimalIf (not (isX f)) 30 4 ∷ decimalIf (not (isX f)) 35 4 ∷ decimalIf (not (isX f)) 40 2 ∷ []
 
 -- 45-48 (A, G)
 unfoldable pub tenths : Format → Field
@@ -104,12 +109,16 @@ minute c = (c / 100 - addedIn c) / 60 % 60
 abbrev pub hour : ℕ → ℕ
 hour c = (c / 100 - addedIn c) / 60 / 60
 
-unfoldable pub timeNumbers : Time → List ℕ
-timeNumbers t = second (t .hundredths) ∷ minute (t .hundredths) ∷ hour (t .hundredths) ∷ t .day ∷ t .hundredths / 10 % 10 ∷ t .hundredths % 10 ∷ []
+-- the day in the digits: X carries none
+unfoldable pub dayCarried : Format → Time → ℕ
+dayCarried f t = cond (isX f) 0 (t .day)
+
+unfoldable pub timeNumbers : Format → Time → List ℕ
+timeNumbers f t = second (t .hundredths) ∷ minute (t .hundredths) ∷ hour (t .hundredths) ∷ dayCarried f t ∷ t .hundredths / 10 % 10 ∷ t .hundredths % 10 ∷ []
 
 -- SBS is the whole seconds c / 100, 86,400 in the added second
-unfoldable pub numbers : Time → ℕ → List ℕ
-numbers t w = timeNumbers t ++ (t .hundredths / 100 ∷ w ∷ t .year ∷ [])
+unfoldable pub numbers : Format → Time → ℕ → List ℕ
+numbers f t w = timeNumbers f t ++ (t .hundredths / 100 ∷ w ∷ t .year ∷ [])
 
 -- the digits of a number in a field, lowest first
 abbrev pub fieldDigits : Field → ℕ → List ℕ
@@ -134,20 +143,24 @@ Small (r ∷ rs) (x ∷ xs) = (x < 2 ^ r .width) × Small rs xs
 abbrev pub inRun : Run → ℕ → Bool
 inRun r i = leb (r .start) i && ltb i (r .start + r .width)
 
--- which bit of its digit stands at index i of a run, and where bit b stands: lowest weight first
+-- which bit of its digit stands at index i of a run, and where bit b stands: lowest weight first, or where the weights fall the highest
 abbrev pub bitOf : Run → ℕ → ℕ
-bitOf r i = i - r .start
+bitOf r i = cond (r .falls) (r .start + r .width - 1 - i) (i - r .start)
 
 abbrev pub placeOf : Run → ℕ → ℕ
-placeOf r b = r .start + b
+placeOf r b = cond (r .falls) (r .start + (r .width - 1 - b)) (r .start + b)
 
--- Marks stand at 0 (Pr) and at 9, 19, .. up to n - 1 (P0), nowhere else.
+-- Marks stand at 0 (Pr) and at 9, 19, .. up to n - 1 (P0), nowhere else; X has its own, at 0 alone.
 unfoldable pub isMark : ℕ → Bool
 isMark i = eqb i 0 || eqb (i % 10) 9
 
--- what stands where no digit or bit does: a mark, or an index marker, symbol 0
+-- what stands where no digit or bit does: a mark, or an index marker, symbol 0; in X a mark at 0, and symbol 3 at 21-24
 unfoldable pub filler : Format → ℕ → ℕ
-filler f i = cond (isMark i) 2 0
+filler f i = cond (isX f) (cond (eqb i 0) 2 3) (cond (isMark i) 2 0)
+
+-- the last element of every frame: a mark, in X a 3
+unfoldable pub ending : Format → ℕ
+ending f = cond (isX f) 3 2
 
 -- the symbol at index i: the bit of the digit whose run covers i, else the filler
 unfoldable pub symbolAt : (ℕ → ℕ) → List Run → List ℕ → ℕ → ℕ

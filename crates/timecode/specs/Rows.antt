@@ -7,20 +7,21 @@ use lib.Dec.{eqb}
 use lib.IntN.{ℤ, pos, negsuc}
 use lib.ListN.{length, drop, set, replicate}
 use Rattle.timecode.specs.Answers.{Result, refusalResult, writtenResult, readingResult, steppedResult, subtractedResult, classifiedResult, scannedResult, answerResult}
-use Rattle.timecode.specs.Calls.{symbolOf, isInterval, classifyOf, symbolsOf, classifyListOf, classifyListLeaves, differenceOf, partAt, lowestOf, scanOf}
+use Rattle.timecode.specs.Calls.{leadAt, firstPlace, symbolOf, isInterval, classifyOf, symbolsOf, classifyListOf, classifyListLeaves, differenceOf, partAt, lowestOf, scanOf}
 use Rattle.timecode.specs.Editions.{isEarlier, checkForward, forwardOf, forwardLeaves, backwardOf, backwardLeaves}
-use Rattle.timecode.specs.Formats.{A, B, D, E, G, H, table, lookUp, rowOf, known, size, interval, carriesControl, carriesSeconds, carriesYear, controlPlaces, daysIn, yearCarried, lastDayIn, inRange, onFormat, carriesLeap, secondCarried}
-use Rattle.timecode.specs.Frames.{newYear, lengthIn, inYear, dayAfter, yearAfter, yearOfDayAfter, usual, secondAdded, secondTaken, dayLengthOf, dayEnd, onDay, following, stepOf, nextAfter, written, controlFits, writeOf, writeLeaves, marksAgree, elementFits, checkElements, lastSecond, isTime, timeIn, secondsAgree, readOf}
-use Rattle.timecode.specs.Layout.{seconds, minutes, hours, days, tenths, hundredthsDigit, hasSeconds, straightSeconds, control, years, timeFields, fields, runs, timeNumbers, numbers, isMark, filler, symbolAt, encode, value}
-use Rattle.timecode.specs.Stream.{twoFrames, windowLength, frameIn, nextInRow, inRow, windowAnswer, lastOf, plainAnswer}
+use Rattle.timecode.specs.Formats.{A, B, D, E, G, H, X, isX, table, lookUp, rowOf, known, size, interval, carriesControl, carriesSeconds, carriesYear, controlPlaces, daysIn, yearCarried, lastDayIn, inRange, onFormat, carriesLeap, secondCarried}
+use Rattle.timecode.specs.Frames.{newYear, lengthIn, inYear, dayAfter, turnDay, yearAfter, yearOfDayAfter, usual, secondAdded, secondTaken, dayLengthOf, dayEnd, onDay, following, stepOf, dayBefore, yearOfTimeBefore, preceding, stepBackOf, nextAfter, written, controlFits, writeOf, writeLeaves, marksAgree, elementFits, checkElements, lastSecond, dayIn, isTime, timeIn, secondsAgree, readOf}
+use Rattle.timecode.specs.Layout.{dayCarried, seconds, minutes, hours, days, tenths, hundredthsDigit, hasSeconds, straightSeconds, control, years, timeFields, fields, runs, timeNumbers, numbers, isMark, filler, symbolAt, encode, value}
+use Rattle.timecode.specs.Stream.{twoFrames, lead, opens, windowLength, frameIn, nextInRow, inRow, windowAnswer, lastOf, plainAnswer}
 use Rattle.timecode.specs.declared.Format.{Format}
 use Rattle.timecode.specs.declared.Time.{Time}
 use Rattle.timecode.specs.declared.Written.{Written}
 use Rattle.timecode.specs.declared.Written.the-variants.{Done}
 
--- a call: Step; Write into a frame of n zeros (or of k), by its answer, by the bytes that it leaves, or by the indices from k on where it leaves a one; the formats that Write takes; Read; the answer to the last of a list of symbols; Difference; the classifier; the classifier over lists into k zeros, by its answer, or by what it leaves; Scan; the converters into k zeros, by the bytes that they leave
+-- a call: Step; the step back; Write into a frame of n zeros (or of k), by its answer, by the bytes that it leaves, or by the indices from k on where it leaves a one; the formats that Write takes; Read; the answer to the last of a list of symbols; Difference; the classifier; the classifier over lists into k zeros, by its answer, or by what it leaves; Scan; the converters into k zeros, by the bytes that they leave
 pub data Call : Type 0 where
   step : Format → Time → ℕ → ℕ → Call
+  back : Format → Time → ℕ → ℕ → Call
   write : Format → Time → ℕ → Call
   writeInto : ℕ → Format → Time → ℕ → Call
   frame : Format → Time → ℕ → Call
@@ -66,6 +67,7 @@ leftResult (Written.Refused r) bytes = refusalResult r
 
 abbrev pub resultOf : Call → Result
 resultOf (step f t year kind) = steppedResult (stepOf f t year kind)
+resultOf (back f t year kind) = steppedResult (stepBackOf f t year kind)
 resultOf (write f t w) = writtenResult (writeOf f t w (lent f))
 resultOf (writeInto k f t w) = writtenResult (writeOf f t w (replicate k 0))
 resultOf (frame f t w) = record { number = 0; values = map pos (writeLeaves f t w (lent f)) }
@@ -134,7 +136,7 @@ lines =
     ∷ (classify 1000 149 1000 gives indices (3 ∷ []))
     ∷ (classify 1000 251 1000 gives indices (3 ∷ []))
     -- which letters, in ASCII, take which expressions
-    ∷ (formats gives indices (65 ∷ 0 ∷ 65 ∷ 1 ∷ 65 ∷ 2 ∷ 65 ∷ 3 ∷ 65 ∷ 4 ∷ 65 ∷ 5 ∷ 65 ∷ 6 ∷ 65 ∷ 7 ∷ 66 ∷ 0 ∷ 66 ∷ 1 ∷ 66 ∷ 2 ∷ 66 ∷ 3 ∷ 66 ∷ 4 ∷ 66 ∷ 5 ∷ 66 ∷ 6 ∷ 66 ∷ 7 ∷ 68 ∷ 1 ∷ 68 ∷ 2 ∷ 69 ∷ 1 ∷ 69 ∷ 2 ∷ 71 ∷ 1 ∷ 71 ∷ 2 ∷ 72 ∷ 1 ∷ 72 ∷ 2 ∷ []))
+    ∷ (formats gives indices (65 ∷ 0 ∷ 65 ∷ 1 ∷ 65 ∷ 2 ∷ 65 ∷ 3 ∷ 65 ∷ 4 ∷ 65 ∷ 5 ∷ 65 ∷ 6 ∷ 65 ∷ 7 ∷ 66 ∷ 0 ∷ 66 ∷ 1 ∷ 66 ∷ 2 ∷ 66 ∷ 3 ∷ 66 ∷ 4 ∷ 66 ∷ 5 ∷ 66 ∷ 6 ∷ 66 ∷ 7 ∷ 68 ∷ 1 ∷ 68 ∷ 2 ∷ 69 ∷ 1 ∷ 69 ∷ 2 ∷ 71 ∷ 1 ∷ 71 ∷ 2 ∷ 72 ∷ 1 ∷ 72 ∷ 2 ∷ 88 ∷ 2 ∷ []))
     -- expression 3 carries no control bits, expression 1 no SBS
     ∷ (write (format A 3) (time 1 0) 1 refused 9)
     ∷ (ones 80 (format B 1) (time 191 5091200) 0 gives [])
@@ -229,6 +231,44 @@ lines =
     ∷ (read (format B 4) (written (format B 4) (dated 97 366 0) 0) refused 7)
     ∷ (read (format B 4) (set (set (written (format B 4) (dated 0 1 0) 0) 56 1) 58 1) refused 7)
     ∷ (read (format B 4) (set (written (format B 4) (dated 0 1 0) 0) 54 1) refused 6 at 54)
+    -- X: with 17:27:48, 08:58:35 and 22:00:03 every place of a digit has a one
+    ∷ (frame (format X 2) (time 1 6286800) 0 gives indices (2 ∷ 0 ∷ 1 ∷ 0 ∷ 1 ∷ 1 ∷ 1 ∷ 0 ∷ 1 ∷ 0 ∷ 0 ∷ 1 ∷ 1 ∷ 1 ∷ 1 ∷ 0 ∷ 0 ∷ 1 ∷ 0 ∷ 0 ∷ 0 ∷ 3 ∷ 3 ∷ 3 ∷ 3 ∷ []))
+    ∷ (frame (format X 2) (time 1 3231500) 0 gives indices (2 ∷ 0 ∷ 0 ∷ 1 ∷ 0 ∷ 0 ∷ 0 ∷ 1 ∷ 0 ∷ 1 ∷ 1 ∷ 0 ∷ 0 ∷ 0 ∷ 0 ∷ 1 ∷ 1 ∷ 0 ∷ 1 ∷ 0 ∷ 1 ∷ 3 ∷ 3 ∷ 3 ∷ 3 ∷ []))
+    ∷ (ones 0 (format X 2) (time 1 7920300) 0 gives indices (1 ∷ 5 ∷ 19 ∷ 20 ∷ []))
+    -- after 23:59:59 comes 00:00:00 of day 1, whatever the length and the kind
+    ∷ (step (format X 2) (time 1 8639900) 365 usual gives indices (0 ∷ 1 ∷ 0 ∷ []))
+    ∷ (step (format X 2) (time 1 8639900) 366 secondAdded gives indices (0 ∷ 1 ∷ 0 ∷ []))
+    ∷ (step (format X 2) (time 1 8639800) 366 secondTaken gives indices (0 ∷ 1 ∷ 8639900 ∷ []))
+    ∷ (back (format X 2) (time 1 0) 365 secondTaken gives indices (0 ∷ 1 ∷ 8639900 ∷ []))
+    -- X is refused by the same numbers in the same order: 1, 17, 2, 14, then 9 and 3, or 11 and 15
+    ∷ (write (format X 1) (dated 1 2 50) 1 refused 1)
+    ∷ (write (format X 2) (dated 1 2 50) 1 refused 17)
+    ∷ (write (format X 2) (time 2 8640000) 1 refused 2)
+    ∷ (write (format X 2) (time 1 8640050) 1 refused 2)
+    ∷ (write (format X 2) (time 1 8640000) 1 refused 14)
+    ∷ (writeInto 24 (format X 2) (time 1 0) 1 refused 9)
+    ∷ (writeInto 24 (format X 2) (time 1 0) 0 refused 3)
+    ∷ (step (format X 2) (dated 1 2 0) 364 3 refused 17)
+    ∷ (step (format X 2) (time 2 0) 364 3 refused 2)
+    ∷ (step (format X 2) (time 1 8640000) 364 3 refused 14)
+    ∷ (step (format X 2) (time 1 0) 364 3 refused 11)
+    ∷ (step (format X 2) (time 1 0) 365 3 refused 15)
+    -- Read of X: a mark missing at 0 or standing at 21-24 is 5, another symbol there or a spoiled digit 6, 23:59:60 is 7
+    ∷ (read (format X 2) (written (format X 2) (time 1 8639900) 0) gives indices (0 ∷ 1 ∷ 8639900 ∷ 0 ∷ []))
+    ∷ (read (format X 2) (set (written (format X 2) (time 1 0) 0) 0 3) refused 5 at 0)
+    ∷ (read (format X 2) (set (written (format X 2) (time 1 0) 0) 24 2) refused 5 at 24)
+    ∷ (read (format X 2) (set (written (format X 2) (time 1 0) 0) 21 0) refused 6 at 21)
+    ∷ (read (format X 2) (set (written (format X 2) (time 1 0) 0) 24 1) refused 6 at 24)
+    ∷ (read (format X 2) (set (written (format X 2) (time 1 0) 0) 20 3) refused 6 at 20)
+    ∷ (read (format X 2) (2 ∷ 1 ∷ 0 ∷ 0 ∷ 0 ∷ 1 ∷ 1 ∷ 1 ∷ 0 ∷ 1 ∷ 1 ∷ 0 ∷ 0 ∷ 1 ∷ 1 ∷ 1 ∷ 0 ∷ 0 ∷ 0 ∷ 0 ∷ 0 ∷ 3 ∷ 3 ∷ 3 ∷ 3 ∷ []) refused 7)
+    ∷ (read (format X 2) (set (set (written (format X 2) (time 1 0) 0) 3 1) 5 1) refused 7)
+    -- X needs no mark before its frames: the second of two is reported, and Scan finds one at 0
+    ∷ (feed (format X 2) (written (format X 2) (time 1 8639900) 0 ++ written (format X 2) (time 1 0) 0) gives indices (0 ∷ 1 ∷ 0 ∷ 0 ∷ []))
+    ∷ (scan (format X 2) (written (format X 2) (time 1 100) 0) 0 gives indices (0 ∷ 0 ∷ 1 ∷ 100 ∷ 0 ∷ []))
+    ∷ (scan (format X 2) (0 ∷ (written (format X 2) (time 1 100) 0)) 1 gives indices (1 ∷ 0 ∷ 1 ∷ 100 ∷ 0 ∷ []))
+    -- X has no converter
+    ∷ (forward 25 (format X 2) (written (format X 2) (time 1 0) 0) 0 refused 1)
+    ∷ (backward 25 (format X 2) (written (format X 2) (time 1 0) 0) refused 1)
     -- Difference passes over the years
     ∷ (difference (dated 99 2 0) (dated 200 1 8639999) gives (pos 1 ∷ []))
     -- the converters, with 1,003 in the 18 later control bits
@@ -251,5 +291,5 @@ lines =
     ∷ []
 
 pub all-lines : map (λ l. resultOf (l .call)) lines ≡ map (λ l. l .result) lines
-unfolding lines isEarlier checkForward forwardOf forwardLeaves backwardOf backwardLeaves readOf checkElements marksAgree elementFits lastSecond isTime timeIn secondsAgree value scanOf lowestOf partAt stepOf nextAfter known rowOf lookUp table size interval carriesControl carriesSeconds carriesYear controlPlaces daysIn yearCarried lastDayIn inRange onFormat carriesLeap secondCarried lengthIn inYear dayAfter yearAfter yearOfDayAfter dayLengthOf dayEnd onDay following writeOf writeLeaves written controlFits encode symbolAt filler isMark runs fields timeFields numbers timeNumbers seconds minutes hours days tenths hundredthsDigit straightSeconds hasSeconds control years differenceOf classifyOf isInterval symbolOf symbolsOf classifyListOf classifyListLeaves windowLength frameIn nextInRow inRow windowAnswer lastOf plainAnswer
+unfolding lines isEarlier checkForward forwardOf forwardLeaves backwardOf backwardLeaves readOf checkElements marksAgree elementFits lastSecond isTime dayIn timeIn secondsAgree value scanOf firstPlace lowestOf leadAt partAt stepOf stepBackOf preceding dayBefore yearOfTimeBefore nextAfter known isX rowOf lookUp table size interval carriesControl carriesSeconds carriesYear controlPlaces daysIn yearCarried lastDayIn inRange onFormat carriesLeap secondCarried lengthIn inYear dayAfter turnDay yearAfter yearOfDayAfter dayLengthOf dayEnd onDay following writeOf writeLeaves written controlFits encode symbolAt filler isMark runs fields timeFields numbers timeNumbers dayCarried seconds minutes hours days tenths hundredthsDigit straightSeconds hasSeconds control years differenceOf classifyOf isInterval symbolOf symbolsOf classifyListOf classifyListLeaves lead opens windowLength frameIn nextInRow inRow windowAnswer lastOf plainAnswer
 all-lines = refl

@@ -5,7 +5,7 @@ use mathlib.Core.List.{List, [], _∷_, _++_}
 use Prim.Native.Nat.{ℕ, zero, suc, _+_, _*_, _-_, _<_, _≤_}
 use lib.Dec.{leb, ltb, eqb}
 use lib.ListN.{getD, length, take, drop, replicate}
-use Rattle.timecode.specs.Formats.{member, isSymbol, size}
+use Rattle.timecode.specs.Formats.{member, isSymbol, isX, size}
 use Rattle.timecode.specs.Frames.{nextAfter, readOf}
 use Rattle.timecode.specs.declared.Answer.{Answer}
 use Rattle.timecode.specs.declared.Answer.the-variants.{Quiet, Report}
@@ -25,14 +25,14 @@ isSetting k = leb 2 k && leb k 5
 abbrev pub twoFrames : ℕ
 twoFrames = 2
 
--- the marks before a window's first frame: how many, and that they stand there
-abbrev pub lead : Format → ℕ
-lead f = 1
+-- the marks before a window's first frame: how many, and that they stand there; X needs none
+unfoldable pub lead : Format → ℕ
+lead f = cond (isX f) 0 1
 
-abbrev pub opens : Format → List ℕ → Bool
-opens f window = eqb (getD window 0 0) 2
+unfoldable pub opens : Format → List ℕ → Bool
+opens f window = cond (isX f) true (eqb (getD window 0 0) 2)
 
--- the window: kn + 1 symbols
+-- the window: kn + 1 symbols, in X kn
 unfoldable pub windowLength : Format → ℕ → ℕ
 windowLength f k = k * size f + lead f
 
@@ -58,7 +58,7 @@ inRow f window zero = Quiet
 inRow f window (suc zero) = firstInRow (readOf f (frameIn f window 0))
 inRow f window (suc (suc m)) = nextInRow f (inRow f window (suc m)) (readOf f (frameIn f window (suc m)))
 
--- a symbol 2 and k such frames
+-- a symbol 2, but in X, and k such frames
 unfoldable pub windowAnswer : Format → ℕ → List ℕ → Answer
 windowAnswer f k window = cond (opens f window) (inRow f window k) Quiet
 
@@ -125,7 +125,7 @@ abbrev pub joined : (ℕ → List ℕ) → ℕ → List ℕ
 joined frames zero = []
 joined frames (suc k) = joined frames k ++ frames k
 
--- The list ends in a mark and k accepted frames, each time next after the one before. The last one's time and control word are t and w.
+-- The list ends in a mark, but in X, and k accepted frames, each time next after the one before. The last one's time and control word are t and w.
 pub record EndsInFrames (f : Format) (k : ℕ) (received : List ℕ) (t : Time) (w : ℕ) : Type 0 where
   pub before : List ℕ
   pub frames : ℕ → List ℕ

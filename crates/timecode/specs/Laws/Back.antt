@@ -8,9 +8,9 @@ use native.Mathlib.Omega.{arith}
 use borrow.Author.Tests.{eqb-true, eqb-false, le-leb, eq-eqb, ne-eqb}
 use lib.Dec.{eqb}
 use Rattle.timecode.specs.Formats.{interval, carriesYear, lastYear, daysIn, yearCarried, OnFormat}
-use Rattle.timecode.specs.Frames.{lengthIn, inYear, dayAfter, yearAfter, yearOfDayAfter, dayEnd, sameDay, nextDay, following, checkStep, stepBy, stepOf, Follows, dayBefore, yearBefore, yearOfTimeBefore, sameDayBefore, lastBefore, preceding, stepBackBy, stepBackOf, Precedes}
-use Rattle.timecode.specs.Laws.Stepping.{Went, went-to, step-answers, answers-alike, lengthFor, OfYear, of-year, days-length, went, year-range, one-interval, end-on-grid, usual-end, day-end-range, day-after-inside, Lands, lands, within-last, step-on-format}
-use Rattle.timecode.specs.Laws.Table.{interval-range}
+use Rattle.timecode.specs.Frames.{lengthIn, inYear, dayAfter, turnDay, yearAfter, yearOfDayAfter, dayEnd, sameDay, nextDay, following, checkStep, stepBy, stepOf, Follows, dayBefore, yearBefore, yearOfTimeBefore, sameDayBefore, lastBefore, preceding, stepBackBy, stepBackOf, Precedes}
+use Rattle.timecode.specs.Laws.Stepping.{Went, went-to, step-answers, answers-alike, lengthFor, OfYear, of-year, days-length, went, year-range, one-interval, end-on-grid, usual-end, day-end-range, day-after-inside, turn-length, turn-range, in-turn, Lands, lands, within-last, step-on-format}
+use Rattle.timecode.specs.Laws.Table.{interval-range, year-not-x}
 use Rattle.timecode.specs.Laws.Tests.{by-test, clash, and-left, and-right}
 use Rattle.timecode.specs.Laws.Times.{time-path, days-range, year-small, year-carried, year-below}
 use Rattle.timecode.specs.declared.Format.{Format}
@@ -71,9 +71,10 @@ unfolding yearOfTimeBefore yearOfDayAfter dayAfter
 before-next-year f t length a =
     by-test (carriesYear f)
     (λ y.
+    let turn = turn-length f length (year-not-x f y) in
     by-test (eqb (t .day) length)
-    (λ e. rw (y, e) (before-after-year (t .year)))
-    (λ n. rw (y, n, ne-eqb (t .day + 1) 1 (λ e. omega arith))))
+    (λ e. rw (y, turn, e) (before-after-year (t .year)))
+    (λ n. rw (y, turn, n, ne-eqb (t .day + 1) 1 (λ e. omega arith))))
     (λ m. rw m)
 
 next-before-year : (f : Format) (u : Time) (length kind : ℕ) → yearCarried f (u .year) ≡ true → 1 ≤ u .day → u .day ≤ length → u .hundredths ≡ 0 → yearOfDayAfter f (lastBefore f u length kind) length ≡ u .year
@@ -81,9 +82,10 @@ unfolding yearOfTimeBefore yearOfDayAfter dayBefore
 next-before-year f u length kind h a b z =
     by-test (carriesYear f)
     (λ y.
+    let turn = turn-length f length (year-not-x f y) in
     by-test (eqb (u .day) 1)
-    (λ e. rw (y, e, eq-eqb (u .hundredths) 0 z, eq-eqb length length refl) (after-before-year (u .year) (year-below f (u .year) h)))
-    (λ n. let d = eqb-false (u .day) 1 n in rw (y, n, ne-eqb (u .day - 1) length (λ e. omega arith))))
+    (λ e. rw (y, turn, e, eq-eqb (u .hundredths) 0 z, eq-eqb length length refl) (after-before-year (u .year) (year-below f (u .year) h)))
+    (λ n. let d = eqb-false (u .day) 1 n in rw (y, turn, n, ne-eqb (u .day - 1) length (λ e. omega arith))))
     (λ m. rw m)
 
 before-year-carried : (f : Format) (u : Time) → yearCarried f (u .year) ≡ true → yearCarried f (yearOfTimeBefore f u) ≡ true
@@ -114,10 +116,11 @@ undone f t length kind u w (inl p) =
     subst (Undone f t length kind) (p .0)
     (w .inside, p .1, rw none (time-path (sameDayBefore f (sameDay f t)) t refl refl (less-added (t .hundredths) (interval f))))
 undone f t length kind u w (inr p) =
+    let turn = in-turn f t length (w .from) (w .inside) in
     subst (Undone f t length kind) (p .0) (
-      day-after-inside (t .day) length (w .from .first) (w .inside) .1,
+      omega (arith, day-after-inside (t .day) (turnDay f length) (w .from .first) turn .1, turn-range f length (year-range length (w .length-is) .0)),
       omega (arith, p .1, interval-range f),
-      time-path (lastBefore f (nextDay f t length) length kind) t (before-next-year f t length (w .from .first)) (before-after (t .day) length (w .from .first) (w .inside)) (less-end (t .hundredths) (interval f) (dayEnd f kind) (p .1)),
+      time-path (lastBefore f (nextDay f t length) length kind) t (before-next-year f t length (w .from .first)) (before-after (t .day) (turnDay f length) (w .from .first) turn) (less-end (t .hundredths) (interval f) (dayEnd f kind) (p .1)),
     )
 
 pub step-back : (f : Format) (t : Time) (given kind : ℕ) (u : Time) → stepOf f t given kind ≡ To u → stepBackOf f u given kind ≡ To t
@@ -212,21 +215,23 @@ redone f u length kind t l w (inr p) =
     let s = interval-range f in
     let r = year-range length (w .length-is) in
     let i = interval-inside f u length kind (preceding f u length kind) t w in
-    let d = day-before-inside (u .day) length (w .from .first) (w .inside) in
+    let turn = in-turn f u length (w .from) (w .inside) in
+    let d = day-before-inside (u .day) (turnDay f length) (w .from .first) turn in
+    let within = turn-range f length (r .0) in
     let sum : dayEnd f kind - interval f + interval f ≡ dayEnd f kind = omega (arith, i) in
     subst (Redone f u length kind) (p .0) (
       record {
         year-is = before-year-carried f u (w .from .year-is);
         first = d .0;
-        in-year = within-last f (yearOfTimeBefore f u) length (dayBefore (u .day) length) l (d .1) (r .1);
+        in-year = within-last f (yearOfTimeBefore f u) length (dayBefore (u .day) (turnDay f length)) l (d .1) (r .1);
         last = omega (arith, d .1, r .1);
         below = omega (arith, day-end-range f kind);
         grid = less-grid (dayEnd f kind) (interval f) i (end-on-grid f (w .format) kind (w .kind-is));
         carried = λ m. omega (arith, usual-end f kind m);
       },
-      d .1,
+      omega (arith, d .1),
       omega (arith, i),
-      rw (sum, eq-eqb (dayEnd f kind) (dayEnd f kind) refl) (time-path (nextDay f (lastBefore f u length kind) length) u (next-before-year f u length kind (w .from .year-is) (w .from .first) (w .inside) (p .1)) (after-before (u .day) length (w .from .first) (w .inside)) (sym (p .1))),
+      rw (sum, eq-eqb (dayEnd f kind) (dayEnd f kind) refl) (time-path (nextDay f (lastBefore f u length kind) length) u (next-before-year f u length kind (w .from .year-is) (w .from .first) (w .inside) (p .1)) (after-before (u .day) (turnDay f length) (w .from .first) turn) (sym (p .1))),
     )
 
 pub back-step : (f : Format) (u : Time) (given kind : ℕ) (t : Time) → stepBackOf f u given kind ≡ To t → stepOf f t given kind ≡ To u

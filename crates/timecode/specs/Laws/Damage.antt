@@ -1,6 +1,6 @@
--- A window of a mark and m + 1 frames that is a generator's but at some places: while at most m are damaged it confirms no false time, and undamaged it confirms the last frame's.
+-- A window of its lead and m + 1 frames that is a generator's but at some places: while at most m are damaged it confirms no false time, and undamaged it confirms the last frame's.
 use mathlib.Core.Path.{_≡_, refl, sym, ap, _∙_}
-use mathlib.Core.Bool.{false}
+use mathlib.Core.Bool.{true, false}
 use mathlib.Core.List.{List, map}
 use mathlib.Core.Logic.{_⊎_, inl, inr}
 use Prim.Native.Nat.{ℕ, zero, suc, _+_, _*_, _-_, _/_, _%_, _<_, _≤_}
@@ -9,14 +9,15 @@ use native.Mathlib.Omega.{arith}
 use borrow.Author.Tests.{eq-eqb}
 use lib.ListN.{length, getD, length-map}
 use lib.Seq.{ext-getD}
-use Rattle.timecode.specs.Formats.{member, size}
+use Rattle.timecode.specs.Formats.{isX, member, size}
 use Rattle.timecode.specs.Frames.{Follows, written, readOf, Sent, Generator, elements, sentAt, EndsFrame, Apart}
-use Rattle.timecode.specs.Laws.Generators.{frameOf, length-elements, element-at, sent-valid, frame-reads, marks, pair}
-use Rattle.timecode.specs.Laws.Marks.{size-positive, size-large, last-mark}
+use Rattle.timecode.specs.Laws.Generators.{frameOf, length-elements, element-at, sent-valid, frame-reads, marks, x-marks, pair}
+use Rattle.timecode.specs.Laws.Marks.{size-positive, size-large, ends-marked, last-element}
 use Rattle.timecode.specs.Laws.Places.{member-map, missed}
 use Rattle.timecode.specs.Laws.Reading.{accepted-was-written}
 use Rattle.timecode.specs.Laws.Successors.{two-that-follow-are-apart}
-use Rattle.timecode.specs.Laws.Windows.{long, Confirmed, length-frame-in, at-frame, first-of, before-of}
+use Rattle.timecode.specs.Laws.Tests.{by-test}
+use Rattle.timecode.specs.Laws.Windows.{lead-one, lead-none, opens-so, long, Confirmed, length-frame-in, at-frame, first-of, before-of}
 use Rattle.timecode.specs.Laws.Writing.{length-written}
 use Rattle.timecode.specs.Stream.{lead, frameIn}
 use Rattle.timecode.specs.declared.Format.{Format}
@@ -30,22 +31,51 @@ pub record Near (f : Format) (m : ℕ) (sent : List Sent) (start : ℕ) (places 
   pub same : (k : ℕ) → k < long f m → member k places ≡ false → getD window k 0 ≡ getD (elements f sent) (start + k) 0
 
 module _ (f : Format) (m : ℕ) (sent : List Sent) (gen : Generator f sent) (start : ℕ) (places window : List ℕ) (near : Near f m sent start places window) where
-  -- one of m + 1 pairs of marks is untouched, so the window begins with the lead of a frame
-  aligned : length places ≤ m → (t : Time) (w : ℕ) → Confirmed f m window t w → (start + lead f) % size f ≡ 0
-  aligned few t w c =
-      let x = missed (suc m) (map (λ p. p / size f) places) (omega (arith, length-map places (λ p. p / size f))) in
-      let j = x .0 in
-      let b : j ≤ m = omega (arith, x .1) in
-      let q0 : size f * j / size f ≡ j = div-eq-of-lt-le (size f) (omega arith) (omega (arith, size-positive f)) in
-      let q1 : (lead f + size f * j) / size f ≡ j = div-eq-of-lt-le (size f) (omega arith) (omega (arith, size-large f)) in
-      let h0 : member (size f * j) places ≡ false = member-map (λ p. p / size f) (size f * j) places (rw q0 (x .2)) in
-      let h1 : member (lead f + size f * j) places ≡ false = member-map (λ p. p / size f) (lead f + size f * j) places (rw q1 (x .2)) in
-      let y = mul-le-mul-left (size f) b in
-      let m0 = marks f sent gen (start + size f * j) (sym (near .same (size f * j) (omega (arith, size-positive f)) h0) ∙ before-of f m window t w c j b) in
-      let m1 = marks f sent gen (start + (lead f + size f * j)) (sym (near .same (lead f + size f * j) (omega (arith, size-positive f)) h1) ∙ first-of f m window t w c j b) in
-      let u : start + (lead f + size f * j) ≡ start + size f * j + 1 = omega arith in
-      let v : start + size f * j + 1 ≡ start + lead f + size f * j = omega arith in
-      sym (add-mul-mod-self-left (start + lead f) (size f) j) ∙ ap (λ (k : ℕ). k % size f) (sym v) ∙ pair f (start + size f * j) m0 (rw u at m1)
+  -- one of m + 1 stretches of n places is untouched
+  module _ (few : length places ≤ m) (t : Time) (w : ℕ) (c : Confirmed f m window t w) where
+    spared : (j : ℕ) × (j ≤ m) × ((i : ℕ) → i < size f → member (size f * j + i) places ≡ false)
+    spared =
+        let x = missed (suc m) (map (λ p. p / size f) places) (omega (arith, length-map places (λ p. p / size f))) in
+        let j = x .0 in (
+          j,
+          omega (arith, x .1),
+          λ i h.
+              let q : (size f * j + i) / size f ≡ j = div-eq-of-lt-le (size f) (omega arith) (omega arith) in
+              member-map (λ p. p / size f) (size f * j + i) places (rw q (x .2)),
+        )
+
+    -- so the window begins with the lead of a frame,
+    aligned-pair : isX f ≡ false → (start + lead f) % size f ≡ 0
+    aligned-pair n =
+        let x = spared in
+        let j = x .0 in
+        let one = lead-one f n in
+        let u0 : size f * j + 0 ≡ size f * j = omega arith in
+        let u1 : size f * j + 1 ≡ lead f + size f * j = omega arith in
+        let h0 : member (size f * j) places ≡ false = rw u0 at (x .2 0 (size-positive f)) in
+        let h1 : member (lead f + size f * j) places ≡ false = rw u1 at (x .2 1 (size-large f)) in
+        let y = mul-le-mul-left (size f) (x .1) in
+        let m0 = marks f sent gen (start + size f * j) (sym (near .same (size f * j) (omega (arith, size-positive f)) h0) ∙ before-of f m window t w c n j (x .1)) n in
+        let m1 = marks f sent gen (start + (lead f + size f * j)) (sym (near .same (lead f + size f * j) (omega (arith, size-positive f)) h1) ∙ first-of f m window t w c j (x .1)) n in
+        let u : start + (lead f + size f * j) ≡ start + size f * j + 1 = omega arith in
+        let v : start + size f * j + 1 ≡ start + lead f + size f * j = omega arith in
+        sym (add-mul-mod-self-left (start + lead f) (size f) j) ∙ ap (λ (k : ℕ). k % size f) (sym v) ∙ pair f n (start + size f * j) m0 (rw u at m1)
+
+    -- and in X, where a frame's first mark is untouched, with a frame
+    aligned-x : isX f ≡ true → (start + lead f) % size f ≡ 0
+    aligned-x n =
+        let x = spared in
+        let j = x .0 in
+        let none = lead-none f n in
+        let u : size f * j + 0 ≡ lead f + size f * j = omega arith in
+        let h : member (lead f + size f * j) places ≡ false = rw u at (x .2 0 (size-positive f)) in
+        let y = mul-le-mul-left (size f) (x .1) in
+        let m1 = x-marks f sent gen (start + (lead f + size f * j)) (sym (near .same (lead f + size f * j) (omega (arith, size-positive f)) h) ∙ first-of f m window t w c j (x .1)) n in
+        let v : start + (lead f + size f * j) ≡ start + lead f + size f * j = omega arith in
+        sym (add-mul-mod-self-left (start + lead f) (size f) j) ∙ ap (λ (k : ℕ). k % size f) (sym v) ∙ m1
+
+    aligned : (start + lead f) % size f ≡ 0
+    aligned = by-test (isX f) aligned-x aligned-pair
 
   module _ (q : ℕ) (a : start + lead f ≡ size f * q) where
     pub frames-inside : q + m < length sent
@@ -124,19 +154,21 @@ module _ (f : Format) (m : ℕ) (sent : List Sent) (gen : Generator f sent) (sta
       record {
         times = λ j. sentAt sent (q + j) .time;
         controls = λ j. sentAt sent (q + j) .control;
-        begins = eq-eqb (getD window 0 0) 2 (mark-before q a);
+        begins = opens-so f window (mark-before q a);
         reads = λ j b. untouched-reads q a j b (λ i h. clear (lead f + size f * j + i) (omega (arith, mul-le-mul-left (size f) b)));
         follows = λ j b. let u : suc (q + j) ≡ q + suc j = omega arith in rw u at (gen .steps (q + j) (omega (arith, frames-inside q a)));
         last-time = refl;
         last-control = refl;
       }
     where
-      mark-before : (q : ℕ) → start + lead f ≡ size f * q → getD window 0 0 ≡ 2
-      mark-before zero a = let n : ⊥ = omega arith in absurd n
-      mark-before (suc q) a =
+      mark-before : (q : ℕ) → start + lead f ≡ size f * q → isX f ≡ false → getD window 0 0 ≡ 2
+      mark-before zero a n = let z : ⊥ = omega (arith, lead-one f n) in absurd z
+      mark-before (suc q) a n =
+          let one = lead-one f n in
           let u : start + 0 ≡ size f * q + (size f - 1) = omega (arith, size-positive f) in
           let b : suc q < length sent = lt-of-mul-lt-mul-left (size f) (omega (arith, near .inside, length-elements f sent, size-positive f)) in
           near .same 0 (omega arith) (clear 0 (omega arith))
           ∙ ap (λ (x : ℕ). getD (elements f sent) x 0) u
           ∙ element-at f sent q (size f - 1) (omega arith) (omega (arith, size-positive f))
-          ∙ last-mark f (sentAt sent q .time) (sentAt sent q .control) (sent-valid f sent gen q (omega arith))
+          ∙ last-element f (sentAt sent q .time) (sentAt sent q .control) (sent-valid f sent gen q (omega arith))
+          ∙ ends-marked f n

@@ -8,15 +8,16 @@ use borrow.Author.Tests.{leb-true, eqb-true, le-leb, eq-eqb, not-true}
 use lib.Dec.{leb, eqb}
 use lib.ListN.{length, take, drop, replicate}
 use Rattle.timecode.specs.Editions.{withYear, withoutYear, timeInYear, bothFit, nineBits, isEarlier, checkForward, forwardOf, forwardLeaves, backwardOf, backwardLeaves}
-use Rattle.timecode.specs.Formats.{A, B, member, table, lookUp, rowOf, known, size, interval, carriesControl, carriesSeconds, carriesYear, controlPlaces, lastYear, daysIn, carriesLeap}
+use Rattle.timecode.specs.Formats.{A, B, isX, member, table, lookUp, rowOf, known, size, interval, carriesControl, carriesSeconds, carriesYear, controlPlaces, lastYear, daysIn, carriesLeap}
 use Rattle.timecode.specs.Frames.{written, totalWidth, readOf, Valid}
 use Rattle.timecode.specs.Laws.Checks.{passed, done, by-reading}
 use Rattle.timecode.specs.Laws.Reading.{accepted-was-written}
 use Rattle.timecode.specs.Laws.Stepping.{every, one-of}
+use Rattle.timecode.specs.Laws.Table.{year-not-x}
 use Rattle.timecode.specs.Laws.Tests.{by-test, clash, and-left, and-right, or-other}
 use Rattle.timecode.specs.Laws.Times.{time-path, year-small, year-none, year-carried, last-known, last-unknown}
 use Rattle.timecode.specs.Laws.Writing.{length-written, written-is-accepted}
-use Rattle.timecode.specs.Layout.{seconds, minutes, hours, days, tenths, hundredthsDigit, hasSeconds, straightSeconds, control, years, timeFields, fields, runs, timeNumbers, numbers, isMark, filler, symbolAt, encode}
+use Rattle.timecode.specs.Layout.{dayCarried, seconds, minutes, hours, days, tenths, hundredthsDigit, hasSeconds, straightSeconds, control, years, timeFields, fields, runs, timeNumbers, numbers, isMark, filler, symbolAt, encode}
 use Rattle.timecode.specs.declared.Format.{Format}
 use Rattle.timecode.specs.declared.Reading.{Reading}
 use Rattle.timecode.specs.declared.Reading.the-variants.{Accepted}
@@ -117,7 +118,7 @@ module _ (f : Format) (both : Editions f) (t : Time) (w year : ℕ) where
           (λ m. let n : w < 2 ^ 0 = rw (both .bits, m) at (v .room) in rw (both .later-bits, m) (omega arith))
 
   pub earlier-valid : Valid (withYear f) t w → Valid f (timeInYear t 0) (w * nineBits)
-  unfolding interval rowOf carriesLeap
+  unfolding isX interval rowOf carriesLeap
   earlier-valid v =
       let o = v .time in
       record {
@@ -126,7 +127,7 @@ module _ (f : Format) (both : Editions f) (t : Time) (w year : ℕ) where
             record {
               year-is = year-carried f 0 (λ y. omega arith) (λ m. refl);
               first = o .first;
-              in-year = omega (arith, o .last, last-unknown f 0 (both .no-year));
+              in-year = omega (arith, o .last, last-unknown f 0 (year-not-x (withYear f) (both .year)) (both .no-year));
               last = o .last;
               below = o .below;
               grid = o .grid;
@@ -271,7 +272,7 @@ SameRest f = (t : Time) (year w : ℕ)
     × (w % nineBits ≡ 0 → take 9 (drop 50 (written f t w)) ≡ replicate 9 0)
 
 same-rests : AllOf (λ l. AllOf (λ e. SameRest (format l e)) (0 ∷ 1 ∷ 2 ∷ 3 ∷ [])) (A ∷ B ∷ [])
-unfolding table rowOf lookUp size written encode symbolAt filler isMark runs fields timeFields numbers timeNumbers seconds minutes hours days tenths hundredthsDigit straightSeconds hasSeconds carriesSeconds control carriesControl carriesYear controlPlaces years
+unfolding table rowOf lookUp size written encode symbolAt filler isMark runs fields timeFields numbers timeNumbers dayCarried isX seconds minutes hours days tenths hundredthsDigit straightSeconds hasSeconds carriesSeconds control carriesControl carriesYear controlPlaces years
 same-rests = (
   (λ t year w. (refl, refl, λ z. rw z), (λ t year w. (refl, refl, λ z. rw z), (λ t year w. (refl, refl, λ z. refl), (λ t year w. (refl, refl, λ z. refl), tt)))),
   ((λ t year w. (refl, refl, λ z. rw z), (λ t year w. (refl, refl, λ z. rw z), (λ t year w. (refl, refl, λ z. refl), (λ t year w. (refl, refl, λ z. refl), tt)))), tt),

@@ -1,5 +1,6 @@
--- A generator's elements by their index: its frames are valid and read as they were sent, and two marks stand side by side only where one frame ends and the next begins.
+-- A generator's elements by their index: its frames are valid and read as they were sent, and two marks stand side by side only where one frame ends and the next begins; in X a mark stands only where a frame begins.
 use mathlib.Core.Path.{_≡_, sym, ap, _∙_}
+use mathlib.Core.Bool.{true, false}
 use mathlib.Core.List.{List, [], _∷_}
 use mathlib.Core.Logic.{_⊎_, inl, inr}
 use Prim.Native.Nat.{ℕ, zero, suc, _+_, _*_, _/_, _%_, _<_, _≤_}
@@ -8,13 +9,13 @@ use native.Mathlib.Omega.{arith}
 use native.Mathlib.Decide.{decLt}
 use lib.ListN.{length, getD, replicate, length-replicate, length-append, List·getD-append, List·getD-eq-default}
 use lib.Seq.{getD-append-add}
-use Rattle.timecode.specs.Formats.{size, OnFormat}
+use Rattle.timecode.specs.Formats.{isX, size, OnFormat}
 use Rattle.timecode.specs.Frames.{written, readOf, Sent, Generator, elements, sentAt, Valid}
-use Rattle.timecode.specs.Laws.Marks.{size-positive, at-written, mark-only, mark-index}
+use Rattle.timecode.specs.Laws.Marks.{size-positive, at-written, mark-only, mark-index, x-mark-index}
 use Rattle.timecode.specs.Laws.Stepping.{step-on-format}
 use Rattle.timecode.specs.Laws.Table.{two-sizes}
 use Rattle.timecode.specs.Laws.Writing.{length-written, symbol-small, written-is-accepted, taken}
-use Rattle.timecode.specs.Layout.{fields, runs, numbers, allDigits}
+use Rattle.timecode.specs.Layout.{filler, fields, runs, numbers, allDigits}
 use Rattle.timecode.specs.declared.Format.{Format}
 use Rattle.timecode.specs.declared.Reading.the-variants.{Accepted}
 
@@ -77,7 +78,7 @@ element-small f sent k = go (decLt k (length (elements f sent)))
         let p = place-in-frame f sent k a in
         let s = sentAt sent (k / size f) in
         let y = at-written f (s .time) (s .control) (k % size f) (p .index) in
-        omega (arith, p .is, y, symbol-small f (runs f) (allDigits (fields f) (numbers (s .time) (s .control))) (k % size f))
+        omega (arith, p .is, y, symbol-small f (runs f) (allDigits (fields f) (numbers f (s .time) (s .control))) (k % size f))
 
 -- ---- marks
 
@@ -85,22 +86,30 @@ element-small f sent k = go (decLt k (length (elements f sent)))
 abbrev MarkAt : ℕ → ℕ → Type 0
 MarkAt n k = (k % n ≡ 0) ⊎ (k % 10 ≡ 9)
 
-tail-nine : (f : Format) (k : ℕ) → k % size f % 10 ≡ 9 → k % 10 ≡ 9
-tail-nine f k h = two-sizes (λ n. k % n % 10 ≡ 9 → k % 10 ≡ 9) (λ a. omega arith) (λ a. omega arith) f h
+tail-nine : (f : Format) (k : ℕ) → isX f ≡ false → k % size f % 10 ≡ 9 → k % 10 ≡ 9
+tail-nine f k n h = two-sizes (λ n. k % n % 10 ≡ 9 → k % 10 ≡ 9) (λ a. omega arith) (λ a. omega arith) f n h
 
-mark-at : (f : Format) (k : ℕ) → (k % size f ≡ 0) ⊎ (k % size f % 10 ≡ 9) → MarkAt (size f) k
-mark-at f k (inl a) = inl a
-mark-at f k (inr a) = inr (tail-nine f k a)
+mark-at : (f : Format) (k : ℕ) → isX f ≡ false → (k % size f ≡ 0) ⊎ (k % size f % 10 ≡ 9) → MarkAt (size f) k
+mark-at f k n (inl a) = inl a
+mark-at f k n (inr a) = inr (tail-nine f k n a)
 
-pub marks : (f : Format) (sent : List Sent) → Generator f sent → (k : ℕ) → getD (elements f sent) k 0 ≡ 2 → MarkAt (size f) k
-marks f sent gen k h = go (decLt k (length (elements f sent)))
-  where
-    go : Dec (k < length (elements f sent)) → MarkAt (size f) k
-    go (no a) = let z : _≡_ {A = ℕ} 0 2 = sym (List·getD-eq-default (elements f sent) 0 {n = k} (omega arith)) ∙ h in let n : ⊥ = omega arith in absurd n
-    go (yes a) =
-        let p = place-in-frame f sent k a in
-        let s = sentAt sent (k / size f) in
-        mark-at f k (mark-index f (k % size f) (mark-only f (s .time) (s .control) (sent-valid f sent gen (k / size f) (p .inside)) (k % size f) (p .index) (sym (p .is) ∙ h)))
+module _ (f : Format) (sent : List Sent) (gen : Generator f sent) (k : ℕ) (h : getD (elements f sent) k 0 ≡ 2) where
+  mark-filled : filler f (k % size f) ≡ 2
+  mark-filled = go (decLt k (length (elements f sent)))
+    where
+      go : Dec (k < length (elements f sent)) → filler f (k % size f) ≡ 2
+      go (no a) = let z : _≡_ {A = ℕ} 0 2 = sym (List·getD-eq-default (elements f sent) 0 {n = k} (omega arith)) ∙ h in let n : ⊥ = omega arith in absurd n
+      go (yes a) =
+          let p = place-in-frame f sent k a in
+          let s = sentAt sent (k / size f) in
+          mark-only f (s .time) (s .control) (sent-valid f sent gen (k / size f) (p .inside)) (k % size f) (p .index) (sym (p .is) ∙ h)
+
+  pub marks : isX f ≡ false → MarkAt (size f) k
+  marks n = mark-at f k n (mark-index f (k % size f) n mark-filled)
+
+  -- in X a mark is a frame's first element
+  pub x-marks : isX f ≡ true → k % size f ≡ 0
+  x-marks x = x-mark-index f (k % size f) x mark-filled
 
 abbrev Pair : ℕ → Type 0
 Pair n = (k : ℕ) → MarkAt n k → MarkAt n (k + 1) → (k + 1) % n ≡ 0
@@ -116,5 +125,5 @@ pair-100 k (inl a) (inr c) = omega arith
 pair-100 k (inr a) (inr c) = omega arith
 
 -- two marks side by side are a frame's last and the next frame's first
-pub pair : (f : Format) → Pair (size f)
-pair f = two-sizes Pair pair-60 pair-100 f
+pub pair : (f : Format) → isX f ≡ false → Pair (size f)
+pair f n = two-sizes Pair pair-60 pair-100 f n

@@ -1,6 +1,6 @@
--- The plain machine with the setting k: exactly when it reports, that its answers depend on the last kn + 1 symbols alone, and that a higher setting reports a part of what a lower one reports.
+-- The plain machine with the setting k: exactly when it reports, that its answers depend on the last kn + 1 symbols (in X kn) alone, and that a higher setting reports a part of what a lower one reports.
 use mathlib.Core.Path.{_≡_, refl, sym, ap, ap₂, _∙_, subst}
-use mathlib.Core.Bool.{true, cond}
+use mathlib.Core.Bool.{true, false, cond}
 use mathlib.Core.List.{List, [], _∷_, _++_, append-assoc, append-nil}
 use mathlib.Core.Logic.{_↔_}
 use Prim.Native.Nat.{ℕ, zero, suc, _+_, _*_, _-_, _<_, _≤_}
@@ -8,15 +8,15 @@ use native.Mathlib.Nat.{not-suc-le-zero, mul-zero, mul-le-mul-left}
 use native.Mathlib.Omega.{arith}
 use native.Mathlib.Decide.{ℕ-discrete, decLe, decLt}
 use borrow.Author.Tests.{leb-true, leb-false, le-leb, lt-leb, eqb-true, eq-eqb}
-use lib.ListN.{getD, length, take, drop, replicate, length-append, length-drop, length-replicate, take-append-drop}
-use lib.Seq.{drop-cons, drop-drop, drop-at, take-all, take-add, take-append-le, take-append-seam, drop-append-le, getD-drop}
-use Rattle.timecode.specs.Formats.{isSymbol, size}
+use lib.ListN.{getD, length, take, drop, replicate, length-append, length-drop, length-replicate, drop-of-length-le, take-append-drop}
+use lib.Seq.{drop-cons, drop-drop, drop-at, drop-append-add, take-all, take-add, take-append-le, take-append-seam, drop-append-le, getD-drop}
+use Rattle.timecode.specs.Formats.{isSymbol, isX, size}
 use Rattle.timecode.specs.Laws.Checks.{quiet-no-report, refused-no-report}
 use Rattle.timecode.specs.Laws.Marks.{accepted-length}
 use Rattle.timecode.specs.Laws.Stepping.{next-follows, follows-next}
 use Rattle.timecode.specs.Laws.Tests.{by-test}
 use Rattle.timecode.specs.Frames.{readOf}
-use Rattle.timecode.specs.Laws.Windows.{Confirmed, window-confirmed, confirmed-window, window-quiet, before-of}
+use Rattle.timecode.specs.Laws.Windows.{lead-one, opens-marked, opens-so, Confirmed, window-confirmed, confirmed-window, window-quiet, before-of}
 use Rattle.timecode.specs.Stream.{lead, opens, windowLength, frameIn, windowAnswer, lastOf, plainAnswer, Plain, plainFeed, plainAnswers, plainReceived, elementsOf, IsElement, IsNewest, elementsUpTo, joined, EndsInFrames, SameWindow}
 use Rattle.timecode.specs.declared.Answer.{Answer}
 use Rattle.timecode.specs.declared.Answer.the-variants.{Quiet, Report}
@@ -93,15 +93,24 @@ window-parts f window (suc k) =
     ∙ ap (λ (xs : List ℕ). xs ++ frameIn f window k) (window-parts f window k)
     ∙ append-assoc (take (lead f) window) (joined (frameIn f window) k) (frameIn f window k)
 
-lead-marks : (f : Format) (window : List ℕ) → 0 < length window → opens f window ≡ true → take (lead f) window ≡ replicate (lead f) 2
-lead-marks f window l b = ap (take 1) (drop-cons window 0 0 l) ∙ ap (λ (s : ℕ). s ∷ []) (eqb-true (getD window 0 0) 2 b)
+lead-marks : (f : Format) (window : List ℕ) → (isX f ≡ false → 0 < length window) → opens f window ≡ true → take (lead f) window ≡ replicate (lead f) 2
+unfolding lead
+lead-marks f window l b =
+    by-test (isX f)
+    (λ x. rw x refl)
+    (λ n. rw n (ap (take 1) (drop-cons window 0 0 (l n)) ∙ ap (λ (s : ℕ). s ∷ []) (opens-marked f window n b)))
+
+-- a list that begins with its lead
+lead-opens : (f : Format) (xs : List ℕ) → opens f (replicate (lead f) 2 ++ xs) ≡ true
+unfolding lead
+lead-opens f xs = opens-so f (replicate (lead f) 2 ++ xs) (λ n. rw n refl)
 
 window-is : (f : Format) (k : ℕ) (window : List ℕ) → length window ≡ windowLength f k → opens f window ≡ true → window ≡ replicate (lead f) 2 ++ joined (frameIn f window) k
 unfolding windowLength
 window-is f k window l b =
     sym (take-all (lead f + size f * k) window (omega arith))
     ∙ window-parts f window k
-    ∙ ap (λ (xs : List ℕ). xs ++ joined (frameIn f window) k) (lead-marks f window (omega arith) b)
+    ∙ ap (λ (xs : List ℕ). xs ++ joined (frameIn f window) k) (lead-marks f window (λ n. omega (arith, lead-one f n)) b)
 
 module _ (f : Format) (frames : ℕ → List ℕ) where
   length-joined : (k : ℕ) → ((j : ℕ) → j < k → length (frames j) ≡ size f) → length (joined frames k) ≡ size f * k
@@ -172,14 +181,16 @@ ends-report f m received t w e = answer-long f (suc m) received (omega (arith, n
     last = ap (drop (length received - (suc m * size f + lead f))) (e .received-is) ∙ drop-at (e .before) window (length received - (suc m * size f + lead f)) (omega (arith, n))
 
     frame-is : (j : ℕ) → j < suc m → take (size f) (drop (lead f + size f * j) window) ≡ e .frames j
-    frame-is j b = let u : lead f + size f * j ≡ suc (size f * j) = omega arith in rw u (part-of f (e .frames) (suc m) whole j b)
+    frame-is j b =
+        let u : lead f + size f * j ≡ length (replicate {A = ℕ} (lead f) 2) + size f * j = ap (λ (n : ℕ). n + size f * j) (sym (length-replicate (lead f) 2)) in
+        ap (λ (n : ℕ). take (size f) (drop n window)) u ∙ ap (take (size f)) (drop-append-add (replicate (lead f) 2) (joined (e .frames) (suc m)) (size f * j)) ∙ part-of f (e .frames) (suc m) whole j b
 
     confirmed : Confirmed f m window t w
     confirmed =
         record {
           times = e .times;
           controls = e .controls;
-          begins = refl;
+          begins = lead-opens f (joined (e .frames) (suc m));
           reads = λ j b. ap (readOf f) (frame-is j (omega arith)) ∙ e .accepted j (omega arith);
           follows = λ j b. next-follows f (e .times j) (e .times (suc j)) (e .next j (omega arith));
           last-time = e .last-time m refl;
@@ -194,7 +205,7 @@ feed-reports f m received s t w = (λ h. go h (decLe s 3), λ e. ap (λ (p : Pla
     go h (yes l) = (l, report-ends f m (received ++ (s ∷ [])) t w (sym (ap (λ (p : Plain). p .answer) (feed-accepts f (suc m) received s l)) ∙ h))
     go h (no l) = refused-no-report UnknownSymbol t w (sym (ap (λ (p : Plain). p .answer) (feed-refuses f (suc m) received s (omega arith))) ∙ h)
 
--- ---- the answers depend on the last kn + 1 symbols alone
+-- ---- the answers depend on the window alone
 
 last-append : (k : ℕ) (xs : List ℕ) (s : ℕ) → 1 ≤ k → k ≤ length xs → lastOf k (xs ++ (s ∷ [])) ≡ drop 1 (lastOf k xs) ++ (s ∷ [])
 unfolding lastOf
@@ -206,9 +217,12 @@ last-append k xs s a h =
     index : length (xs ++ (s ∷ [])) - k ≡ length xs - k + 1
     index = omega (arith, length-append xs (s ∷ []))
 
-window-positive : (f : Format) (k : ℕ) → 1 ≤ windowLength f k
-unfolding windowLength
-window-positive f k = omega arith
+-- a window of one symbol more
+last-same : (k : ℕ) (xs ys : List ℕ) (s : ℕ) → k ≤ length xs → k ≤ length ys → lastOf k xs ≡ lastOf k ys → lastOf k (xs ++ (s ∷ [])) ≡ lastOf k (ys ++ (s ∷ []))
+unfolding lastOf
+last-same zero xs ys s a b h =
+    drop-of-length-le (xs ++ (s ∷ [])) {i = length (xs ++ (s ∷ [])) - 0} (omega arith) ∙ sym (drop-of-length-le (ys ++ (s ∷ [])) {i = length (ys ++ (s ∷ [])) - 0} (omega arith))
+last-same (suc k) xs ys s a b h = last-append (suc k) xs s (omega arith) a ∙ ap (λ (zs : List ℕ). drop 1 zs ++ (s ∷ [])) h ∙ sym (last-append (suc k) ys s (omega arith) b)
 
 pub same-answer : (f : Format) (k : ℕ) (xs ys : List ℕ) → SameWindow f k xs ys → plainAnswer f k xs ≡ plainAnswer f k ys
 same-answer f k xs ys w = answer-long f k xs (w .first-long) ∙ ap (windowAnswer f k) (w .same) ∙ sym (answer-long f k ys (w .second-long))
@@ -218,7 +232,7 @@ same-longer f k xs ys s w =
     record {
       first-long = omega (arith, w .first-long, length-append xs (s ∷ []));
       second-long = omega (arith, w .second-long, length-append ys (s ∷ []));
-      same = last-append (windowLength f k) xs s (window-positive f k) (w .first-long) ∙ ap (λ (zs : List ℕ). drop 1 zs ++ (s ∷ [])) (w .same) ∙ sym (last-append (windowLength f k) ys s (window-positive f k) (w .second-long));
+      same = last-same (windowLength f k) xs ys s (w .first-long) (w .second-long) (w .same);
     }
 
 pub same-answers : (f : Format) (k : ℕ) (ss xs ys : List ℕ) → SameWindow f k xs ys → plainAnswers f k xs ss ≡ plainAnswers f k ys ss
@@ -281,7 +295,7 @@ fewer-confirmed f m d window t w c =
     record {
       times = λ j. c .times (d + j);
       controls = λ j. c .controls (d + j);
-      begins = eq-eqb (getD (drop (size f * d) window) 0 0) 2 (getD-drop (size f * d) window 0 0 ∙ ap (λ (i : ℕ). getD window i 0) u ∙ before-of f (d + m) window t w c d (omega arith));
+      begins = opens-so f (drop (size f * d) window) (λ n. getD-drop (size f * d) window 0 0 ∙ ap (λ (i : ℕ). getD window i 0) u ∙ before-of f (d + m) window t w c n d (omega arith));
       reads = λ j b. rw (frame-later f window d j) (c .reads (d + j) (omega arith));
       follows = λ j b. let v : d + suc j ≡ suc (d + j) = omega arith in rw v (c .follows (d + j) (omega arith));
       last-time = c .last-time;

@@ -10,8 +10,8 @@ use borrow.Author.Tests.{leb-true, leb-false, eqb-true}
 use lib.Dec.{leb, eqb}
 use lib.ListN.{getD, length}
 use Rattle.timecode.specs.Answers.{refusalNumber}
-use Rattle.timecode.specs.Formats.{known, size, carriesYear, controlPlaces, lastYear, yearCarried, lastDayIn, lastHundredth, dayLength, carriesControl, carriesLeap, OnFormat}
-use Rattle.timecode.specs.Frames.{written, areSymbols, marksAgree, elementFits, checkElements, areDigits, lastSecond, isTime, timeIn, secondsAgree, readOf, Valid}
+use Rattle.timecode.specs.Formats.{isX, known, size, carriesYear, controlPlaces, lastYear, yearCarried, lastDayIn, lastHundredth, dayLength, carriesControl, carriesLeap, OnFormat}
+use Rattle.timecode.specs.Frames.{dayIn, written, areSymbols, marksAgree, elementFits, checkElements, areDigits, lastSecond, isTime, timeIn, secondsAgree, readOf, Valid}
 use Rattle.timecode.specs.Laws.Checks.{passed, accepted, refused-up-to}
 use Rattle.timecode.specs.Laws.Digits.{Below, capacity, joined, joined-lt, digits-agree, number-joined}
 use Rattle.timecode.specs.Laws.Fields.{fields-together, digits-back, AreDigits, are-digits, Binary, binary-positive, binary-capacity, binary-below}
@@ -19,7 +19,7 @@ use Rattle.timecode.specs.Laws.Runs.{Clean, fits-agree, clean-bits, enco
 use Rattle.timecode.specs.Laws.Table.{layout-proper}
 use Rattle.timecode.specs.Laws.Tests.{by-test, clash, and-left, and-right}
 use Rattle.timecode.specs.Laws.Times.{last-range, year-carried, none-added, one-added, time-grid}
-use Rattle.timecode.specs.Layout.{Run, binaryIf, seconds, minutes, hours, days, tenths, hundredthsDigit, hasSeconds, straightSeconds, control, years, timeFields, fields, flatten, runs, second, minute, hour, timeNumbers, numbers, fieldDigits, allDigits, filler, encode, value, numberIn, Small, decode}
+use Rattle.timecode.specs.Layout.{dayCarried, Run, binaryIf, seconds, minutes, hours, days, tenths, hundredthsDigit, hasSeconds, straightSeconds, control, years, timeFields, fields, flatten, runs, second, minute, hour, timeNumbers, numbers, fieldDigits, allDigits, filler, encode, value, numberIn, Small, decode}
 use Rattle.timecode.specs.declared.Format.{Format}
 use Rattle.timecode.specs.declared.Reading.{Reading}
 use Rattle.timecode.specs.declared.Reading.the-variants.{Accepted}
@@ -83,8 +83,8 @@ pub record IsTime (f : Format) (frame : List ℕ) : Type 0 where
   pub hour-is : numberIn frame (hours f) ≤ 23
   pub minute-is : numberIn frame (minutes f) ≤ 59
   pub second-is : InMinute f (numberIn frame (hours f)) (numberIn frame (minutes f)) (numberIn frame (seconds f))
-  pub first : 1 ≤ numberIn frame (days f)
-  pub last : numberIn frame (days f) ≤ lastDayIn f (numberIn frame (years f))
+  pub first : 1 ≤ dayIn f frame
+  pub last : dayIn f frame ≤ lastDayIn f (numberIn frame (years f))
 
 pub is-time : (f : Format) (frame : List ℕ) → isTime f frame ≡ true → IsTime f frame
 unfolding isTime
@@ -92,8 +92,8 @@ is-time f frame h =
     let H = leb (numberIn frame (hours f)) 23 in
     let M = leb (numberIn frame (minutes f)) 59 in
     let S = leb (numberIn frame (seconds f)) (lastSecond f (numberIn frame (hours f)) (numberIn frame (minutes f))) in
-    let F = leb 1 (numberIn frame (days f)) in
-    let L = leb (numberIn frame (days f)) (lastDayIn f (numberIn frame (years f))) in
+    let F = leb 1 (dayIn f frame) in
+    let L = leb (dayIn f frame) (lastDayIn f (numberIn frame (years f))) in
     let a = and-right (areDigits frame (flatten (timeFields f) ++ years f)) (H && (M && (S && (F && L)))) h in
     let b = and-right H (M && (S && (F && L))) a in
     let c = and-right M (S && (F && L)) b in
@@ -103,8 +103,8 @@ is-time f frame h =
       hour-is = leb-true (numberIn frame (hours f)) 23 (and-left H (M && (S && (F && L))) a);
       minute-is = leb-true (numberIn frame (minutes f)) 59 (and-left M (S && (F && L)) b);
       second-is = in-minute f (numberIn frame (hours f)) (numberIn frame (minutes f)) (numberIn frame (seconds f)) (and-left S (F && L) c);
-      first = leb-true 1 (numberIn frame (days f)) (and-left F L d);
-      last = leb-true (numberIn frame (days f)) (lastDayIn f (numberIn frame (years f))) (and-right F L d);
+      first = leb-true 1 (dayIn f frame) (and-left F L d);
+      last = leb-true (dayIn f frame) (lastDayIn f (numberIn frame (years f))) (and-right F L d);
     }
 
 pub straight-binary : (f : Format) → Binary (straightSeconds f)
@@ -130,6 +130,11 @@ straight-absent f m = rw m
 seconds-agree : (f : Format) (frame : List ℕ) → secondsAgree f frame ≡ true → hasSeconds f ≡ true → numberIn frame (straightSeconds f) ≡ timeIn f frame .hundredths / 100
 unfolding secondsAgree
 seconds-agree f frame h y = eqb-true (numberIn frame (straightSeconds f)) (timeIn f frame .hundredths / 100) (rw y at h)
+
+-- the day in the digits is the one that they say
+day-said : (f : Format) (frame : List ℕ) → dayCarried f (timeIn f frame) ≡ numberIn frame (days f)
+unfolding dayCarried timeIn dayIn days value
+day-said f frame = by-test (isX f) (λ x. rw x) (λ n. rw n)
 
 years-absent : (f : Format) (frame : List ℕ) → carriesYear f ≡ false → numberIn frame (years f) ≡ 0
 unfolding years value
@@ -174,19 +179,19 @@ module _ (f : Format) (frame : List ℕ) (k : known f ≡ true) (n : length fram
   abbrev read-control : ℕ
   read-control = numberIn frame (control f)
 
-  digits-same : allDigits (fields f) (numbers read-time read-control) ≡ decode (runs f) frame
+  digits-same : allDigits (fields f) (numbers f read-time read-control) ≡ decode (runs f) frame
   unfolding runs fields timeFields numbers timeNumbers timeIn seconds minutes hours days tenths hundredthsDigit years
   digits-same =
       let c =
       clock f (numberIn frame (hours f)) (numberIn frame (minutes f)) (numberIn frame (seconds f)) (numberIn frame (tenths f)) (numberIn frame (hundredthsDigit f)) (read-time .hundredths) (time .hour-is) (time .minute-is) (omega (arith, time .digits)) (omega (arith, time .digits)) refl (time .second-is) in
-      fields-together frame (fields f) (numbers read-time read-control) (
+      fields-together frame (fields f) (numbers f read-time read-control) (
         ap (fieldDigits (seconds f)) (c .0) ∙ digits-back frame (seconds f) (omega (arith, time .digits)),
         (
           ap (fieldDigits (minutes f)) (c .1) ∙ digits-back frame (minutes f) (omega (arith, time .digits)),
           (
             ap (fieldDigits (hours f)) (c .2) ∙ digits-back frame (hours f) (omega (arith, time .digits)),
             (
-              digits-back frame (days f) (omega (arith, time .digits)),
+              ap (fieldDigits (days f)) (day-said f frame) ∙ digits-back frame (days f) (omega (arith, time .digits)),
               (
                 ap (fieldDigits (tenths f)) (c .3) ∙ digits-back frame (tenths f) (omega (arith, time .digits)),
                 (

@@ -2,7 +2,7 @@
 use mathlib.Core.Path.{_≡_, refl, sym, ap, ap₂, _∙_}
 use mathlib.Core.Bool.{Bool, true, false, not, _&&_}
 use mathlib.Core.List.{List, [], _∷_, _++_}
-use Prim.Native.Nat.{ℕ, zero, suc, _+_, _<_, _≤_}
+use Prim.Native.Nat.{ℕ, zero, suc, _+_, _-_, _<_, _≤_}
 use native.Mathlib.Nat.{add-zero, add-suc, suc-add, zero-add, not-suc-le-zero, mod-eq-of-lt}
 use native.Mathlib.Numerals.{add-one}
 use native.Mathlib.Omega.{arith}
@@ -71,14 +71,20 @@ in-run r i h = (
   ltb-true i (r .start + r .width) (and-right (leb (r .start) i) (ltb i (r .start + r .width)) h),
 )
 
-pub place-in : (r : Run) (b : ℕ) → b < r .width → inRun r (placeOf r b) ≡ true
-place-in r b h = simp (le-leb (r .start) (r .start + b) (omega arith), lt-ltb (r .start + b) (r .start + r .width) (omega arith))
+run-in : (r : Run) (i : ℕ) → r .start ≤ i → i < r .start + r .width → inRun r i ≡ true
+run-in r i a b = rw (le-leb (r .start) i a, lt-ltb i (r .start + r .width) b)
 
-bit-of-place : (r : Run) (b : ℕ) → bitOf r (placeOf r b) ≡ b
-bit-of-place r b = omega arith
+pub place-in : (r : Run) (b : ℕ) → b < r .width → inRun r (placeOf r b) ≡ true
+place-in r b h =
+    by-test (r .falls)
+    (λ y. rw y (run-in r (r .start + (r .width - 1 - b)) (omega arith) (omega arith)))
+    (λ m. rw m (run-in r (r .start + b) (omega arith) (omega arith)))
+
+bit-of-place : (r : Run) (b : ℕ) → b < r .width → bitOf r (placeOf r b) ≡ b
+bit-of-place r b h = by-test (r .falls) (λ y. rw y (omega arith)) (λ m. rw m (omega arith))
 
 place-of-bit : (r : Run) (i : ℕ) → inRun r i ≡ true → (placeOf r (bitOf r i) ≡ i) × (bitOf r i < r .width)
-place-of-bit r i h = let p = in-run r i h in omega arith
+place-of-bit r i h = let p = in-run r i h in by-test (r .falls) (λ y. rw y (omega arith)) (λ m. rw m (omega arith))
 
 -- ---- the test of a layout: each element of a run lies in the frame, is no mark and is in no later run
 
@@ -123,8 +129,9 @@ module _ (n : ℕ) (fillers : ℕ → ℕ) where
   clear-in : (rs : List Run) (r : Run) → proper n fillers (r ∷ rs) ≡ true → (i : ℕ) → inRun r i ≡ true → Clear rs i
   unfolding proper
   clear-in rs r t i h =
-      let p = place-of-bit r i h in
-      rw (p .0) at (clear-at rs (r .start) (r .width) (and-left (clear n fillers rs (r .start) (r .width)) (proper n fillers rs) t) (bitOf r i) (p .1))
+      let p = in-run r i h in
+      let u : r .start + (i - r .start) ≡ i = omega arith in
+      rw u at (clear-at rs (r .start) (r .width) (and-left (clear n fillers rs (r .start) (r .width)) (proper n fillers rs) t) (i - r .start) (omega arith))
 
   pub later-proper : (rs : List Run) (r : Run) → proper n fillers (r ∷ rs) ≡ true → proper n fillers rs ≡ true
   unfolding proper
@@ -155,7 +162,7 @@ module _ (n : ℕ) (fillers : ℕ → ℕ) where
       (value-of-bits (r .width) (λ b. getD frame (placeOf r b) 0) x
       (λ b l.
       let y = place-in r b l in
-      h (placeOf r b) (or-first (inRun r (placeOf r b)) (covered rs (placeOf r b)) y) ∙ rw (y, bit-of-place r b))
+      h (placeOf r b) (or-first (inRun r (placeOf r b)) (covered rs (placeOf r b)) y) ∙ rw (y, bit-of-place r b l))
       ∙ mod-eq-of-lt (s .0))
       (read-back frame rs xs (later-proper rs r t) (s .1)
       (λ i k.

@@ -5,15 +5,16 @@ use mathlib.Core.Logic.{_↔_}
 use Prim.Native.Nat.{ℕ, zero, suc, _+_, _-_, _<_, _≤_, min}
 use native.Mathlib.Omega.{arith}
 use native.Mathlib.Decide.{ℕ-discrete}
-use borrow.Author.Tests.{eqb-true, eqb-false, eq-eqb, leb-true, leb-false, le-leb}
-use lib.Dec.{leb, eqb}
-use lib.ListN.{getD, length, drop, length-take, length-drop}
-use Rattle.timecode.specs.Calls.{partAt, found, lowestOf, firstPlace, scanOf, FrameAt, Looks, LowestAt, NowhereAt}
+use borrow.Author.Tests.{leb-true, leb-false, le-leb}
+use lib.Dec.{leb}
+use lib.ListN.{length, drop, length-take, length-drop}
+use Rattle.timecode.specs.Calls.{partAt, leadAt, found, lowestOf, firstPlace, scanOf, FrameAt, Looks, LowestAt, NowhereAt}
 use Rattle.timecode.specs.Formats.{known, size}
 use Rattle.timecode.specs.Frames.{readOf}
 use Rattle.timecode.specs.Laws.Checks.{passed, passes, accepted, by-reading}
 use Rattle.timecode.specs.Laws.Marks.{size-positive, accepted-length}
-use Rattle.timecode.specs.Laws.Tests.{by-test}
+use Rattle.timecode.specs.Laws.Tests.{by-test, clash}
+use Rattle.timecode.specs.Stream.{lead}
 use Rattle.timecode.specs.declared.Format.{Format}
 use Rattle.timecode.specs.declared.Refusal.the-variants.{UnknownFormat, StartPastEnd}
 use Rattle.timecode.specs.declared.Refusal.{Refusal}
@@ -28,27 +29,27 @@ module _ (f : Format) (recording : List ℕ) where
   -- a fit at the first place is the answer
   pub here : (k a : ℕ) (t : Time) (w : ℕ) → FrameAt f recording a t w → lowestOf f recording (suc k) a ≡ Found a t w
   unfolding lowestOf
-  here k a t w fit = rw (eq-eqb (getD recording (a - 1) 0) 2 (fit .mark), fit .frame)
+  here k a t w fit = rw (fit .lead-stands, fit .frame)
 
   -- where the first place does not fit, the later ones decide
   pub next-place : (k a : ℕ) → NoFit f recording a → lowestOf f recording (suc k) a ≡ lowestOf f recording k (suc a)
   unfolding lowestOf
   next-place k a n =
-      by-test (eqb (getD recording (a - 1) 0) 2)
+      by-test (leadAt f recording a)
       (λ y.
       by-reading (readOf f (partAt f recording a))
       (λ x r. rw (y, r))
-      (λ t w r. absurd (n t w (record { mark = eqb-true (getD recording (a - 1) 0) 2 y; frame = r }))))
+      (λ t w r. absurd (n t w (record { lead-stands = y; frame = r }))))
       (λ m. rw m)
 
   fits-or-not : (a : ℕ) → {P : Type 0} → ((t : Time) (w : ℕ) → FrameAt f recording a t w → P) → (NoFit f recording a → P) → P
   fits-or-not a {P} yes′ no′ =
-      by-test (eqb (getD recording (a - 1) 0) 2)
+      by-test (leadAt f recording a)
       (λ y.
       by-reading (readOf f (partAt f recording a))
       (λ x r. no′ (λ t w fit. accepted t w x (sym r ∙ fit .frame)))
-      (λ t w r. yes′ t w (record { mark = eqb-true (getD recording (a - 1) 0) 2 y; frame = r })))
-      (λ m. no′ (λ t w fit. eqb-false (getD recording (a - 1) 0) 2 m (fit .mark)))
+      (λ t w r. yes′ t w (record { lead-stands = y; frame = r })))
+      (λ m. no′ (λ t w fit. clash (fit .lead-stands) m))
 
   -- a place from a on is a itself or a later one
   from-first : (a j : ℕ) → a ≤ j → NoFit f recording a → (suc a ≤ j → NoFit f recording j) → NoFit f recording j
@@ -111,24 +112,28 @@ module _ (f : Format) (recording : List ℕ) where
 
 -- ---- Scan
 
-first-place : (start : ℕ) → (1 ≤ firstPlace start) × (start ≤ firstPlace start) × ((a : ℕ) → 1 ≤ a → start ≤ a → firstPlace start ≤ a)
-first-place start =
-    by-test (leb 1 start)
-    (λ y. rw y (leb-true 1 start y, omega arith, λ a x z. z))
-    (λ m. let z = leb-false 1 start m in rw m (omega arith, omega arith, λ a x z. x))
+abbrev IsFirst : Format → ℕ → Type 0
+IsFirst f start = (lead f ≤ firstPlace f start) × (start ≤ firstPlace f start) × ((a : ℕ) → lead f ≤ a → start ≤ a → firstPlace f start ≤ a)
+
+first-place : (f : Format) (start : ℕ) → IsFirst f start
+unfolding firstPlace
+first-place f start =
+    by-test (leb (lead f) start)
+    (λ y. rw y (leb-true (lead f) start y, omega arith, λ a x z. z))
+    (λ m. let z = leb-false (lead f) start m in rw m (omega arith, omega arith, λ a x z. x))
 
 module _ (f : Format) (recording : List ℕ) (start : ℕ) where
   abbrev places : ℕ
-  places = length recording + 1 - (firstPlace start + size f)
+  places = length recording + 1 - (firstPlace f start + size f)
 
-  looked : (x : Scanned) → ((r : Refusal) → Scanned.Refused r ≡ x → ⊥) → scanOf f recording start ≡ x → Looks f recording start × (lowestOf f recording places (firstPlace start) ≡ x)
+  looked : (x : Scanned) → ((r : Refusal) → Scanned.Refused r ≡ x → ⊥) → scanOf f recording start ≡ x → Looks f recording start × (lowestOf f recording places (firstPlace f start) ≡ x)
   unfolding scanOf
   looked x taken h =
       let a = passed Scanned.Refused UnknownFormat (known f) _ x taken h in
       let b = passed Scanned.Refused StartPastEnd (leb start (length recording)) _ x taken (a .1) in
       (record { format = a .0; inside = leb-true start (length recording) (b .0) }, b .1)
 
-  looks : Looks f recording start → scanOf f recording start ≡ lowestOf f recording places (firstPlace start)
+  looks : Looks f recording start → scanOf f recording start ≡ lowestOf f recording places (firstPlace f start)
   unfolding scanOf
   looks l = passes Scanned.Refused UnknownFormat (known f) _ (l .format) ∙ passes Scanned.Refused StartPastEnd (leb start (length recording)) _ (le-leb start (length recording) (l .inside))
 
@@ -136,7 +141,7 @@ module _ (f : Format) (recording : List ℕ) (start : ℕ) where
   scan-finds-the-lowest a t w = (
     λ h.
         let l = looked (Found a t w) (λ r z. let q : _≡_ {A = ℕ} 0 1 = cc in omega arith) h in
-        let p = found-lowest f recording places (firstPlace start) a t w (l .1) in
+        let p = found-lowest f recording places (firstPlace f start) a t w (l .1) in
         record {
           looks = l .0;
           found = record { first = omega (arith, p .from, first .0); from = omega (arith, p .from, first .1); fits = p .fits };
@@ -147,7 +152,7 @@ module _ (f : Format) (recording : List ℕ) (start : ℕ) where
         let room = fit-inside f recording a t w (z .fits) in
         let low = first .2 a (z .first) (z .from) in
         looks (l .looks)
-        ∙ lowest-found f recording places (firstPlace start) a t w
+        ∙ lowest-found f recording places (firstPlace f start) a t w
         (record {
           from = low;
           under = omega arith;
@@ -156,8 +161,8 @@ module _ (f : Format) (recording : List ℕ) (start : ℕ) where
         }),
   )
     where
-      first : (1 ≤ firstPlace start) × (start ≤ firstPlace start) × ((a : ℕ) → 1 ≤ a → start ≤ a → firstPlace start ≤ a)
-      first = first-place start
+      first : IsFirst f start
+      first = first-place f start
 
   pub scan-finds-none : (scanOf f recording start ≡ None) ↔ NowhereAt f recording start
   scan-finds-none = (
@@ -168,12 +173,12 @@ module _ (f : Format) (recording : List ℕ) (start : ℕ) where
           none = λ a t w z.
               let room = fit-inside f recording a t w (z .fits) in
               let low = first .2 a (z .first) (z .from) in
-              none-fits f recording places (firstPlace start) (l .1) a low (omega arith) t w (z .fits);
+              none-fits f recording places (firstPlace f start) (l .1) a low (omega arith) t w (z .fits);
         },
     λ n.
         looks (n .looks)
-        ∙ fits-none f recording places (firstPlace start) (λ j x y t w fit. n .none j t w (record { first = omega (arith, first .0); from = omega (arith, first .1); fits = fit })),
+        ∙ fits-none f recording places (firstPlace f start) (λ j x y t w fit. n .none j t w (record { first = omega (arith, first .0); from = omega (arith, first .1); fits = fit })),
   )
     where
-      first : (1 ≤ firstPlace start) × (start ≤ firstPlace start) × ((a : ℕ) → 1 ≤ a → start ≤ a → firstPlace start ≤ a)
-      first = first-place start
+      first : IsFirst f start
+      first = first-place f start

@@ -8,12 +8,12 @@ use native.Mathlib.Nat.{add-mod-right, zero-mod, div-add-mod, lt-of-mul-lt-mul-l
 use native.Mathlib.Omega.{arith}
 use borrow.Author.Tests.{leb-true, ltb-true, eqb-true, eqb-false, le-leb, lt-ltb, eq-eqb, ne-eqb}
 use lib.Dec.{leb, ltb, eqb}
-use Rattle.timecode.specs.Formats.{member, table, lookUp, rowOf, known, interval, carriesYear, lastDay, dayLength, lastYear, daysIn, yearCarried, lastDayIn, onFormat, carriesLeap, secondCarried, OnFormat}
-use Rattle.timecode.specs.Frames.{yearLengths, lengthIn, inYear, dayAfter, yearAfter, yearOfDayAfter, secondAdded, secondTaken, kinds, dayLengthOf, dayEnd, onDay, sameDay, nextDay, following, checkStep, stepBy, stepOf, Follows, stepsTo, any, nextAfter, LeapTurn, Turn}
+use Rattle.timecode.specs.Formats.{member, isX, table, lookUp, rowOf, known, interval, carriesYear, lastDay, dayLength, lastYear, daysIn, yearCarried, lastDayIn, onFormat, carriesLeap, secondCarried, OnFormat}
+use Rattle.timecode.specs.Frames.{yearLengths, lengthIn, inYear, dayAfter, turnDay, yearAfter, yearOfDayAfter, secondAdded, secondTaken, kinds, dayLengthOf, dayEnd, onDay, sameDay, nextDay, following, checkStep, stepBy, stepOf, Follows, stepsTo, any, nextAfter, LeapTurn, Turn}
 use Rattle.timecode.specs.Laws.Checks.{passed, same-check, refused-later, next}
-use Rattle.timecode.specs.Laws.Table.{everyFormat, of-every}
+use Rattle.timecode.specs.Laws.Table.{year-not-x, everyFormat, of-every}
 use Rattle.timecode.specs.Laws.Tests.{by-test, clash, and-left, and-right, or-other, or-first, or-second}
-use Rattle.timecode.specs.Laws.Times.{same-is, same-self, last-range, day-in-year, on-format, is-on-format, is-carried, year-small, year-none, year-carried, last-known, last-unknown}
+use Rattle.timecode.specs.Laws.Times.{same-is, same-self, last-range, day-in-year, on-format, is-on-format, is-carried, year-small, year-none, year-carried, last-known, last-unknown, last-x, only-day}
 use Rattle.timecode.specs.declared.Format.{Format}
 use Rattle.timecode.specs.declared.Refusal.the-variants.{UnknownFormat, InvalidTime, InvalidYearLength, SecondNotCarried, InvalidKind, InvalidYear}
 use Rattle.timecode.specs.declared.Refusal.{Refusal}
@@ -117,10 +117,12 @@ never-refuses-length f t given kind y h =
     let g = refused-later InvalidKind (onDay f t kind) (To (following f t length kind)) InvalidYearLength (λ e. omega arith) (rw (own-length f t given y (c .0)) at (d .1)) in
     next (following f t length kind) InvalidYearLength (sym (g .1))
 
--- the year's last day is its length where 366 is given
-last-is-length : (f : Format) (year : ℕ) → lastDayIn f year ≡ lengthIn f year 366
-unfolding lastDayIn lengthIn
-last-is-length f year = refl
+-- the year's last day is in its length where 366 is given
+last-in-length : (f : Format) (year : ℕ) → lastDayIn f year ≤ lengthIn f year 366
+last-in-length f year =
+    by-test (carriesYear f)
+    (λ y. omega (arith, last-known f year y, of-year f year 366 y))
+    (λ m. omega (arith, last-range f year, as-given f year 366 m))
 
 pub went : (f : Format) (t : Time) (given kind : ℕ) (u : Time) → stepOf f t given kind ≡ To u → Went f t (lengthFor f t given) kind (following f t (lengthFor f t given) kind) u
 unfolding stepOf
@@ -135,7 +137,7 @@ longest-day f t o = by-test (carriesLeap f) (λ y. rw y (omega (arith, o .below)
 pub goes : (f : Format) (t : Time) → known f ≡ true → OnFormat f t → stepOf f t 366 secondAdded ≡ To (following f t (lengthFor f t 366) secondAdded)
 unfolding stepOf
 goes f t k o =
-    step-answers f t (lengthFor f t 366) secondAdded k o (length-in f (t .year) 366 refl) (omega (arith, o .in-year, last-is-length f (t .year))) refl (longest-day f t o) (To (following f t (lengthFor f t 366) secondAdded))
+    step-answers f t (lengthFor f t 366) secondAdded k o (length-in f (t .year) 366 refl) (omega (arith, o .in-year, last-in-length f (t .year))) refl (longest-day f t o) (To (following f t (lengthFor f t 366) secondAdded))
 
 -- ---- next after is some step
 
@@ -269,6 +271,22 @@ pub day-after-inside : (day length : ℕ) → 1 ≤ day → day ≤ length → (
 unfolding dayAfter
 day-after-inside day length a b = by-test (eqb day length) (λ y. rw y (omega arith)) (λ m. let n = eqb-false day length m in rw m (omega arith))
 
+-- ---- the day after which day 1 comes
+
+turn-x : (f : Format) (length : ℕ) → isX f ≡ true → turnDay f length ≡ 1
+unfolding turnDay
+turn-x f length x = rw x
+
+pub turn-length : (f : Format) (length : ℕ) → isX f ≡ false → turnDay f length ≡ length
+unfolding turnDay
+turn-length f length n = rw n
+
+pub turn-range : (f : Format) (length : ℕ) → 1 ≤ length → (1 ≤ turnDay f length) × (turnDay f length ≤ length)
+turn-range f length h = by-test (isX f) (λ x. omega (arith, turn-x f length x)) (λ n. omega (arith, turn-length f length n))
+
+pub in-turn : (f : Format) (t : Time) (length : ℕ) → OnFormat f t → t .day ≤ length → t .day ≤ turnDay f length
+in-turn f t length o h = by-test (isX f) (λ x. omega (arith, only-day f t o x, turn-x f length x)) (λ n. omega (arith, turn-length f length n))
+
 -- a step goes to the next frame of the day, or from the day's last frame to the day after
 abbrev pub Lands : Format → Time → ℕ → ℕ → Time → Type 0
 Lands f t length kind u = ((sameDay f t ≡ u) × (t .hundredths + interval f < dayEnd f kind)) ⊎ ((nextDay f t length ≡ u) × (t .hundredths + interval f ≡ dayEnd f kind))
@@ -299,23 +317,29 @@ next-year-carried f t length h =
     rw e (year-carried f (yearAfter (t .year)) (λ c. year-after-carried f (t .year) y (year-small f (t .year) h y)) (λ m. clash y m)))
     (λ n. rw n h)
 
-same-year : (f : Format) (t : Time) (length : ℕ) → eqb (t .day) length ≡ false → yearOfDayAfter f t length ≡ t .year
+same-year : (f : Format) (t : Time) (length : ℕ) → eqb (t .day) (turnDay f length) ≡ false → yearOfDayAfter f t length ≡ t .year
 unfolding yearOfDayAfter
-same-year f t length n = by-test (carriesYear f) (λ y. rw (y, n)) (λ m. rw m)
-
--- a day within the length of the year is one that the year has
-pub within-last : (f : Format) (year length day : ℕ) → OfYear f year length → day ≤ length → length ≤ lastDay → day ≤ lastDayIn f year
-within-last f year length day l a b =
+same-year f t length n =
     by-test (carriesYear f)
-    (λ y. omega (arith, last-known f year y, l y))
-    (λ m. omega (arith, last-unknown f year m))
+    (λ y. let other : eqb (t .day) length ≡ false = rw (turn-length f length (year-not-x f y)) at n in rw (y, other))
+    (λ m. rw m)
 
-next-in-year : (f : Format) (t : Time) (length : ℕ) → OfYear f (t .year) length → t .day ≤ length → length ≤ lastDay → dayAfter (t .day) length ≤ lastDayIn f (yearOfDayAfter f t length)
+-- a day before which no day 1 comes is one that the year has
+pub within-last : (f : Format) (year length day : ℕ) → OfYear f year length → day ≤ turnDay f length → length ≤ lastDay → day ≤ lastDayIn f year
+within-last f year length day l a b =
+    by-test (isX f)
+    (λ x. omega (arith, turn-x f length x, last-x f year x))
+    (λ n.
+    by-test (carriesYear f)
+    (λ y. omega (arith, turn-length f length n, last-known f year y, l y))
+    (λ m. omega (arith, turn-length f length n, last-unknown f year n m)))
+
+next-in-year : (f : Format) (t : Time) (length : ℕ) → OfYear f (t .year) length → t .day ≤ turnDay f length → length ≤ lastDay → dayAfter (t .day) (turnDay f length) ≤ lastDayIn f (yearOfDayAfter f t length)
 unfolding dayAfter
 next-in-year f t length l a b =
-    by-test (eqb (t .day) length)
+    by-test (eqb (t .day) (turnDay f length))
     (λ e. rw e (omega (arith, last-range f (yearOfDayAfter f t length))))
-    (λ n. let d = eqb-false (t .day) length n in rw (n, same-year f t length n) (within-last f (t .year) length (t .day + 1) l (omega arith) b))
+    (λ n. let d = eqb-false (t .day) (turnDay f length) n in rw (n, same-year f t length n) (within-last f (t .year) length (t .day + 1) l (omega arith) b))
 
 landed-on : (f : Format) (t : Time) (length kind : ℕ) (u : Time) → OfYear f (t .year) length → Went f t length kind (following f t length kind) u → Lands f t length kind u → OnFormat f u
 landed-on f t length kind u l w (inl p) =
@@ -331,14 +355,15 @@ landed-on f t length kind u l w (inl p) =
       carried = λ m. omega (arith, p .1, usual-end f kind m);
     })
 landed-on f t length kind u l w (inr p) =
-    let d = day-after-inside (t .day) length (w .from .first) (w .inside) in
+    let turn = in-turn f t length (w .from) (w .inside) in
+    let d = day-after-inside (t .day) (turnDay f length) (w .from .first) turn in
     let r = year-range length (w .length-is) in
     subst (OnFormat f) (p .0)
     (record {
       year-is = next-year-carried f t length (w .from .year-is);
       first = d .0;
-      in-year = next-in-year f t length l (w .inside) (r .1);
-      last = omega (arith, d .1, r .1);
+      in-year = next-in-year f t length l turn (r .1);
+      last = omega (arith, d .1, r .1, turn-range f length (r .0));
       below = omega arith;
       grid = zero-mod (interval f);
       carried = λ m. omega arith;
@@ -363,15 +388,18 @@ alike-back f u v (inr (inl p)) = inr (inr p)
 alike-back f u v (inr (inr p)) = inr (inl p)
 
 both-lengths : (f : Format) (t : Time) → carriesYear f ≡ false → t .day ≤ 365 → Alike f (nextDay f t 365) (nextDay f t 366)
-unfolding dayAfter yearOfDayAfter
+unfolding dayAfter turnDay yearOfDayAfter
 both-lengths f t k h =
+    by-test (isX f)
+    (λ x. rw (k, x) (inl refl))
+    (λ w.
     by-test (eqb (t .day) 365)
     (λ y.
     let p = eqb-true (t .day) 365 y in
-    rw (k, y, ne-eqb (t .day) 366 (λ q. omega arith)) (inr (inl (inl (record { new-year = refl; new-midnight = refl; leap-day = omega arith; leap-midnight = refl })))))
+    rw (k, w, y, ne-eqb (t .day) 366 (λ q. omega arith)) (inr (inl (inl (record { new-year = refl; new-midnight = refl; leap-day = omega arith; leap-midnight = refl })))))
     (λ m.
     let n = eqb-false (t .day) 365 m in
-    rw (k, m, ne-eqb (t .day) 366 (λ q. omega arith)) (inl refl))
+    rw (k, w, m, ne-eqb (t .day) 366 (λ q. omega arith)) (inl refl)))
 
 unknown-lengths : (f : Format) (t : Time) → carriesYear f ≡ false → (y z : ℕ) → (y ≡ 365) ⊎ (y ≡ 366) → (z ≡ 365) ⊎ (z ≡ 366) → t .day ≤ y → t .day ≤ z → Alike f (nextDay f t y) (nextDay f t z)
 unknown-lengths f t m y z (inl p) (inl q) h k = inl (ap (nextDay f t) (p ∙ sym q))

@@ -16,9 +16,10 @@ use Rattle.timecode.specs.Laws.Checks.{quiet-no-report}
 use Rattle.timecode.specs.Laws.Damage.{Near, no-false-time, intact}
 use Rattle.timecode.specs.Laws.Generators.{length-elements, element-small}
 use Rattle.timecode.specs.Laws.Machine.{answer-long, answer-short, answer-quiet, answer-at}
+use Rattle.timecode.specs.Laws.Marks.{size-positive}
 use Rattle.timecode.specs.Laws.Tests.{by-test, clash, and-left, neither-first, neither-second}
 use Rattle.timecode.specs.Laws.Windows.{window-long, window-confirmed, confirmed-window}
-use Rattle.timecode.specs.Stream.{windowLength, lastOf, plainAnswer, plainAnswers, ReplacedAt, placesWithin}
+use Rattle.timecode.specs.Stream.{lead, windowLength, lastOf, plainAnswer, plainAnswers, ReplacedAt, placesWithin}
 use Rattle.timecode.specs.declared.Answer.{Answer}
 use Rattle.timecode.specs.declared.Answer.the-variants.{Quiet, Report}
 use Rattle.timecode.specs.declared.Format.{Format}
@@ -138,7 +139,7 @@ module _ (f : Format) (m : ℕ) (sent : List Sent) (gen : Generator f sent) (sta
       go : Dec (windowLength f (suc m) ≤ e) → EndsFrame f sent (start + e) t
       go (no c) = quiet-no-report t w (sym (answer-short f (suc m) (take e stream) (omega (arith, n))) ∙ r)
       go (yes c) =
-          let ends = part-report f m sent gen start places [] (take e stream) (first-part e (omega (arith, window-long f m)) b) (omega (arith, n)) (rw n few) (rw n less) t w r in
+          let ends = part-report f m sent gen start places [] (take e stream) (first-part e (omega (arith, window-long f m, size-positive f)) b) (omega (arith, n)) (rw n few) (rw n less) t w r in
           record { frame = ends .frame; inside = ends .inside; whole = omega (arith, ends .whole, n); time = ends .time }
 
 -- an undamaged stream
@@ -172,26 +173,27 @@ module _ (f : Format) (m : ℕ) (sent : List Sent) (gen : Generator f sent) (sta
       answer-is
       ∙ part-intact f m sent gen start [] [] (take (suc i) stream) (first-part f m sent gen start [] stream (none-replaced stream) (suc i) (omega arith) (omega arith)) (omega (arith, so-far)) (λ j h. refl) q (omega (arith, so-far))
 
--- ---- joining an undamaged stream
+-- ---- joining an undamaged stream: frame q is the first that is received whole, its lead before it
 
-pub first-report : (f : Format) (m : ℕ) (sent : List Sent) → Generator f sent → (q i : ℕ) → i < size f → suc q + m < length sent → (none : Answer)
-    → ((j : ℕ) → suc j < suc (suc m) * size f - i → getD (plainAnswers f (suc m) [] (drop (size f * q + i) (elements f sent))) j none ≡ Quiet)
-    × (getD (plainAnswers f (suc m) [] (drop (size f * q + i) (elements f sent))) (suc (suc m) * size f - i - 1) none ≡ Report (sentAt sent (suc q + m) .time) (sentAt sent (suc q + m) .control))
+pub first-report : (f : Format) (m : ℕ) (sent : List Sent) → Generator f sent → (start q : ℕ) → start + lead f ≤ size f * q → size f * q < start + lead f + size f → q + m < length sent → (none : Answer)
+    → ((j : ℕ) → suc j < size f * suc (q + m) - start → getD (plainAnswers f (suc m) [] (drop start (elements f sent))) j none ≡ Quiet)
+    × (getD (plainAnswers f (suc m) [] (drop start (elements f sent))) (size f * suc (q + m) - start - 1) none ≡ Report (sentAt sent (q + m) .time) (sentAt sent (q + m) .control))
 unfolding windowLength
-first-report f m sent gen q i h b none =
-    let whole : size f * suc (suc q + m) ≤ size f * length sent = mul-le-mul-left (size f) b in
+first-report f m sent gen start q a c b none =
+    let whole : size f * suc (q + m) ≤ size f * length sent = mul-le-mul-left (size f) b in
+    let n = size-positive f in
     let e : length (elements f sent) ≡ size f * length sent = length-elements f sent in
-    let l : length (drop (size f * q + i) (elements f sent)) ≡ length (elements f sent) - (size f * q + i) = length-drop (size f * q + i) (elements f sent) in (
-      λ j c. quiet j c (omega arith) (decLe (windowLength f (suc m)) (suc j)),
-      at-end f m sent gen (size f * q + i) none (suc (suc m) * size f - i - 1) (omega arith) (omega arith) (suc q) (omega arith),
+    let l : length (drop start (elements f sent)) ≡ length (elements f sent) - start = length-drop start (elements f sent) in (
+      λ j d. quiet j d (omega arith) (decLe (windowLength f (suc m)) (suc j)),
+      at-end f m sent gen start none (size f * suc (q + m) - start - 1) (omega arith) (omega arith) q (omega arith),
     )
   where
-    quiet : (j : ℕ) → suc j < suc (suc m) * size f - i → j < length (drop (size f * q + i) (elements f sent)) → Dec (windowLength f (suc m) ≤ suc j)
-        → getD (plainAnswers f (suc m) [] (drop (size f * q + i) (elements f sent))) j none ≡ Quiet
-    quiet j c k (no z) = early f m sent gen (size f * q + i) none j k (omega arith)
-    quiet j c k (yes z) =
-        between f m sent gen (size f * q + i) none j k
-        (λ p a.
-        let u : suc q + m < suc p = lt-of-mul-lt-mul-left (size f) (omega arith) in
-        let v : suc p < suc (suc q + m) = lt-of-mul-lt-mul-left (size f) (omega arith) in
+    quiet : (j : ℕ) → suc j < size f * suc (q + m) - start → j < length (drop start (elements f sent)) → Dec (windowLength f (suc m) ≤ suc j)
+        → getD (plainAnswers f (suc m) [] (drop start (elements f sent))) j none ≡ Quiet
+    quiet j d k (no z) = early f m sent gen start none j k (omega arith)
+    quiet j d k (yes z) =
+        between f m sent gen start none j k
+        (λ p u.
+        let x : q + m < suc p = lt-of-mul-lt-mul-left (size f) (omega arith) in
+        let y : suc p < suc (q + m) = lt-of-mul-lt-mul-left (size f) (omega arith) in
         omega arith)

@@ -6,11 +6,11 @@ use Prim.Native.Nat.{ℕ, _/_, _%_, _≤_, _<_}
 use native.Mathlib.Omega.{arith}
 use borrow.Author.Tests.{leb-true, ltb-true, eqb-true, le-leb, lt-ltb, eq-eqb}
 use lib.Dec.{leb, eqb}
-use Rattle.timecode.specs.Formats.{table, lookUp, rowOf, known, interval, carriesYear, lastYear, daysIn, yearCarried, lastDayIn, lastDay, lastHundredth, dayLength, inRange, onFormat, carriesLeap, secondCarried, OnFormat}
+use Rattle.timecode.specs.Formats.{isX, table, lookUp, rowOf, known, interval, carriesYear, lastYear, daysIn, yearCarried, lastDayIn, lastDay, lastHundredth, dayLength, inRange, onFormat, carriesLeap, secondCarried, OnFormat}
 use Rattle.timecode.specs.Frames.{sameTime, timeIn}
-use Rattle.timecode.specs.Laws.Table.{by-letter}
+use Rattle.timecode.specs.Laws.Table.{year-not-x, by-letter}
 use Rattle.timecode.specs.Laws.Tests.{by-test, and-left, and-right}
-use Rattle.timecode.specs.Layout.{seconds, minutes, hours, days, tenths, hundredthsDigit, timeFields, flatten, addedIn, second, minute, hour, timeNumbers, allDigits, Small, decode}
+use Rattle.timecode.specs.Layout.{dayCarried, seconds, minutes, hours, days, tenths, hundredthsDigit, timeFields, flatten, addedIn, second, minute, hour, timeNumbers, allDigits, Small, decode}
 use Rattle.timecode.specs.declared.Format.{Format}
 use Rattle.timecode.specs.declared.Time.{Time}
 
@@ -41,9 +41,12 @@ pub days-range : (year : ℕ) → (365 ≤ daysIn year) × (daysIn year ≤ last
 unfolding daysIn
 days-range year = by-test (eqb (year % 4) 0) (λ y. rw y (omega arith)) (λ m. rw m (omega arith))
 
-pub last-range : (f : Format) (year : ℕ) → (365 ≤ lastDayIn f year) × (lastDayIn f year ≤ lastDay)
+pub last-range : (f : Format) (year : ℕ) → (1 ≤ lastDayIn f year) × (lastDayIn f year ≤ lastDay)
 unfolding lastDayIn
-last-range f year = by-test (carriesYear f) (λ y. rw y (days-range year)) (λ m. rw m (omega arith))
+last-range f year =
+    by-test (isX f)
+    (λ x. rw x (omega arith))
+    (λ n. by-test (carriesYear f) (λ y. rw (n, y) (omega (arith, days-range year))) (λ m. rw (n, m) (omega arith)))
 
 -- number 2 passes a day that the year has
 pub day-in-year : (f : Format) (t : Time) → onFormat f t ≡ true → t .day ≤ lastDayIn f (t .year)
@@ -95,14 +98,31 @@ year-carried f year a b = by-test (carriesYear f) (λ y. rw y (le-leb year lastY
 pub year-below : (f : Format) (year : ℕ) → yearCarried f year ≡ true → year ≤ lastYear
 year-below f year h = by-test (carriesYear f) (year-small f year h) (λ m. omega (arith, year-none f year h m))
 
--- the year's last day where the format carries it, and where it does not
+-- the year's last day where the format carries the year, where it does not, and in X
 pub last-known : (f : Format) (year : ℕ) → carriesYear f ≡ true → lastDayIn f year ≡ daysIn year
 unfolding lastDayIn
-last-known f year y = rw y
+last-known f year y = rw (year-not-x f y, y)
 
-pub last-unknown : (f : Format) (year : ℕ) → carriesYear f ≡ false → lastDayIn f year ≡ lastDay
+pub last-unknown : (f : Format) (year : ℕ) → isX f ≡ false → carriesYear f ≡ false → lastDayIn f year ≡ lastDay
 unfolding lastDayIn
-last-unknown f year m = rw m
+last-unknown f year n m = rw (n, m)
+
+pub last-x : (f : Format) (year : ℕ) → isX f ≡ true → lastDayIn f year ≡ 1
+unfolding lastDayIn
+last-x f year x = rw x
+
+-- the one day of X
+pub only-day : (f : Format) (t : Time) → OnFormat f t → isX f ≡ true → t .day ≡ 1
+only-day f t o x = omega (arith, o .first, o .in-year, last-x f (t .year) x)
+
+-- the day in the digits
+pub carried-day : (f : Format) (t : Time) → isX f ≡ false → dayCarried f t ≡ t .day
+unfolding dayCarried
+carried-day f t n = rw n
+
+pub carried-small : (f : Format) (t : Time) → dayCarried f t ≤ t .day
+unfolding dayCarried
+carried-small f t = by-test (isX f) (λ x. rw x (omega arith)) (λ n. rw n (omega arith))
 
 -- ---- digits
 
@@ -121,27 +141,28 @@ one-added c a b =
     rw (z, q) (refl, refl, refl)
 
 abbrev FitsLetter : ℕ → Type 0
-FitsLetter l = (e : ℕ) (t : Time) → OnFormat (at l e) t → Small (flatten (timeFields (at l e))) (allDigits (timeFields (at l e)) (timeNumbers t))
+FitsLetter l = (e : ℕ) (t : Time) → OnFormat (at l e) t → Small (flatten (timeFields (at l e))) (allDigits (timeFields (at l e)) (timeNumbers (at l e) t))
 
 fits : (f : Format) → known f ≡ true → FitsLetter (f .letter)
-unfolding timeFields seconds minutes hours days tenths hundredthsDigit timeNumbers interval rowOf lookUp table carriesLeap
+unfolding timeFields seconds minutes hours days tenths hundredthsDigit timeNumbers dayCarried isX interval rowOf lookUp table carriesLeap
 fits =
     by-letter FitsLetter (λ e t o. omega arith) (λ e t o. omega arith)
     (λ e t o. rw (none-added (t .hundredths) (o .carried refl) .0, none-added (t .hundredths) (o .carried refl) .1, none-added (t .hundredths) (o .carried refl) .2) (omega arith))
     (λ e t o. rw (none-added (t .hundredths) (o .carried refl) .0, none-added (t .hundredths) (o .carried refl) .1, none-added (t .hundredths) (o .carried refl) .2) (omega arith))
     (λ e t o. omega arith)
     (λ e t o. rw (none-added (t .hundredths) (o .carried refl) .0, none-added (t .hundredths) (o .carried refl) .1, none-added (t .hundredths) (o .carried refl) .2) (omega arith))
+    (λ e t o. rw (none-added (t .hundredths) (o .carried refl) .0, none-added (t .hundredths) (o .carried refl) .1, none-added (t .hundredths) (o .carried refl) .2) (omega arith))
 
 -- the digits of a time on the format fit their runs
-pub time-small : (f : Format) (t : Time) → known f ≡ true → OnFormat f t → Small (flatten (timeFields f)) (allDigits (timeFields f) (timeNumbers t))
+pub time-small : (f : Format) (t : Time) → known f ≡ true → OnFormat f t → Small (flatten (timeFields f)) (allDigits (timeFields f) (timeNumbers f t))
 time-small f t k o = fits f k (f .expression) t o
 
 abbrev Grid : ℕ → Type 0
 Grid l = (e : ℕ) (frame : List ℕ) → Small (flatten (timeFields (at l e))) (decode (flatten (timeFields (at l e))) frame) → timeIn (at l e) frame .hundredths % interval (at l e) ≡ 0
 
 grids : (f : Format) → known f ≡ true → Grid (f .letter)
-unfolding timeFields seconds minutes hours days tenths hundredthsDigit timeIn interval rowOf lookUp table
-grids = by-letter Grid (λ e frame s. omega arith) (λ e frame s. omega arith) (λ e frame s. omega arith) (λ e frame s. omega arith) (λ e frame s. omega arith) (λ e frame s. omega arith)
+unfolding timeFields seconds minutes hours days tenths hundredthsDigit timeIn isX interval rowOf lookUp table
+grids = by-letter Grid (λ e frame s. omega arith) (λ e frame s. omega arith) (λ e frame s. omega arith) (λ e frame s. omega arith) (λ e frame s. omega arith) (λ e frame s. omega arith) (λ e frame s. omega arith)
 
 -- the interval divides the hundredths that the digits say
 pub time-grid : (f : Format) (frame : List ℕ) → known f ≡ true → Small (flatten (timeFields f)) (decode (flatten (timeFields f)) frame) → timeIn f frame .hundredths % interval f ≡ 0

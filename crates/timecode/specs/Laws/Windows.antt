@@ -1,4 +1,4 @@
--- A window of a mark and m + 1 frames, each accepted and each time next after the one before: with the setting m + 1 it reports exactly then. Document 01's window is the case m = 1.
+-- A window of its lead and m + 1 frames, each accepted and each time next after the one before: with the setting m + 1 it reports exactly then. Document 01's window is the case m = 1.
 use mathlib.Core.Path.{_≡_, refl, sym, ap, ap₂, _∙_, subst, subst₂}
 use mathlib.Core.Bool.{Bool, true, false, cond}
 use mathlib.Core.List.{List}
@@ -6,14 +6,16 @@ use Prim.Native.Nat.{ℕ, zero, suc, _+_, _*_, _-_, _<_, _≤_}
 use native.Mathlib.Nat.{not-suc-le-zero, mul-le-mul-left}
 use native.Mathlib.Omega.{arith}
 use native.Mathlib.Decide.{ℕ-discrete}
-use borrow.Author.Tests.{eqb-true}
+use borrow.Author.Tests.{eqb-true, eq-eqb}
+use lib.Dec.{eqb}
 use lib.ListN.{length, getD, drop, length-drop}
 use lib.Seq.{getD-take, getD-drop, length-take-le}
-use Rattle.timecode.specs.Formats.{size}
+use Rattle.timecode.specs.Formats.{isX, size}
 use Rattle.timecode.specs.Frames.{noTime, Follows, nextAfter, readOf}
 use Rattle.timecode.specs.Laws.Checks.{quiet-no-report}
 use Rattle.timecode.specs.Laws.Marks.{size-positive, accepted-first, accepted-last}
 use Rattle.timecode.specs.Laws.Stepping.{next-follows, follows-next}
+use Rattle.timecode.specs.Laws.Tests.{by-test}
 use Rattle.timecode.specs.Stream.{twoFrames, lead, opens, windowLength, frameIn, firstInRow, nextInRow, inRow, windowAnswer, confirm}
 use Rattle.timecode.specs.declared.Answer.{Answer}
 use Rattle.timecode.specs.declared.Answer.the-variants.{Quiet, Report}
@@ -21,6 +23,27 @@ use Rattle.timecode.specs.declared.Format.{Format}
 use Rattle.timecode.specs.declared.Reading.{Reading}
 use Rattle.timecode.specs.declared.Reading.the-variants.{Accepted}
 use Rattle.timecode.specs.declared.Time.{Time}
+
+-- the marks before a frame: one, in X none
+pub lead-one : (f : Format) → isX f ≡ false → lead f ≡ 1
+unfolding lead
+lead-one f n = rw n
+
+pub lead-none : (f : Format) → isX f ≡ true → lead f ≡ 0
+unfolding lead
+lead-none f x = rw x
+
+pub lead-small : (f : Format) → lead f ≤ 1
+lead-small f = by-test (isX f) (λ x. omega (arith, lead-none f x)) (λ n. omega (arith, lead-one f n))
+
+-- a window opens with a mark, in X with anything
+pub opens-marked : (f : Format) (window : List ℕ) → isX f ≡ false → opens f window ≡ true → getD window 0 0 ≡ 2
+unfolding opens
+opens-marked f window n h = eqb-true (getD window 0 0) 2 (rw n at h)
+
+pub opens-so : (f : Format) (window : List ℕ) → (isX f ≡ false → getD window 0 0 ≡ 2) → opens f window ≡ true
+unfolding opens
+opens-so f window h = by-test (isX f) (λ x. rw x) (λ n. rw n (eq-eqb (getD window 0 0) 2 (h n)))
 
 -- the symbols of the lead and m + 1 frames
 abbrev pub long : Format → ℕ → ℕ
@@ -204,7 +227,7 @@ pub at-frame : (f : Format) (window : List ℕ) (j i : ℕ) → i < size f → g
 unfolding frameIn
 at-frame f window j i h = getD-take (size f) (drop (lead f + size f * j) window) i 0 h ∙ getD-drop (lead f + size f * j) window i 0
 
--- ---- a confirmed window has pairs of marks at n j, n j + 1
+-- ---- the marks of a confirmed window: each frame begins with one, and but in X pairs stand at n j, n j + 1
 
 module _ (f : Format) (m : ℕ) (window : List ℕ) (t : Time) (w : ℕ) (c : Confirmed f m window t w) where
   pub first-of : (j : ℕ) → j ≤ m → getD window (lead f + size f * j) 0 ≡ 2
@@ -212,11 +235,11 @@ module _ (f : Format) (m : ℕ) (window : List ℕ) (t : Time) (w : ℕ) (c : Co
       let u : lead f + size f * j + 0 ≡ lead f + size f * j = omega arith in
       rw u at (sym (at-frame f window j 0 (size-positive f)) ∙ accepted-first f (frameIn f window j) (c .times j) (c .controls j) (c .reads j b))
 
-  pub last-of : (j : ℕ) → j ≤ m → getD window (size f * suc j) 0 ≡ 2
-  last-of j b =
-      let u : lead f + size f * j + (size f - 1) ≡ size f * suc j = omega (arith, size-positive f) in
-      rw u at (sym (at-frame f window j (size f - 1) (omega (arith, size-positive f))) ∙ accepted-last f (frameIn f window j) (c .times j) (c .controls j) (c .reads j b))
+  pub last-of : isX f ≡ false → (j : ℕ) → j ≤ m → getD window (size f * suc j) 0 ≡ 2
+  last-of n j b =
+      let u : lead f + size f * j + (size f - 1) ≡ size f * suc j = omega (arith, size-positive f, lead-one f n) in
+      rw u at (sym (at-frame f window j (size f - 1) (omega (arith, size-positive f))) ∙ accepted-last f (frameIn f window j) (c .times j) (c .controls j) n (c .reads j b))
 
-  pub before-of : (j : ℕ) → j ≤ m → getD window (size f * j) 0 ≡ 2
-  before-of zero b = let u : 0 ≡ size f * 0 = omega arith in subst (λ (k : ℕ). getD window k 0 ≡ 2) u (eqb-true (getD window 0 0) 2 (c .begins))
-  before-of (suc j) b = last-of j (omega arith)
+  pub before-of : isX f ≡ false → (j : ℕ) → j ≤ m → getD window (size f * j) 0 ≡ 2
+  before-of n zero b = let u : 0 ≡ size f * 0 = omega arith in subst (λ (k : ℕ). getD window k 0 ≡ 2) u (opens-marked f window n (c .begins))
+  before-of n (suc j) b = last-of n j (omega arith)

@@ -9,16 +9,16 @@ use native.Mathlib.Decide.{decLt}
 use borrow.Author.Tests.{ltb-true, eqb-true, lt-ltb, le-leb, eq-eqb}
 use lib.Dec.{leb, ltb, eqb}
 use lib.ListN.{length}
-use Rattle.timecode.specs.Formats.{known, size, carriesYear, yearCarried, lastDayIn, lastHundredth, dayLength, onFormat, carriesLeap, secondCarried, OnFormat}
-use Rattle.timecode.specs.Frames.{totalWidth, controlFits, written, writeOf, writeLeaves, areSymbols, areDigits, lastSecond, isTime, timeIn, secondsAgree, readOf, Valid}
+use Rattle.timecode.specs.Formats.{isX, known, size, carriesYear, yearCarried, lastDayIn, lastHundredth, dayLength, onFormat, carriesLeap, secondCarried, OnFormat}
+use Rattle.timecode.specs.Frames.{totalWidth, controlFits, written, writeOf, writeLeaves, areSymbols, areDigits, lastSecond, dayIn, isTime, timeIn, secondsAgree, readOf, Valid}
 use Rattle.timecode.specs.Laws.Checks.{passed, passes, done}
 use Rattle.timecode.specs.Laws.Fields.{Each, fields-apart, fields-together, number-back, AreDigits, digits-are, binary-positive, binary-capacity, binary-small}
 use Rattle.timecode.specs.Laws.Reading.{elements-pass, straight-binary, control-binary, straight-wide}
 use Rattle.timecode.specs.Laws.Runs.{length-encode, small-length, small-append, decode-encode, encode-clean}
 use Rattle.timecode.specs.Laws.Table.{layout-proper}
 use Rattle.timecode.specs.Laws.Tests.{by-test}
-use Rattle.timecode.specs.Laws.Times.{time-path, on-format, is-on-format, is-carried, year-small, year-none, year-below, one-added, time-small}
-use Rattle.timecode.specs.Layout.{Run, seconds, minutes, hours, days, tenths, hundredthsDigit, hasSeconds, straightSeconds, control, years, timeFields, fields, flatten, runs, second, minute, hour, timeNumbers, numbers, fieldDigits, allDigits, inRun, isMark, filler, symbolAt, tabulate, encode, numberIn, Small, decode}
+use Rattle.timecode.specs.Laws.Times.{only-day, carried-day, carried-small, time-path, on-format, is-on-format, is-carried, year-small, year-none, year-below, one-added, time-small}
+use Rattle.timecode.specs.Layout.{Run, dayCarried, seconds, minutes, hours, days, tenths, hundredthsDigit, hasSeconds, straightSeconds, control, years, timeFields, fields, flatten, runs, second, minute, hour, timeNumbers, numbers, fieldDigits, allDigits, inRun, isMark, filler, symbolAt, tabulate, encode, numberIn, Small, decode}
 use Rattle.timecode.specs.declared.Format.{Format}
 use Rattle.timecode.specs.declared.Reading.{Reading}
 use Rattle.timecode.specs.declared.Reading.the-variants.{Accepted}
@@ -31,7 +31,10 @@ use Rattle.timecode.specs.declared.Written.the-variants.{Done}
 
 filler-symbol : (f : Format) (i : ℕ) → filler f i ≤ 3
 unfolding filler
-filler-symbol f i = by-test (isMark i) (λ y. rw y (omega arith)) (λ m. rw m (omega arith))
+filler-symbol f i =
+    by-test (isX f)
+    (λ x. by-test (eqb i 0) (λ y. rw (x, y) (omega arith)) (λ m. rw (x, m) (omega arith)))
+    (λ n. by-test (isMark i) (λ y. rw (n, y) (omega arith)) (λ m. rw (n, m) (omega arith)))
 
 pub symbol-small : (f : Format) (rs : List Run) (xs : List ℕ) (i : ℕ) → symbolAt (filler f) rs xs i ≤ 3
 unfolding symbolAt
@@ -45,11 +48,11 @@ symbols-tabulate (suc n) i g h = rw (le-leb (g i) 3 (h i)) (symbols-tabulate n (
 
 pub length-written : (f : Format) (t : Time) (w : ℕ) → length (written f t w) ≡ size f
 unfolding written
-length-written f t w = length-encode (size f) (filler f) (runs f) (allDigits (fields f) (numbers t w))
+length-written f t w = length-encode (size f) (filler f) (runs f) (allDigits (fields f) (numbers f t w))
 
 pub written-symbols : (f : Format) (t : Time) (w : ℕ) → areSymbols (written f t w) ≡ true
 unfolding written encode
-written-symbols f t w = symbols-tabulate (size f) 0 (symbolAt (filler f) (runs f) (allDigits (fields f) (numbers t w))) (symbol-small f (runs f) (allDigits (fields f) (numbers t w)))
+written-symbols f t w = symbols-tabulate (size f) 0 (symbolAt (filler f) (runs f) (allDigits (fields f) (numbers f t w))) (symbol-small f (runs f) (allDigits (fields f) (numbers f t w)))
 
 -- the year's digits fit their runs
 pub years-small : (f : Format) (t : Time) → OnFormat f t → Small (years f) (fieldDigits (years f) (t .year))
@@ -59,7 +62,7 @@ years-small f t o =
     (λ y. rw y (omega (arith, year-small f (t .year) (o .year-is) y)))
     (λ m. rw (m, year-none f (t .year) (o .year-is) m) (omega arith))
 
-time-digits : (f : Format) (t : Time) → AreDigits (allDigits (timeFields f ++ (years f ∷ [])) (timeNumbers t ++ (t .year ∷ [])))
+time-digits : (f : Format) (t : Time) → AreDigits (allDigits (timeFields f ++ (years f ∷ [])) (timeNumbers f t ++ (t .year ∷ [])))
 unfolding timeFields timeNumbers seconds minutes hours days tenths hundredthsDigit years
 time-digits f t = omega arith
 
@@ -83,18 +86,18 @@ module _ (f : Format) (t : Time) (w : ℕ) (v : Valid f t w) where
   abbrev frame : List ℕ
   frame = written f t w
 
-  pub written-small : Small (runs f) (allDigits (fields f) (numbers t w))
+  pub written-small : Small (runs f) (allDigits (fields f) (numbers f t w))
   unfolding runs fields timeFields numbers timeNumbers seconds minutes hours days tenths hundredthsDigit
   written-small =
-      small-append (flatten (timeFields f)) (straightSeconds f ++ (control f ++ (years f ++ []))) (allDigits (timeFields f) (timeNumbers t)) (fieldDigits (straightSeconds f) (t .hundredths / 100) ++ (fieldDigits (control f) w ++ (fieldDigits (years f) (t .year) ++ [])))
+      small-append (flatten (timeFields f)) (straightSeconds f ++ (control f ++ (years f ++ []))) (allDigits (timeFields f) (timeNumbers f t)) (fieldDigits (straightSeconds f) (t .hundredths / 100) ++ (fieldDigits (control f) w ++ (fieldDigits (years f) (t .year) ++ [])))
       (time-small f t (v .format) (v .time))
       (small-append (straightSeconds f) (control f ++ (years f ++ [])) (fieldDigits (straightSeconds f) (t .hundredths / 100)) (fieldDigits (control f) w ++ (fieldDigits (years f) (t .year) ++ [])) (binary-small (straightSeconds f) (t .hundredths / 100) (straight-binary f))
       (small-append (control f) (years f ++ []) (fieldDigits (control f) w) (fieldDigits (years f) (t .year) ++ []) (binary-small (control f) w (control-binary f))
       (small-append (years f) [] (fieldDigits (years f) (t .year)) [] (years-small f t (v .time)) tt)))
 
-  decoded : Each (λ d x. decode d frame ≡ fieldDigits d x) (fields f) (numbers t w)
+  decoded : Each (λ d x. decode d frame ≡ fieldDigits d x) (fields f) (numbers f t w)
   unfolding written fields timeFields numbers timeNumbers runs
-  decoded = fields-apart frame (fields f) (numbers t w) refl (decode-encode (size f) (filler f) (runs f) (allDigits (fields f) (numbers t w)) (layout-proper f (v .format)) written-small)
+  decoded = fields-apart frame (fields f) (numbers f t w) refl (decode-encode (size f) (filler f) (runs f) (allDigits (fields f) (numbers f t w)) (layout-proper f (v .format)) written-small)
 
   second-back : numberIn frame (seconds f) ≡ second (t .hundredths)
   unfolding fields timeFields numbers timeNumbers seconds
@@ -108,9 +111,13 @@ module _ (f : Format) (t : Time) (w : ℕ) (v : Valid f t w) where
   unfolding fields timeFields numbers timeNumbers hours
   hour-back = number-back frame (hours f) (hour (t .hundredths)) (omega arith) (omega (arith, v .time .below)) (decoded .1 .1 .0)
 
-  day-back : numberIn frame (days f) ≡ t .day
+  days-back : numberIn frame (days f) ≡ dayCarried f t
   unfolding fields timeFields numbers timeNumbers days
-  day-back = number-back frame (days f) (t .day) (omega arith) (omega (arith, v .time .last)) (decoded .1 .1 .1 .0)
+  days-back = number-back frame (days f) (dayCarried f t) (omega arith) (omega (arith, v .time .last, carried-small f t)) (decoded .1 .1 .1 .0)
+
+  day-back : dayIn f frame ≡ t .day
+  unfolding dayIn
+  day-back = by-test (isX f) (λ x. rw x (sym (only-day f t (v .time) x))) (λ n. rw n (days-back ∙ carried-day f t n))
 
   tenth-back : numberIn frame (tenths f) ≡ t .hundredths / 10 % 10
   unfolding fields timeFields numbers timeNumbers tenths
@@ -141,10 +148,10 @@ module _ (f : Format) (t : Time) (w : ℕ) (v : Valid f t w) where
       clock-back : ((numberIn frame (hours f) * 60 + numberIn frame (minutes f)) * 60 + numberIn frame (seconds f)) * 100 + numberIn frame (tenths f) * 10 + numberIn frame (hundredthsDigit f) ≡ t .hundredths
       clock-back = rw (hour-back, minute-back, second-back, tenth-back, hundredth-back) (omega (arith, v .time .below))
 
-  time-decoded : allDigits (timeFields f ++ (years f ∷ [])) (timeNumbers t ++ (t .year ∷ [])) ≡ decode (flatten (timeFields f) ++ years f) frame
+  time-decoded : allDigits (timeFields f ++ (years f ∷ [])) (timeNumbers f t ++ (t .year ∷ [])) ≡ decode (flatten (timeFields f) ++ years f) frame
   unfolding fields timeFields numbers timeNumbers seconds minutes hours days tenths hundredthsDigit years
   time-decoded =
-      fields-together frame (timeFields f ++ (years f ∷ [])) (timeNumbers t ++ (t .year ∷ []))
+      fields-together frame (timeFields f ++ (years f ∷ [])) (timeNumbers f t ++ (t .year ∷ []))
       (sym (decoded .0), (sym (decoded .1 .0), (sym (decoded .1 .1 .0), (sym (decoded .1 .1 .1 .0), (sym (decoded .1 .1 .1 .1 .0), (sym (decoded .1 .1 .1 .1 .1 .0), (sym (decoded .1 .1 .1 .1 .1 .1 .1 .1 .0), tt)))))))
 
   digits-pass : areDigits frame (flatten (timeFields f) ++ years f) ≡ true
@@ -180,7 +187,7 @@ module _ (f : Format) (t : Time) (w : ℕ) (v : Valid f t w) where
       passes Reading.Refused UnknownFormat (known f) _ (v .format)
       ∙ passes Reading.Refused WrongLength (eqb (length frame) (size f)) _ (eq-eqb (length frame) (size f) (length-written f t w))
       ∙ passes Reading.Refused UnknownSymbol (areSymbols frame) _ (written-symbols f t w)
-      ∙ elements-pass (filler f) (runs f) frame 0 _ (λ i h. rw (zero-add i) (encode-clean (size f) (filler f) (runs f) (allDigits (fields f) (numbers t w)) (small-length (runs f) (allDigits (fields f) (numbers t w)) written-small) i (rw (length-written f t w) at h)))
+      ∙ elements-pass (filler f) (runs f) frame 0 _ (λ i h. rw (zero-add i) (encode-clean (size f) (filler f) (runs f) (allDigits (fields f) (numbers f t w)) (small-length (runs f) (allDigits (fields f) (numbers f t w)) written-small) i (rw (length-written f t w) at h)))
       ∙ passes Reading.Refused InvalidDigit (isTime f frame) _ time-passes
       ∙ passes Reading.Refused SecondsDiffer (secondsAgree f frame) _ seconds-pass
       ∙ ap₂ Accepted time-back control-back
