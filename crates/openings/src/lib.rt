@@ -30,11 +30,14 @@ fn place_if(here: bool, place: u8) -> u8
     255
 }
 
-// A mark directly after a mark begins a frame, in every format.
+// A mark directly after a mark begins a frame, in X any mark.
 fn is_opening(format: Format, last: u8, symbol: u8) -> bool
     ensures { λ r. ⌜ r ≡ opensFrame format last symbol ⌝ }
 {
     if symbol == MARK {
+        if format.letter == b'X' {
+            return true;
+        }
         return last == MARK;
     }
     false

@@ -29,11 +29,14 @@ pub fn push(word: u64, symbol: u8) -> u64
     (word % OLDEST) * 4 + (symbol % 4) as u64
 }
 
-// A mark directly after a mark begins a frame, in every format.
+// A mark directly after a mark begins a frame, in X any mark. The letter is asked only where a mark came.
 pub fn opens_frame(format: Format, newest: u64, symbol: u8) -> bool
     ensures { λ r. ⌜ r ≡ opensFrame format (newest % 4) symbol ⌝ }
 {
     if symbol == MARK {
+        if format.letter == b'X' {
+            return true;
+        }
         return newest % 4 == MARK as u64;
     }
     false
