@@ -1,12 +1,20 @@
 // Days and years: how long a year is, which year a format takes, and the day and the year after and before.
-// The calls here are the clock's and the frame's own; they take whether a format carries the year.
+// The calls here are the clock's and the frame's own; they take whether a format carries the year, and whether it is X.
 ghost use mathlib.Core.Path.{_≡_};
 ghost use mathlib.Core.Bool.{cond};
 ghost use Prim.Native.Nat.{_≤_};
-ghost use Rattle.timecode.specs.Formats.{carriesYear, daysIn, lastDay, yearCarried};
+ghost use Rattle.timecode.specs.Formats.{carriesYear, daysIn, isX, lastDay, yearCarried};
 ghost use Rattle.timecode.specs.Frames.{lengthIn, dayAfter, yearAfter, yearOfDayAfter, dayBefore, yearBefore, yearOfTimeBefore};
 ghost use Rattle.timecode.specs.declared.Format.{Format};
+use timecode::Format;
 use timecode::Time;
+
+// Letter X, the XR3 code: its time has day 1 always.
+pub fn is_x(format: Format) -> bool
+    ensures { λ r. ⌜ r ≡ isX format ⌝ }
+{
+    format.letter == b'X'
+}
 
 // Every fourth year from 2000 has 366 days.
 fn days_in(year: u8) -> u16
@@ -36,6 +44,16 @@ pub fn last_day_in(carried: bool, year: u8) -> u16
         return days_in(year);
     }
     Time::LAST_DAY
+}
+
+// The last day, after which day 1 comes: in X day 1 itself, and else the one that is given.
+pub fn turn_day(x: bool, last: u16) -> u16
+    ensures { λ r. ⌜ r ≡ cond x 1 last ⌝ }
+{
+    if x {
+        return Time::FIRST_DAY;
+    }
+    last
 }
 
 // The length of a year: where the format carries the year, that year's own, and else the one that is given.
