@@ -12,8 +12,10 @@ ghost use Rattle.timecode.specs.declared.Refusal.the-variants.{InvalidYearLengt
 ghost use Rattle.timecode.specs.declared.Stepped.the-variants.{To, Refused};
 use dates::day_after;
 use dates::day_before;
+use dates::is_x;
 use dates::last_day_in;
 use dates::length_in;
+use dates::turn_day;
 use dates::year_carried;
 use dates::year_of_day_after;
 use dates::year_of_time_before;
@@ -53,7 +55,7 @@ pub fn lies_on(interval: u32, last: u16, time: Time) -> bool
 fn on_format(format: Format, time: Time) -> bool
     ensures { λ r. ⌜ r ≡ onFormat format time ⌝ }
 {
-    let last = last_day_in(carries_year(format), time.year);
+    let last = turn_day(is_x(format), last_day_in(carries_year(format), time.year));
     lies_on(frame_interval(format), last, time)
 }
 
@@ -131,7 +133,7 @@ fn later(format: Format, time: Time, length: u16, kind: u8) -> Time
         };
     }
     let year = year_of_day_after(carries_year(format), time, length);
-    let day = day_after(time.day, length);
+    let day = day_after(time.day, turn_day(is_x(format), length));
     Time {
         year: year,
         day: day,
@@ -153,7 +155,7 @@ fn earlier(format: Format, time: Time, length: u16, kind: u8) -> Time
         };
     }
     let year = year_of_time_before(carries_year(format), time);
-    let day = day_before(time.day, length);
+    let day = day_before(time.day, turn_day(is_x(format), length));
     Time {
         year: year,
         day: day,
