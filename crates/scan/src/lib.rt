@@ -1,9 +1,13 @@
-// Scan: the lowest place of a recording where a frame begins after a mark.
+// Scan: the lowest place of a recording where a frame begins after a mark, in X after anything.
 ghost use mathlib.Core.Path.{_≡_};
+ghost use mathlib.Core.Bool.{cond};
 ghost use Prim.Native.Nat.{_≤_, _<_};
+ghost use lib.Dec.{leb};
 ghost use lib.ListN.{length};
-ghost use Rattle.timecode.specs.Calls.{firstPlace, scanOf};
+ghost use Rattle.timecode.specs.Calls.{scanOf};
+ghost use Rattle.timecode.specs.Stream.{lead};
 ghost use Rattle.scan.specs.Places.{marksMeet, lowestFrom};
+use dates::is_x;
 use frame::read;
 use layout::frame_size;
 use layout::is_known;
@@ -13,40 +17,51 @@ use timecode::Reading;
 use timecode::Refusal;
 use timecode::Scanned;
 
-// At least 1, so that there is an element before it, and at least the start.
-fn first_place(start: usize) -> usize
-    ensures { λ r. ⌜ (r ≡ firstPlace start) × (1 ≤ r) ⌝ }
+// So many marks are asked for before a frame: one, in X none.
+fn marks_before(format: Format) -> usize
+    ensures { λ r. ⌜ r ≡ lead format ⌝ }
 {
-    if 1 <= start {
-        return start;
+    if is_x(format) {
+        return 0;
     }
     1
 }
 
-// A mark stands at the place and before it. Every frame begins with a mark, so other places need no reading.
-fn marks_meet(recording: &[u8], place: usize) -> bool
-    requires { ⌜ (1 ≤ place) × (place < length (now recording)) ⌝ }
-    ensures { λ r. ⌜ r ≡ marksMeet (now (recording .entry)) place ⌝ }
+// At least so many, so that there is room for the marks before it, and at least the start.
+fn first_place(marks: usize, start: usize) -> usize
+    ensures { λ r. ⌜ (r ≡ cond (leb marks start) start marks) × (marks ≤ r) ⌝ }
+{
+    if marks <= start {
+        return start;
+    }
+    marks
+}
+
+// A mark stands at the place, and so many before it: in X that is the place itself. Every frame begins with a mark, so other places need no reading.
+fn marks_meet(marks: usize, recording: &[u8], place: usize) -> bool
+    requires { ⌜ (marks ≤ place) × (place < length (now recording)) ⌝ }
+    ensures { λ r. ⌜ r ≡ marksMeet marks (now (recording .entry)) place ⌝ }
 {
     if recording[place] == MARK {
-        return recording[place - 1] == MARK;
+        return recording[place - marks] == MARK;
     }
     false
 }
 
 // The lowest place from the first to the last at which a frame fits.
 fn lowest(format: Format, recording: &[u8], first: usize) -> Scanned
-    requires { ⌜ 1 ≤ first ⌝ }
+    requires { ⌜ lead format ≤ first ⌝ }
     ensures { λ r. ⌜ r ≡ lowestFrom format (now (recording .entry)) first ⌝ }
 {
     let n = frame_size(format);
     if recording.len() < n {
         return Scanned::None;
     }
+    let marks = marks_before(format);
     let last = recording.len() - n;
     let mut place = first;
     while place <= last {
-        if marks_meet(recording, place) {
+        if marks_meet(marks, recording, place) {
             let end = place + n;
             let part = &recording[place..end];
             let Reading::Accepted { time, control } = read(format, part) else {
@@ -64,13 +79,13 @@ fn lowest(format: Format, recording: &[u8], first: usize) -> Scanned
     Scanned::None
 }
 
-// Where, from the start on, the first frame begins that stands after a mark, and what it says.
+// Where, from the start on, the first frame begins that stands after a mark, in X after anything, and what it says.
 pub fn scan(format: Format, recording: &[u8], start: usize) -> Scanned
     ensures { λ r. ⌜ r ≡ scanOf format (now (recording .entry)) start ⌝ }
 {
     if is_known(format) {
         if start <= recording.len() {
-            return lowest(format, recording, first_place(start));
+            return lowest(format, recording, first_place(marks_before(format), start));
         }
         return Scanned::Refused(Refusal::StartPastEnd);
     }
