@@ -7,7 +7,7 @@ use lib.Dec.{leb, eqb}
 use lib.IntN.{ℤ}
 use lib.ListN.{getD, length}
 use Rattle.timecode.specs.Answers.{Result, writtenResult, steppedResult, subtractedResult, classifiedResult, scannedResult}
-use Rattle.timecode.specs.Calls.{isInterval, classifyOf, classifyListOf, differenceOf, found, lowestOf, scanOf, partAt, firstPlace}
+use Rattle.timecode.specs.Calls.{isInterval, classifyOf, classifyListOf, differenceOf, found, leadAt, lowestOf, scanOf, partAt, firstPlace}
 use Rattle.timecode.specs.Formats.{known, size, lastDay, yearCarried, inRange, onFormat, secondCarried}
 use Rattle.timecode.specs.Frames.{lengthIn, inYear, yearOfTimeBefore, onDay, controlFits, stepOf, stepBackOf, writeOf, readOf}
 use Rattle.timecode.specs.Laws.Tests.{by-test}
@@ -55,7 +55,7 @@ found-no-index false (Reading.Refused x) a after h = h
 lowest-no-index : (f : Format) (recording : List ℕ) (k a : ℕ) → refusedValues (scannedResult (lowestOf f recording k a)) ≡ []
 unfolding lowestOf
 lowest-no-index f recording zero a = refl
-lowest-no-index f recording (suc k) a = found-no-index (eqb (getD recording (a - 1) 0) 2) (readOf f (partAt f recording a)) a (lowestOf f recording k (suc a)) (lowest-no-index f recording k (suc a))
+lowest-no-index f recording (suc k) a = found-no-index (leadAt f recording a) (readOf f (partAt f recording a)) a (lowestOf f recording k (suc a)) (lowest-no-index f recording k (suc a))
 
 pub scan-no-index : (f : Format) (recording : List ℕ) (start : ℕ) → refusedValues (scannedResult (scanOf f recording start)) ≡ []
 unfolding scanOf
@@ -64,6 +64,6 @@ scan-no-index f recording start =
     (λ a.
     rw a
     (by-test (leb start (length recording))
-    (λ b. rw b (lowest-no-index f recording (length recording + 1 - (firstPlace start + size f)) (firstPlace start)))
+    (λ b. rw b (lowest-no-index f recording (length recording + 1 - (firstPlace f start + size f)) (firstPlace f start)))
     (λ b. rw b)))
     (λ a. rw a)
