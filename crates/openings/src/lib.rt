@@ -1,13 +1,13 @@
 // Where frames may begin among the symbols of a block, and how many of its symbols stand before the first above 3.
 // It assumes nothing of the symbols.
 ghost use mathlib.Core.Path.{_≡_};
-ghost use mathlib.Core.Bool.{true, false, cond};
+ghost use mathlib.Core.Bool.{true, false, cond, _&&_};
 ghost use Prim.Native.Nat.{ℕ, _+_, _≤_, _<_};
-ghost use lib.Dec.{ltb};
+ghost use lib.Dec.{eqb, ltb};
 ghost use lib.ListN.{getD, length};
-ghost use Rattle.following.specs.Rows.{opensFrame};
+ghost use Rattle.timecode.specs.Stream.{lead};
 ghost use Rattle.openings.specs.Accepted.{acceptedIn};
-ghost use Rattle.openings.specs.Openings.{opensAt, OpensHighest, CloseOpenings};
+ghost use Rattle.openings.specs.Openings.{opensAt, CloseOpenings, IsHighest};
 use timecode::Format;
 use timecode::MARK;
 use timecode::SPOILED;
@@ -30,15 +30,22 @@ fn place_if(here: bool, place: u8) -> u8
     255
 }
 
-// A mark directly after a mark begins a frame, in X any mark.
-fn is_opening(format: Format, last: u8, symbol: u8) -> bool
-    ensures { λ r. ⌜ r ≡ opensFrame format last symbol ⌝ }
+// So many marks are asked for before a frame: one, in X none.
+pub fn marks_before(format: Format) -> usize
+    ensures { λ r. ⌜ (r ≡ lead format) × (r ≤ 1) ⌝ }
+{
+    if format.letter == b'X' {
+        return 0;
+    }
+    1
+}
+
+// A mark after a mark begins a frame. In X any mark does: there the one so many before it is itself.
+fn is_opening(before: u8, symbol: u8) -> bool
+    ensures { λ r. ⌜ r ≡ (eqb symbol 2 && eqb before 2) ⌝ }
 {
     if symbol == MARK {
-        if format.letter == b'X' {
-            return true;
-        }
-        return last == MARK;
+        return before == MARK;
     }
     false
 }
@@ -48,11 +55,12 @@ fn lowest_opening(format: Format, symbols: &[u8], from: usize, count: usize) -> 
     requires { ⌜ (1 ≤ from) × (from + count ≤ length (now symbols)) × (count ≤ 128) ⌝ }
     ensures { λ r. ⌜ ((j : ℕ) → j < count → j < r → opensAt format (now (symbols .entry)) (from + j) ≡ false) ⌝ }
 {
+    let marks = marks_before(format);
     let mut lowest = 255;
     let mut i = 0;
     while i < count {
         let at = from + i;
-        let opens = is_opening(format, symbols[at - 1], symbols[at]);
+        let opens = is_opening(symbols[at - marks], symbols[at]);
         lowest = smaller(place_if(opens, i as u8), lowest);
         i += 1;
     }
@@ -114,13 +122,14 @@ fn higher(first: u8, second: u8) -> u8
 // The highest of some places at which a frame may begin, counted from 1, or 0: again it looks at all of them.
 fn highest_opening(format: Format, symbols: &[u8], from: usize, count: usize) -> u8
     requires { ⌜ (1 ≤ from) × (from + count ≤ length (now symbols)) × (count ≤ 128) ⌝ }
-    ensures { λ r. ⌜ OpensHighest format (now (symbols .entry)) from count r ⌝ }
+    ensures { λ r. ⌜ IsHighest (opensAt format (now (symbols .entry))) from count r ⌝ }
 {
+    let marks = marks_before(format);
     let mut highest = 0;
     let mut i = 0;
     while i < count {
         let at = from + i;
-        let opens = is_opening(format, symbols[at - 1], symbols[at]);
+        let opens = is_opening(symbols[at - marks], symbols[at]);
         i += 1;
         highest = higher(place_or_none(opens, i as u8), highest);
     }

@@ -25,6 +25,7 @@ use Rattle.timecode.specs.declared.Refusal.{Refusal}
 use Rattle.timecode.specs.declared.Scanned.{Scanned}
 use Rattle.timecode.specs.declared.Scanned.the-variants.{Found, None}
 use Rattle.timecode.specs.declared.Time.{Time}
+use Rattle.openings.specs.Openings.{marksMeet}
 
 -- how many places there are from a on
 abbrev pub placesFrom : Format → List ℕ → ℕ → ℕ
@@ -32,10 +33,6 @@ placesFrom f recording a = length recording + 1 - (a + size f)
 
 abbrev pub lowestFrom : Format → List ℕ → ℕ → Scanned
 lowestFrom f recording a = lowestOf f recording (placesFrom f recording a) a
-
--- a mark at the place and so many before it
-abbrev pub marksMeet : ℕ → List ℕ → ℕ → Bool
-marksMeet m recording a = eqb (getD recording a 0) 2 && eqb (getD recording (a - m) 0) 2
 
 -- where what was found there is known, and how many before it
 pub meet-of : (m n a : ℕ) (recording : List ℕ) (r b : Bool) → m ≡ n → r ≡ marksMeet m recording a → r ≡ b → marksMeet n recording a ≡ b

@@ -6,26 +6,17 @@ ghost use lib.Dec.{leb};
 ghost use lib.ListN.{length};
 ghost use Rattle.timecode.specs.Calls.{scanOf};
 ghost use Rattle.timecode.specs.Stream.{lead};
-ghost use Rattle.scan.specs.Places.{marksMeet, lowestFrom};
-use dates::is_x;
+ghost use Rattle.openings.specs.Openings.{marksMeet};
+ghost use Rattle.scan.specs.Places.{lowestFrom};
 use frame::read;
 use layout::frame_size;
 use layout::is_known;
+use openings::marks_before;
 use timecode::Format;
 use timecode::MARK;
 use timecode::Reading;
 use timecode::Refusal;
 use timecode::Scanned;
-
-// So many marks are asked for before a frame: one, in X none.
-fn marks_before(format: Format) -> usize
-    ensures { λ r. ⌜ r ≡ lead format ⌝ }
-{
-    if is_x(format) {
-        return 0;
-    }
-    1
-}
 
 // At least so many, so that there is room for the marks before it, and at least the start.
 fn first_place(marks: usize, start: usize) -> usize

@@ -26,7 +26,7 @@ marks-before-requires : tie.Need-marks-before-requires Inv-loop μ-loop
 marks-before-requires c κs = search needs
 
 loop-holds : tie.Need-loop-holds Inv-loop μ-loop
-loop-holds c = (omega (arith, c .before .before .before .before .pre, c .marks-before .ensures), refl)
+loop-holds c = (omega (arith, c .before .before .before .before .pre, c .marks-before .ensures .0), refl)
 
 marks-meet-requires : tie.Need-marks-meet-requires Inv-loop μ-loop
 marks-meet-requires c κs = (omega arith, omega (arith, c .before .before .before .before .frame-size .ensures))
@@ -72,7 +72,7 @@ returns-2 c =
     let n = c .before .before .before .before .before .before .before .before .before .before .before .frame-size in
     let reached = c .before .before .before .before .before .before .before .before .loop in
     let answer-is = sym (part-at (start .args .format) (start .args .recording .now) (reached .place) (n .result) (n .ensures .0)) ∙ sym (c .before .before .before .read .ensures) ∙ c .before .time .given .1 in
-    sym (reached .inv .1 ∙ found-here (start .args .format) (start .args .recording .now) (reached .place) (omega (arith, n .ensures .0)) (meet-of _ _ (reached .place) (start .args .recording .now) _ _ (c .before .before .before .before .before .before .before .before .before .marks-before .ensures) (c .before .before .before .before .before .before .marks-meet .ensures) (c .before .before .before .before .before .if2 .taken)) _ _ answer-is)
+    sym (reached .inv .1 ∙ found-here (start .args .format) (start .args .recording .now) (reached .place) (omega (arith, n .ensures .0)) (meet-of _ _ (reached .place) (start .args .recording .now) _ _ (c .before .before .before .before .before .before .before .before .before .marks-before .ensures .0) (c .before .before .before .before .before .before .marks-meet .ensures) (c .before .before .before .before .before .if2 .taken)) _ _ answer-is)
 
 add-place-2 : tie.Need-add-place-2 Inv-loop μ-loop
 add-place-2 c = omega arith
@@ -83,7 +83,7 @@ loop-less-2 c = omega arith
 loop-again-2 : tie.Need-loop-again-2 Inv-loop μ-loop
 loop-again-2 c =
     let start = c .before .before .before .before .before .before .before .before in
-    (omega arith, c .before .before .before .loop .inv .1 ∙ passed-over (start .args .format) (start .args .recording .now) (c .before .before .before .loop .place) (omega (arith, c .before .before .before .before .before .before .frame-size .ensures .0)) (meet-of _ _ (c .before .before .before .loop .place) (start .args .recording .now) _ _ (c .before .before .before .before .marks-before .ensures) (c .before .marks-meet .ensures) (c .if2 .left)))
+    (omega arith, c .before .before .before .loop .inv .1 ∙ passed-over (start .args .format) (start .args .recording .now) (c .before .before .before .loop .place) (omega (arith, c .before .before .before .before .before .before .frame-size .ensures .0)) (meet-of _ _ (c .before .before .before .loop .place) (start .args .recording .now) _ _ (c .before .before .before .before .marks-before .ensures .0) (c .before .marks-meet .ensures) (c .if2 .left)))
 
 returns-3 : tie.Need-returns-3 Inv-loop μ-loop
 returns-3 c =

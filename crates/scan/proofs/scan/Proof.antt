@@ -16,11 +16,11 @@ first-place-requires : tie.Need-first-place-requires
 first-place-requires c κs = search needs
 
 lowest-requires : tie.Need-lowest-requires
-lowest-requires c κs = omega (arith, c .first-place .ensures .1, c .before .marks-before .ensures)
+lowest-requires c κs = omega (arith, c .first-place .ensures .1, c .before .marks-before .ensures .0)
 
 returns : tie.Need-returns
 unfolding scanOf firstPlace
-returns c = rw (← c .before .before .before .before .before .is-known .ensures, c .before .before .before .before .if1 .taken, le-leb _ _ (c .before .before .before .if2 .taken), ← c .before .before .marks-before .ensures, ← c .before .first-place .ensures .0, ← c .lowest .ensures)
+returns c = rw (← c .before .before .before .before .before .is-known .ensures, c .before .before .before .before .if1 .taken, le-leb _ _ (c .before .before .before .if2 .taken), ← c .before .before .marks-before .ensures .0, ← c .before .first-place .ensures .0, ← c .lowest .ensures)
 
 returns-2 : tie.Need-returns-2
 unfolding scanOf
