@@ -171,7 +171,7 @@ fn fresh(format: Format, setting: u8) -> Tally {
 
 // Marks where frames have them, and ones between.
 fn shaped(i: u64, n: u64) -> u8
-    requires { ⌜ 60 ≤ n ⌝ }
+    requires { ⌜ 25 ≤ n ⌝ }
 {
     let index = i % n;
     if index == 0 {
@@ -186,7 +186,7 @@ fn shaped(i: u64, n: u64) -> u8
 // Symbol i of a stream that no generator made. Pairs has marks where two frames of 60 have them at every third symbol, and
 // Fours where two of 60 or of 100 have them at every fourth: frames are looked into far more often than generators end them.
 fn symbol_of(case: Case, i: u64, n: u64) -> u8
-    requires { ⌜ 60 ≤ n ⌝ }
+    requires { ⌜ 25 ≤ n ⌝ }
 {
     match case {
         Case::Marks => MARK,

@@ -101,7 +101,7 @@ scanOf f recording start =
     (check Scanned.Refused StartPastEnd (leb start (length recording))  -- 12
     (lowestOf f recording (length recording + 1 - (firstPlace f start + size f)) (firstPlace f start)))
 
--- element a - 1 is a mark, but in X, and the frame beginning at a is accepted
+-- element a - 1 is a mark, except in X, and the frame beginning at a is accepted
 pub record FrameAt (f : Format) (recording : List ℕ) (a : ℕ) (t : Time) (w : ℕ) : Type 0 where
   pub lead-stands : leadAt f recording a ≡ true
   pub frame : readOf f (partAt f recording a) ≡ Accepted t w

@@ -202,7 +202,7 @@ pub demand-3 : (f : Format) (k : ℕ) → isSetting k ≡ true → (ss : List �
 demand-3 f zero h ss answers plain none = absurd (not-suc-le-zero (setting-range 0 h .0))
 demand-3 f (suc m) h ss answers plain none = subst (λ (as′ : List Answer). Demand3 f (suc m) ss as′ none) (sym plain) (plain-demand-3 f m (setting-range (suc m) h .1) ss none)
 
--- k = 2 is the machine of before, in every format but X: a window of 2n + 1, a symbol 2 and two frames that Read accepts, the second's time next after the first's.
+-- k = 2 is the machine of before, in every format except X: a window of 2n + 1, a symbol 2 and two frames that Read accepts, the second's time next after the first's.
 pub two-is-setting : isSetting twoFrames ≡ true
 unfolding isSetting
 two-is-setting = refl

@@ -53,7 +53,7 @@ minutes f = inX f 10 4 (decimalIn (A ∷ B ∷ E ∷ G ∷ H ∷ []) f 10 4) ∷
 unfoldable pub hours : Format → Field
 hours f = inX f 3 4 (decimalRun 20 4) ∷ inX f 1 2 (decimalRun 25 2) ∷ []
 
--- units 30-33, tens 35-38, hundreds 40-41 (all but X)
+-- units 30-33, tens 35-38, hundreds 40-41 (all except X)
 unfoldable pub days : Format → Field
 days f = decimalIf (not (isX f)) 30 4 ∷ decimalIf (not (isX f)) 35 4 ∷ decimalIf (not (isX f)) 40 2 ∷ []
 

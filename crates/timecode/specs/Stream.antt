@@ -58,7 +58,7 @@ inRow f window zero = Quiet
 inRow f window (suc zero) = firstInRow (readOf f (frameIn f window 0))
 inRow f window (suc (suc m)) = nextInRow f (inRow f window (suc m)) (readOf f (frameIn f window (suc m)))
 
--- a symbol 2, but in X, and k such frames
+-- a symbol 2, except in X, and k such frames
 unfoldable pub windowAnswer : Format → ℕ → List ℕ → Answer
 windowAnswer f k window = cond (opens f window) (inRow f window k) Quiet
 
@@ -125,7 +125,7 @@ abbrev pub joined : (ℕ → List ℕ) → ℕ → List ℕ
 joined frames zero = []
 joined frames (suc k) = joined frames k ++ frames k
 
--- The list ends in a mark, but in X, and k accepted frames, each time next after the one before. The last one's time and control word are t and w.
+-- The list ends in a mark, except in X, and k accepted frames, each time next after the one before. The last one's time and control word are t and w.
 pub record EndsInFrames (f : Format) (k : ℕ) (received : List ℕ) (t : Time) (w : ℕ) : Type 0 where
   pub before : List ℕ
   pub frames : ℕ → List ℕ

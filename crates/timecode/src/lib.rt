@@ -1,5 +1,5 @@
 // What the calls of the time code engine take and what they answer: types only, no function. A format and a time are C's structs too.
-// Document 01 and of document 02 the step back, the leap second, the year and the setting k as definitions, and the theorems over them, stand in specs/.
+// Document 01 and of document 02 the step back, the leap second, XR3 tapes, the year and the setting k as definitions, and the theorems over them, stand in specs/.
 
 // A rate letter, in capital ASCII, and a coded expression.
 #[repr(C)]

@@ -88,7 +88,7 @@ ends-so f k =
 pub last-element : (f : Format) (t : Time) (w : ℕ) → Valid f t w → getD (written f t w) (size f - 1) 0 ≡ ending f
 last-element f t w v = let e = ends-so f (v .format) in filler-there f t w (size f - 1) (omega (arith, size-positive f)) (e .0) ∙ e .1
 
--- a frame ends with a mark, but in X
+-- a frame ends with a mark, except in X
 pub ends-marked : (f : Format) → isX f ≡ false → ending f ≡ 2
 unfolding ending
 ends-marked f n = rw n

@@ -227,7 +227,7 @@ pub at-frame : (f : Format) (window : List ℕ) (j i : ℕ) → i < size f → g
 unfolding frameIn
 at-frame f window j i h = getD-take (size f) (drop (lead f + size f * j) window) i 0 h ∙ getD-drop (lead f + size f * j) window i 0
 
--- ---- the marks of a confirmed window: each frame begins with one, and but in X pairs stand at n j, n j + 1
+-- ---- the marks of a confirmed window: each frame begins with one, and except in X pairs stand at n j, n j + 1
 
 module _ (f : Format) (m : ℕ) (window : List ℕ) (t : Time) (w : ℕ) (c : Confirmed f m window t w) where
   pub first-of : (j : ℕ) → j ≤ m → getD window (lead f + size f * j) 0 ≡ 2
