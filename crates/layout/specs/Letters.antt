@@ -1,4 +1,4 @@
--- The rows of the six letters are the table's by computation. Here is what computation leaves: expressions in a row, editions, other letters, and what each expression carries.
+-- The rows of the seven letters are the table's by computation. Here is what computation leaves: expressions in a row, editions, other letters, and what each expression carries.
 use mathlib.Core.Path.{_≡_, refl, sym, subst, _∙_}
 use mathlib.Core.Bool.{true, false, _&&_, _||_}
 use mathlib.Core.List.{List, [], _∷_}
@@ -7,7 +7,7 @@ use native.Mathlib.Omega.{arith}
 use borrow.Author.Tests.{eqb-true, eqb-false, ne-eqb, leb-true, leb-false, le-leb, lt-leb}
 use lib.Bits.{bitAnd}
 use lib.Dec.{leb, eqb}
-use Rattle.timecode.specs.Formats.{member, known, carriesLeap, carriesYear, A, B, D, E, G, H, table, noRow, lookUp, rowOf, carriesControl, carriesSeconds, controlPlaces}
+use Rattle.timecode.specs.Formats.{member, known, carriesLeap, carriesYear, A, B, D, E, G, H, X, isX, table, noRow, lookUp, rowOf, carriesControl, carriesSeconds, controlPlaces}
 use Rattle.timecode.specs.Laws.Tests.{by-test, clash, and-left, and-right, or-second}
 use Rattle.timecode.specs.Layout.{tabulate, seconds, minutes, hours, days, tenths, hundredthsDigit, hasSeconds, straightSeconds, years, timeFields}
 use Rattle.timecode.specs.declared.Format.{Format}
@@ -78,7 +78,7 @@ pub year-from-4 : (e : ℕ) → hasYear e ≡ true → 4 ≤ e
 unfolding hasYear
 year-from-4 e y = leb-true 4 e (and-left (leb 4 e) (leb e 7) (sym (in-row 4 4 7 refl e) ∙ y))
 
--- a letter that is none of the six
+-- a letter that is none of the seven
 pub record Other (l : ℕ) : Type 0 where
   pub not-a : l ≡ A → ⊥
   pub not-b : l ≡ B → ⊥
@@ -86,6 +86,7 @@ pub record Other (l : ℕ) : Type 0 where
   pub not-e : l ≡ E → ⊥
   pub not-g : l ≡ G → ⊥
   pub not-h : l ≡ H → ⊥
+  pub not-x : l ≡ X → ⊥
 
 pub other-row : (l : ℕ) → Other l → lookUp l table ≡ noRow
 unfolding lookUp table
@@ -97,10 +98,11 @@ other-row l o =
       ne-eqb E l (λ q. o .not-e (sym q)),
       ne-eqb G l (λ q. o .not-g (sym q)),
       ne-eqb H l (λ q. o .not-h (sym q)),
+      ne-eqb X l (λ q. o .not-x (sym q)),
     )
 
 pub other-widths : (l : ℕ) → Other l → widthsOf (with-letter l 0) ≡ 0 ∷ 0 ∷ 0 ∷ 0 ∷ 4 ∷ 2 ∷ 4 ∷ 4 ∷ 2 ∷ 0 ∷ 0 ∷ 0 ∷ 0 ∷ 0 ∷ 0 ∷ 0 ∷ 0 ∷ 0 ∷ 0 ∷ 0 ∷ []
-unfolding widthsOf codeRuns codeFields timeFields seconds minutes hours days tenths hundredthsDigit straightSeconds hasSeconds carriesSeconds codeControl codeRange carriesControl carriesYear controlPlaces years rowOf
+unfolding widthsOf codeRuns codeFields timeFields seconds minutes hours days tenths hundredthsDigit straightSeconds hasSeconds carriesSeconds codeControl codeRange carriesControl carriesYear controlPlaces years rowOf isX
 other-widths l o =
     rw (
       other-row l o,
@@ -109,6 +111,7 @@ other-widths l o =
       ne-eqb l E (o .not-e),
       ne-eqb l G (o .not-g),
       ne-eqb l H (o .not-h),
+      ne-eqb l X (o .not-x),
     )
 
 -- ---- what each expression carries, from what its edition's first does
@@ -122,35 +125,35 @@ as-it-is e p q r s = rw (ne-eqb e 4 p, ne-eqb e 5 q, ne-eqb e 6 r, ne-eqb e 7 s)
 
 module _ (l : ℕ) where
   carried-4 : Carried l 4
-  unfolding widthsOf codeRuns codeFields timeFields seconds minutes hours days tenths hundredthsDigit straightSeconds hasSeconds carriesSeconds codeControl codeRange carriesControl carriesYear controlPlaces years rowOf carriedIn withoutYear hasYear
+  unfolding widthsOf codeRuns codeFields timeFields seconds minutes hours days tenths hundredthsDigit straightSeconds hasSeconds carriesSeconds codeControl codeRange carriesControl carriesYear controlPlaces years rowOf isX carriedIn withoutYear hasYear
   carried-4 = by-test (member l (A ∷ B ∷ [])) (λ y. rw y) (λ n. rw n)
 
   carried-5 : Carried l 5
-  unfolding widthsOf codeRuns codeFields timeFields seconds minutes hours days tenths hundredthsDigit straightSeconds hasSeconds carriesSeconds codeControl codeRange carriesControl carriesYear controlPlaces years rowOf carriedIn withoutYear hasYear
+  unfolding widthsOf codeRuns codeFields timeFields seconds minutes hours days tenths hundredthsDigit straightSeconds hasSeconds carriesSeconds codeControl codeRange carriesControl carriesYear controlPlaces years rowOf isX carriedIn withoutYear hasYear
   carried-5 = by-test (member l (A ∷ B ∷ [])) (λ y. rw y) (λ n. rw n)
 
   carried-6 : Carried l 6
-  unfolding widthsOf codeRuns codeFields timeFields seconds minutes hours days tenths hundredthsDigit straightSeconds hasSeconds carriesSeconds codeControl codeRange carriesControl carriesYear controlPlaces years rowOf carriedIn withoutYear hasYear
+  unfolding widthsOf codeRuns codeFields timeFields seconds minutes hours days tenths hundredthsDigit straightSeconds hasSeconds carriesSeconds codeControl codeRange carriesControl carriesYear controlPlaces years rowOf isX carriedIn withoutYear hasYear
   carried-6 = by-test (member l (A ∷ B ∷ [])) (λ y. rw y) (λ n. rw n)
 
   carried-7 : Carried l 7
-  unfolding widthsOf codeRuns codeFields timeFields seconds minutes hours days tenths hundredthsDigit straightSeconds hasSeconds carriesSeconds codeControl codeRange carriesControl carriesYear controlPlaces years rowOf carriedIn withoutYear hasYear
+  unfolding widthsOf codeRuns codeFields timeFields seconds minutes hours days tenths hundredthsDigit straightSeconds hasSeconds carriesSeconds codeControl codeRange carriesControl carriesYear controlPlaces years rowOf isX carriedIn withoutYear hasYear
   carried-7 = by-test (member l (A ∷ B ∷ [])) (λ y. rw y) (λ n. rw n)
 
   carried-0 : Carried l 0
-  unfolding widthsOf codeRuns codeFields timeFields seconds minutes hours days tenths hundredthsDigit straightSeconds hasSeconds carriesSeconds codeControl codeRange carriesControl carriesYear controlPlaces years rowOf carriedIn withoutYear hasYear
+  unfolding widthsOf codeRuns codeFields timeFields seconds minutes hours days tenths hundredthsDigit straightSeconds hasSeconds carriesSeconds codeControl codeRange carriesControl carriesYear controlPlaces years rowOf isX carriedIn withoutYear hasYear
   carried-0 = refl
 
   carried-1 : Carried l 1
-  unfolding widthsOf codeRuns codeFields timeFields seconds minutes hours days tenths hundredthsDigit straightSeconds hasSeconds carriesSeconds codeControl codeRange carriesControl carriesYear controlPlaces years rowOf carriedIn withoutYear hasYear
+  unfolding widthsOf codeRuns codeFields timeFields seconds minutes hours days tenths hundredthsDigit straightSeconds hasSeconds carriesSeconds codeControl codeRange carriesControl carriesYear controlPlaces years rowOf isX carriedIn withoutYear hasYear
   carried-1 = refl
 
   carried-3 : Carried l 3
-  unfolding widthsOf codeRuns codeFields timeFields seconds minutes hours days tenths hundredthsDigit straightSeconds hasSeconds carriesSeconds codeControl codeRange carriesControl carriesYear controlPlaces years rowOf carriedIn withoutYear hasYear
+  unfolding widthsOf codeRuns codeFields timeFields seconds minutes hours days tenths hundredthsDigit straightSeconds hasSeconds carriesSeconds codeControl codeRange carriesControl carriesYear controlPlaces years rowOf isX carriedIn withoutYear hasYear
   carried-3 = refl
 
   carried-other : (e : ℕ) → (e ≡ 0 → ⊥) → (e ≡ 1 → ⊥) → (e ≡ 3 → ⊥) → (e ≡ 4 → ⊥) → (e ≡ 5 → ⊥) → (e ≡ 6 → ⊥) → (e ≡ 7 → ⊥) → Carried l e
-  unfolding widthsOf codeRuns codeFields timeFields seconds minutes hours days tenths hundredthsDigit straightSeconds hasSeconds carriesSeconds codeControl codeRange carriesControl carriesYear controlPlaces years rowOf carriedIn
+  unfolding widthsOf codeRuns codeFields timeFields seconds minutes hours days tenths hundredthsDigit straightSeconds hasSeconds carriesSeconds codeControl codeRange carriesControl carriesYear controlPlaces years rowOf isX carriedIn
   carried-other e a b c p q r s = rw (as-it-is e p q r s, ne-eqb e 0 a, ne-eqb e 1 b, ne-eqb e 3 c, ne-eqb e 4 p, ne-eqb e 5 q, ne-eqb e 6 r, ne-eqb e 7 s)
 
   -- it is one of these numbers, or none of them
@@ -183,12 +186,12 @@ as-carried n ws all no-seconds no-control neither e =
     (λ y. rw y all)
     (λ a. rw a (by-test (eqb e 1) (λ y. rw y no-seconds) (λ b. rw b (by-test (eqb e 3) (λ y. rw y no-control) (λ c. rw c neither)))))
 
--- a letter that is none of the six carries no leap second
+-- a letter that is none of the seven carries no leap second
 pub other-leap : (l e : ℕ) → Other l → carriesLeap (with-letter l e) ≡ false
 unfolding carriesLeap
 other-leap l e o = rw (ne-eqb l A (o .not-a), ne-eqb l B (o .not-b), ne-eqb l G (o .not-g))
 
--- the runs start where the layout says, in every format
-pub same-starts : (f : Format) → startsOf f ≡ runStarts
+-- the runs start where the layout says, in every format except X
+pub same-starts : (f : Format) → isX f ≡ false → startsOf f ≡ runStarts
 unfolding startsOf codeRuns codeFields timeFields seconds minutes hours days tenths hundredthsDigit straightSeconds codeControl codeRange years
-same-starts f = refl
+same-starts f x = rw x

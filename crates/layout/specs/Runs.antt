@@ -9,7 +9,7 @@ use native.Mathlib.Omega.{arith}
 use borrow.Author.Tests.{eqb-true}
 use lib.Dec.{eqb}
 use lib.ListN.{getD, length}
-use Rattle.timecode.specs.Formats.{member, table, lookUp, rowOf, known, size, carriesControl, carriesSeconds, carriesYear, controlPlaces}
+use Rattle.timecode.specs.Formats.{member, isX, table, lookUp, rowOf, known, size, carriesControl, carriesSeconds, carriesYear, controlPlaces}
 use Rattle.timecode.specs.Frames.{Valid, totalWidth, written, covered, marksAgree, elementFits, checkElements}
 use Rattle.timecode.specs.Laws.Fields.{Binary, binary-small}
 use Rattle.timecode.specs.Laws.Reading.{straight-binary, control-binary}
@@ -139,7 +139,10 @@ listed-carried f =
               λ b. by-test b (λ y. rw y) (λ n. rw n),
               (
                 λ b. by-test b (λ y. rw y) (λ n. rw n),
-                tt,
+                (
+                  λ b. by-test b (λ y. rw y) (λ n. rw n),
+                  tt,
+                ),
               ),
             ),
           ),
@@ -204,14 +207,14 @@ code-held f i =
     held-front (flatten (timeFields f)) (straightSeconds f ++ (codeControl f ++ (years f ++ []))) (straightSeconds f ++ (control f ++ (years f ++ []))) i
     (held-front (straightSeconds f) (codeControl f ++ (years f ++ [])) (control f ++ (years f ++ [])) i last)
 
-code-symbol : (f : Format) (t : Time) (w i : ℕ) → symbolAt (filler f) (codeRuns f) (allDigits (codeFields f) (numbers t w)) i ≡ symbolAt (filler f) (runs f) (allDigits (fields f) (numbers t w)) i
+code-symbol : (f : Format) (t : Time) (w i : ℕ) → symbolAt (filler f) (codeRuns f) (allDigits (codeFields f) (numbers f t w)) i ≡ symbolAt (filler f) (runs f) (allDigits (fields f) (numbers f t w)) i
 unfolding codeRuns codeFields runs fields timeFields seconds minutes hours days tenths hundredthsDigit straightSeconds numbers timeNumbers
 code-symbol f t w i =
     let year = fieldDigits (years f) (t .year) ++ [] in
     let behind = symbolAt (filler f) (years f ++ []) year in
     let last : symbolAt (filler f) (codeControl f ++ (years f ++ [])) (fieldDigits (codeControl f) w ++ year) i ≡ symbolAt (filler f) (control f ++ (years f ++ [])) (fieldDigits (control f) w ++ year) i =
     symbol-parts (filler f) (codeControl f) (years f ++ []) w year i ∙ control-symbol f behind w i ∙ sym (symbol-parts (filler f) (control f) (years f ++ []) w year i) in
-    symbol-front (filler f) (flatten (timeFields f)) (straightSeconds f ++ (codeControl f ++ (years f ++ []))) (straightSeconds f ++ (control f ++ (years f ++ []))) (allDigits (timeFields f) (timeNumbers t))
+    symbol-front (filler f) (flatten (timeFields f)) (straightSeconds f ++ (codeControl f ++ (years f ++ []))) (straightSeconds f ++ (control f ++ (years f ++ []))) (allDigits (timeFields f) (timeNumbers f t))
     (fieldDigits (straightSeconds f) (t .hundredths / 100) ++ (fieldDigits (codeControl f) w ++ year)) (fieldDigits (straightSeconds f) (t .hundredths / 100) ++ (fieldDigits (control f) w ++ year)) i refl
     (symbol-front (filler f) (straightSeconds f) (codeControl f ++ (years f ++ [])) (control f ++ (years f ++ [])) (fieldDigits (straightSeconds f) (t .hundredths / 100)) (fieldDigits (codeControl f) w ++ year) (fieldDigits (control f) w ++ year) i refl last)
 
@@ -221,7 +224,7 @@ same-tabulate (suc n) i g h e = rw (e i) (ap (λ (xs : List ℕ). h i ∷ xs) (s
 
 -- ---- what the code's functions are proved by
 
-pub code-written : (f : Format) (t : Time) (w : ℕ) → encode (size f) (filler f) (codeRuns f) (allDigits (codeFields f) (numbers t w)) ≡ written f t w
+pub code-written : (f : Format) (t : Time) (w : ℕ) → encode (size f) (filler f) (codeRuns f) (allDigits (codeFields f) (numbers f t w)) ≡ written f t w
 unfolding written encode
 code-written f t w = same-tabulate (size f) 0 _ _ (code-symbol f t w)
 
@@ -230,17 +233,17 @@ unfolding checkElements marksAgree elementFits
 code-elements f i [] a = refl
 code-elements f i (s ∷ ss) a = rw (code-held f i, code-elements f (suc i) ss a)
 
-pub code-small : (f : Format) (t : Time) (w : ℕ) → Valid f t w → Small (codeRuns f) (allDigits (codeFields f) (numbers t w))
+pub code-small : (f : Format) (t : Time) (w : ℕ) → Valid f t w → Small (codeRuns f) (allDigits (codeFields f) (numbers f t w))
 unfolding codeRuns codeFields timeFields numbers timeNumbers seconds minutes hours days tenths hundredthsDigit
 code-small f t w v =
     let year = fieldDigits (years f) (t .year) ++ [] in
-    small-append (flatten (timeFields f)) (straightSeconds f ++ (codeControl f ++ (years f ++ []))) (allDigits (timeFields f) (timeNumbers t)) (fieldDigits (straightSeconds f) (t .hundredths / 100) ++ (fieldDigits (codeControl f) w ++ year))
+    small-append (flatten (timeFields f)) (straightSeconds f ++ (codeControl f ++ (years f ++ []))) (allDigits (timeFields f) (timeNumbers f t)) (fieldDigits (straightSeconds f) (t .hundredths / 100) ++ (fieldDigits (codeControl f) w ++ year))
     (time-small f t (v .format) (v .time))
     (small-append (straightSeconds f) (codeControl f ++ (years f ++ [])) (fieldDigits (straightSeconds f) (t .hundredths / 100)) (fieldDigits (codeControl f) w ++ year) (binary-small (straightSeconds f) (t .hundredths / 100) (straight-binary f))
     (small-append (codeControl f) (years f ++ []) (fieldDigits (codeControl f) w) year (binary-small (codeControl f) w (code-binary f)) (small-append (years f) [] (fieldDigits (years f) (t .year)) [] (years-small f t (v .time)) tt)))
 
 all-proper : everyFormat (λ f. proper (size f) (filler f) (codeRuns f)) ≡ true
-unfolding everyFormat table proper clear size rowOf lookUp filler isMark codeRuns codeFields timeFields seconds minutes hours days tenths hundredthsDigit straightSeconds hasSeconds carriesSeconds codeControl codeRange carriesControl carriesYear controlPlaces years
+unfolding everyFormat table isX proper clear size rowOf lookUp filler isMark codeRuns codeFields timeFields seconds minutes hours days tenths hundredthsDigit straightSeconds hasSeconds carriesSeconds codeControl codeRange carriesControl carriesYear controlPlaces years
 all-proper = refl
 
 pub code-proper : (f : Format) → known f ≡ true → proper (size f) (filler f) (codeRuns f) ≡ true

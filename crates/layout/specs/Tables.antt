@@ -16,7 +16,7 @@ use Rattle.layout.specs.declared.Row.{Row}
 abbrev pub markPlaces : List ℕ
 markPlaces = 0 ∷ 9 ∷ 19 ∷ 29 ∷ 39 ∷ 49 ∷ 59 ∷ 69 ∷ 79 ∷ 89 ∷ 99 ∷ []
 
--- where the runs start, in every format, and how wide they are where they are carried
+-- where the runs start, in every format except X, and how wide they are where they are carried
 abbrev pub runStarts : List ℕ
 runStarts = 1 ∷ 6 ∷ 10 ∷ 15 ∷ 20 ∷ 25 ∷ 30 ∷ 35 ∷ 40 ∷ 45 ∷ 50 ∷ 80 ∷ 90 ∷ 50 ∷ 60 ∷ 70 ∷ 80 ∷ 90 ∷ 50 ∷ 55 ∷ []
 

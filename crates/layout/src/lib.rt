@@ -1,5 +1,5 @@
-// The layout as constant rows, one for each of the letters A, B, D, E, G, H and one more for A and B with the year, lent to writer and reader alike.
-// Each function gives what document 01's table and document 02's year give, for every format; a letter that is none of the six has a row of its own.
+// The layout as constant rows, one for each of the letters A, B, D, E, G, H and X and one more for A and B with the year, lent to writer and reader alike.
+// Each function gives what document 01's table and document 02's year and XR3 give, for every format; a letter that is none of the seven has a row of its own.
 ghost use mathlib.Core.Path.{_≡_};
 ghost use mathlib.Core.Bool.{false, cond, _&&_};
 ghost use Prim.Native.Nat.{ℕ, _≤_, _<_};
@@ -9,7 +9,7 @@ ghost use Rattle.layout.specs.Tables.{RowFor, RowOf, markPlaces, runStar
 use timecode::Format;
 
 // A row: n, S, its expressions (first to last), whether it carries the leap second and the year, and which runs of elements it
-// carries, a bit for each by its number, the first the lowest. Where a run starts and how many elements it has is the same in every row.
+// carries, a bit for each by its number, the first the lowest. Where a run starts and how many elements it has is the same in every row; only in X they start elsewhere.
 pub struct Row {
     pub elements: usize,
     pub interval: u32,
@@ -63,7 +63,7 @@ pub const YEAR_TENS: usize = 19;
 
 pub const RUNS: usize = 20;
 
-// Where the runs start, in that order.
+// Where the runs start, in that order, except in X.
 const STARTS: [u8; 20] = [
     1,
     6,
@@ -90,7 +90,7 @@ const STARTS: [u8; 20] = [
 // How many elements each run has.
 const WIDTHS: [u8; 20] = [4, 3, 4, 3, 4, 2, 4, 4, 2, 4, 4, 9, 8, 9, 9, 9, 9, 9, 4, 4];
 
-// Where marks stand in every row: in a frame of 100 all, in one of 60 the first seven.
+// Where marks stand in every row except X's: in a frame of 100 all, in one of 60 the first seven.
 const MARKS: [u8; 11] = [0, 9, 19, 29, 39, 49, 59, 69, 79, 89, 99];
 
 const A: Row = Row {
@@ -174,6 +174,17 @@ const H: Row = Row {
     runs: 0b00_00001_00_00_111_11_11_00,
 };
 
+// Its runs have other places, and their highest weights first; the widths are these.
+const X: Row = Row {
+    elements: 25,
+    interval: 100,
+    first: 2,
+    last: 2,
+    leap: false,
+    year: false,
+    runs: 0b00_00000_00_00_000_11_11_11,
+};
+
 // Any other letter: its last expression is below its first, so it takes none.
 const OTHER: Row = Row {
     elements: 100,
@@ -206,6 +217,9 @@ fn letter_row(letter: u8) -> Row
     }
     if letter == b'H' {
         return H;
+    }
+    if letter == b'X' {
+        return X;
     }
     OTHER
 }
@@ -269,7 +283,7 @@ pub fn is_known(format: Format) -> bool
 }
 
 pub fn frame_size(format: Format) -> usize
-    ensures { λ r. ⌜ (r ≡ size format) × (60 ≤ r) × (r ≤ 100) ⌝ }
+    ensures { λ r. ⌜ (r ≡ size format) × (25 ≤ r) × (r ≤ 100) ⌝ }
 {
     let row = letter_row(format.letter);
     row.elements

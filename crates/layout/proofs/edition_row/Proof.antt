@@ -2,7 +2,7 @@
 use borrow.Author.Needs.{needs}
 use borrow.Author.Tests.{not-true, not-false}
 use mathlib.Core.Path.{refl, sym, _∙_}
-use Rattle.timecode.specs.Formats.{A, B, table, lookUp, rowOf, known, size, interval, carriesLeap, carriesYear, carriesControl, carriesSeconds, controlPlaces}
+use Rattle.timecode.specs.Formats.{A, B, table, lookUp, rowOf, known, size, interval, carriesLeap, carriesYear, carriesControl, carriesSeconds, controlPlaces, isX}
 use Rattle.timecode.specs.Layout.{seconds, minutes, hours, days, tenths, hundredthsDigit, hasSeconds, straightSeconds, years, timeFields}
 use Rattle.layout.specs.Runs.{codeRange, codeControl, codeFields, codeRuns}
 use Rattle.layout.specs.Tables.{widthsOf, runWidths, isCarried}
@@ -22,7 +22,7 @@ returns c =
     c .letter-row .ensures (a .expression) (without-year (a .letter) (a .expression) (sym (c .before .before .has-year .ensures) ∙ not-true (c .before .before .has-year .result) (c .before .if1 .taken)))
 
 returns-2 : tie.Need-returns-2
-unfolding known size interval carriesLeap rowOf lookUp table widthsOf codeRuns codeFields timeFields seconds minutes hours days tenths hundredthsDigit straightSeconds hasSeconds carriesSeconds codeControl codeRange carriesControl carriesYear controlPlaces years runWidths isCarried
+unfolding known size interval carriesLeap rowOf lookUp table widthsOf codeRuns codeFields timeFields seconds minutes hours days tenths hundredthsDigit straightSeconds hasSeconds carriesSeconds codeControl codeRange carriesControl carriesYear controlPlaces years isX runWidths isCarried
 returns-2 c =
     let e = c .before .before .before .args .expression in
     let y = sym (c .before .before .has-year .ensures) ∙ not-false (c .before .before .has-year .result) (c .before .if1 .left) in
@@ -30,7 +30,7 @@ returns-2 c =
     rw (c .if2 .taken) (record { elements-are = refl; interval-is = refl; expressions-are = later-row e y; leap-is = refl; year-is = carried; widths-are = rw carried (as-carried 842751 _ refl refl refl refl) })
 
 returns-3 : tie.Need-returns-3
-unfolding known size interval carriesLeap rowOf lookUp table widthsOf codeRuns codeFields timeFields seconds minutes hours days tenths hundredthsDigit straightSeconds hasSeconds carriesSeconds codeControl codeRange carriesControl carriesYear controlPlaces years runWidths isCarried
+unfolding known size interval carriesLeap rowOf lookUp table widthsOf codeRuns codeFields timeFields seconds minutes hours days tenths hundredthsDigit straightSeconds hasSeconds carriesSeconds codeControl codeRange carriesControl carriesYear controlPlaces years isX runWidths isCarried
 returns-3 c =
     let e = c .before .before .before .before .args .expression in
     let y = sym (c .before .before .before .has-year .ensures) ∙ not-false (c .before .before .before .has-year .result) (c .before .before .if1 .left) in

@@ -1,6 +1,6 @@
--- `letter_row` gives each letter the row of document 01's table, where it has no year: by computation for the six, and for any other letter by what is left of the table.
+-- `letter_row` gives each letter the row of document 01's table, where it has no year: by computation for the seven, and for any other letter by what is left of the table.
 use mathlib.Core.Path.{refl, ap}
-use Rattle.timecode.specs.Formats.{Row, A, B, table, lookUp, rowOf, known, size, interval, carriesLeap, carriesYear, carriesControl, carriesSeconds, controlPlaces}
+use Rattle.timecode.specs.Formats.{Row, A, B, table, lookUp, rowOf, known, size, interval, carriesLeap, carriesYear, carriesControl, carriesSeconds, controlPlaces, isX}
 use Rattle.timecode.specs.Layout.{seconds, minutes, hours, days, tenths, hundredthsDigit, hasSeconds, straightSeconds, years, timeFields}
 use Rattle.layout.specs.Runs.{codeRange, codeControl, codeFields, codeRuns}
 use Rattle.layout.specs.Tables.{widthsOf, runWidths, isCarried}
@@ -9,41 +9,46 @@ use Rattle.layout.proofs.letter_row.Statement.{statement}
 use Rattle.layout.proofs.letter_row.Tie as tie
 
 returns : tie.Need-returns
-unfolding known size interval carriesLeap rowOf lookUp table widthsOf codeRuns codeFields timeFields seconds minutes hours days tenths hundredthsDigit straightSeconds hasSeconds carriesSeconds codeControl codeRange carriesControl carriesYear controlPlaces years runWidths isCarried
+unfolding known size interval carriesLeap rowOf lookUp table widthsOf codeRuns codeFields timeFields seconds minutes hours days tenths hundredthsDigit straightSeconds hasSeconds carriesSeconds codeControl codeRange carriesControl carriesYear controlPlaces years isX runWidths isCarried
 returns c = rw (c .if1 .taken) (λ e n. record { elements-are = refl; interval-is = refl; expressions-are = earlier-row e (no-year A e refl n); leap-is = refl; year-is = n; widths-are = rw n (as-carried 64511 _ refl refl refl refl) })
 
 returns-2 : tie.Need-returns-2
-unfolding known size interval carriesLeap rowOf lookUp table widthsOf codeRuns codeFields timeFields seconds minutes hours days tenths hundredthsDigit straightSeconds hasSeconds carriesSeconds codeControl codeRange carriesControl carriesYear controlPlaces years runWidths isCarried
+unfolding known size interval carriesLeap rowOf lookUp table widthsOf codeRuns codeFields timeFields seconds minutes hours days tenths hundredthsDigit straightSeconds hasSeconds carriesSeconds codeControl codeRange carriesControl carriesYear controlPlaces years isX runWidths isCarried
 returns-2 c = rw (c .if2 .taken) (λ e n. record { elements-are = refl; interval-is = refl; expressions-are = earlier-row e (no-year B e refl n); leap-is = refl; year-is = n; widths-are = rw n (as-carried 63999 _ refl refl refl refl) })
 
 returns-3 : tie.Need-returns-3
-unfolding known size interval carriesLeap rowOf lookUp table widthsOf codeRuns codeFields timeFields seconds minutes hours days tenths hundredthsDigit straightSeconds hasSeconds carriesSeconds codeControl codeRange carriesControl carriesYear controlPlaces years runWidths isCarried
+unfolding known size interval carriesLeap rowOf lookUp table widthsOf codeRuns codeFields timeFields seconds minutes hours days tenths hundredthsDigit straightSeconds hasSeconds carriesSeconds codeControl codeRange carriesControl carriesYear controlPlaces years isX runWidths isCarried
 returns-3 c = rw (c .if3 .taken) (λ e n. record { elements-are = refl; interval-is = refl; expressions-are = in-row 2 1 2 refl e; leap-is = refl; year-is = n; widths-are = rw n (as-carried 8688 _ refl refl refl refl) })
 
 returns-4 : tie.Need-returns-4
-unfolding known size interval carriesLeap rowOf lookUp table widthsOf codeRuns codeFields timeFields seconds minutes hours days tenths hundredthsDigit straightSeconds hasSeconds carriesSeconds codeControl codeRange carriesControl carriesYear controlPlaces years runWidths isCarried
+unfolding known size interval carriesLeap rowOf lookUp table widthsOf codeRuns codeFields timeFields seconds minutes hours days tenths hundredthsDigit straightSeconds hasSeconds carriesSeconds codeControl codeRange carriesControl carriesYear controlPlaces years isX runWidths isCarried
 returns-4 c = rw (c .if4 .taken) (λ e n. record { elements-are = refl; interval-is = refl; expressions-are = in-row 2 1 2 refl e; leap-is = refl; year-is = n; widths-are = rw n (as-carried 254462 _ refl refl refl refl) })
 
 returns-5 : tie.Need-returns-5
-unfolding known size interval carriesLeap rowOf lookUp table widthsOf codeRuns codeFields timeFields seconds minutes hours days tenths hundredthsDigit straightSeconds hasSeconds carriesSeconds codeControl codeRange carriesControl carriesYear controlPlaces years runWidths isCarried
+unfolding known size interval carriesLeap rowOf lookUp table widthsOf codeRuns codeFields timeFields seconds minutes hours days tenths hundredthsDigit straightSeconds hasSeconds carriesSeconds codeControl codeRange carriesControl carriesYear controlPlaces years isX runWidths isCarried
 returns-5 c = rw (c .if5 .taken) (λ e n. record { elements-are = refl; interval-is = refl; expressions-are = in-row 2 1 2 refl e; leap-is = refl; year-is = n; widths-are = rw n (as-carried 247807 _ refl refl refl refl) })
 
 returns-6 : tie.Need-returns-6
-unfolding known size interval carriesLeap rowOf lookUp table widthsOf codeRuns codeFields timeFields seconds minutes hours days tenths hundredthsDigit straightSeconds hasSeconds carriesSeconds codeControl codeRange carriesControl carriesYear controlPlaces years runWidths isCarried
+unfolding known size interval carriesLeap rowOf lookUp table widthsOf codeRuns codeFields timeFields seconds minutes hours days tenths hundredthsDigit straightSeconds hasSeconds carriesSeconds codeControl codeRange carriesControl carriesYear controlPlaces years isX runWidths isCarried
 returns-6 c = rw (c .if6 .taken) (λ e n. record { elements-are = refl; interval-is = refl; expressions-are = in-row 2 1 2 refl e; leap-is = refl; year-is = n; widths-are = rw n (as-carried 8700 _ refl refl refl refl) })
 
 returns-7 : tie.Need-returns-7
+unfolding known size interval carriesLeap rowOf lookUp table widthsOf codeRuns codeFields timeFields seconds minutes hours days tenths hundredthsDigit straightSeconds hasSeconds carriesSeconds codeControl codeRange carriesControl carriesYear controlPlaces years isX runWidths isCarried
+returns-7 c = rw (c .if7 .taken) (λ e n. record { elements-are = refl; interval-is = refl; expressions-are = in-row 1 2 2 refl e; leap-is = refl; year-is = n; widths-are = rw n (as-carried 63 _ refl refl refl refl) })
+
+returns-8 : tie.Need-returns-8
 unfolding known size interval rowOf runWidths isCarried
-returns-7 c =
-    let l = c .before .before .before .before .before .before .args .letter in
-    let o : Other (c .before .before .before .before .before .before .args .letter) =
+returns-8 c =
+    let l = c .before .before .before .before .before .before .before .args .letter in
+    let o : Other (c .before .before .before .before .before .before .before .args .letter) =
     record {
-      not-a = c .before .before .before .before .before .if1 .left;
-      not-b = c .before .before .before .before .if2 .left;
-      not-d = c .before .before .before .if3 .left;
-      not-e = c .before .before .if4 .left;
-      not-g = c .before .if5 .left;
-      not-h = c .if6 .left;
+      not-a = c .before .before .before .before .before .before .if1 .left;
+      not-b = c .before .before .before .before .before .if2 .left;
+      not-d = c .before .before .before .before .if3 .left;
+      not-e = c .before .before .before .if4 .left;
+      not-g = c .before .before .if5 .left;
+      not-h = c .before .if6 .left;
+      not-x = c .if7 .left;
     } in
     let none = other-row l o in
     λ e n.
@@ -58,4 +63,4 @@ returns-7 c =
 
 pub letter-row-spec : {M : Type 1} → statement M
 letter-row-spec =
-    tie.close (tie.spec returns returns-2 returns-3 returns-4 returns-5 returns-6 returns-7)
+    tie.close (tie.spec returns returns-2 returns-3 returns-4 returns-5 returns-6 returns-7 returns-8)
