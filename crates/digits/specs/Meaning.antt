@@ -10,8 +10,8 @@ use borrow.Author.Tests.{leb-true}
 use lib.Dec.{leb, eqb}
 use lib.ListN.{getD}
 use Rattle.timecode.specs.Answers.{check}
-use Rattle.timecode.specs.Formats.{carriesLeap, carriesYear, lastDay, daysIn, lastDayIn}
-use Rattle.timecode.specs.Frames.{areDigits, lastSecond, isTime, timeIn, secondsAgree}
+use Rattle.timecode.specs.Formats.{isX, carriesLeap, carriesYear, lastDay, daysIn, lastDayIn}
+use Rattle.timecode.specs.Frames.{areDigits, lastSecond, dayIn, isTime, timeIn, secondsAgree}
 use Rattle.timecode.specs.Laws.Tests.{by-test, and-left, and-right}
 use Rattle.timecode.specs.Laws.Times.{days-range}
 use Rattle.timecode.specs.Layout.{Run, seconds, minutes, hours, days, tenths, hundredthsDigit, hasSeconds, straightSeconds, control, years, timeFields, flatten, digitIn, numberIn, decode}
@@ -128,27 +128,28 @@ module _ (f : Format) (frame : List ℕ) where
   unfolding codeRuns codeFields timeFields seconds minutes hours days tenths hundredthsDigit straightSeconds codeControl years
   straight-is y = rw y (omega arith)
 
-  time-is : timeFrom ds ≡ timeIn f frame
-  unfolding timeFrom timeIn
-  time-is =
+  time-is : isX f ≡ false → timeFrom ds ≡ timeIn f frame
+  unfolding timeFrom timeIn dayIn
+  time-is x =
+      rw x (
       λ i.
       record {
         year = year-is i;
         day = day-is i;
         hundredths = ((hour-is i * 60 + minute-is i) * 60 + second-is i) * 100 + tenth-is i * 10 + hundredth-is i;
-      }
+      })
 
-  is-time-is : isTimeOf (carriesLeap f) (carriesYear f) ds ≡ isTime f frame
-  unfolding isTimeOf isTime lastSecondOf lastSecond lastDayIn
-  is-time-is = rw (digits-are, hour-is, minute-is, second-is, day-is, year-is)
+  is-time-is : isX f ≡ false → isTimeOf (carriesLeap f) (carriesYear f) ds ≡ isTime f frame
+  unfolding isTimeOf isTime lastSecondOf lastSecond lastDayIn dayIn
+  is-time-is x = rw (x, digits-are, hour-is, minute-is, second-is, day-is, year-is)
 
-  agree-is : agreeOf (widthsOf f) ds ≡ secondsAgree f frame
+  agree-is : isX f ≡ false → agreeOf (widthsOf f) ds ≡ secondsAgree f frame
   unfolding agreeOf secondsAgree
-  agree-is = by-test (hasSeconds f) (λ y. rw (straight-width f, y, straight-is y, time-is)) (λ m. rw (straight-width f, m))
+  agree-is x = by-test (hasSeconds f) (λ y. rw (straight-width f, y, straight-is y, time-is x)) (λ m. rw (straight-width f, m))
 
-  pub meaning-is : meaningOf (carriesLeap f) (carriesYear f) (widthsOf f) ds ≡ check Reading.Refused InvalidDigit (isTime f frame) (check Reading.Refused SecondsDiffer (secondsAgree f frame) (Accepted (timeIn f frame) (numberIn frame (control f))))
+  pub meaning-is : isX f ≡ false → meaningOf (carriesLeap f) (carriesYear f) (widthsOf f) ds ≡ check Reading.Refused InvalidDigit (isTime f frame) (check Reading.Refused SecondsDiffer (secondsAgree f frame) (Accepted (timeIn f frame) (numberIn frame (control f))))
   unfolding meaningOf
-  meaning-is = rw (is-time-is, agree-is, time-is, control-is)
+  meaning-is x = rw (is-time-is x, agree-is x, time-is x, control-is)
 
 -- ---- a turn of the loop over the digits of the time
 

@@ -1,6 +1,6 @@
 -- A time and a control word as digits, one for each run of the format: the decimal digits of the time, straight binary seconds, the control word and the year.
 use mathlib.Core.Path.{_≡_, refl, sym, ap, ap₂, _∙_}
-use mathlib.Core.Bool.{Bool, true, cond, _&&_}
+use mathlib.Core.Bool.{Bool, true, false, cond, _&&_}
 use mathlib.Core.List.{List, [], _∷_, _++_}
 use Prim.Native.Nat.{ℕ, zero, suc, _+_, _*_, _-_, _/_, _%_, _^_, _<_, _≤_}
 use native.Mathlib.Nat.{mod-one, mod-eq-of-lt, div-eq-of-lt, div-one, lt-div-mul-add, mul-comm, mul-one, mul-le-mul-left, mul-div-cancel, mul-mod-left}
@@ -9,12 +9,12 @@ use borrow.Author.Tests.{ltb-true, ltb-false, eqb-true, ne-eqb}
 use lib.Dec.{ltb, eqb}
 use lib.ListN.{getD, length, drop}
 use lib.Pow.{pow-pos, pow-mono, shl-exact, shr-lt}
-use Rattle.timecode.specs.Formats.{table, lookUp, rowOf, known, carriesControl, carriesYear, controlPlaces, OnFormat}
+use Rattle.timecode.specs.Formats.{isX, table, lookUp, rowOf, known, carriesControl, carriesYear, controlPlaces, OnFormat}
 use Rattle.timecode.specs.Frames.{totalWidth, Valid}
 use Rattle.timecode.specs.Laws.Fields.{Binary}
 use Rattle.timecode.specs.Laws.Table.{everyFormat, of-every}
 use Rattle.timecode.specs.Laws.Tests.{by-test, and-left, and-right}
-use Rattle.timecode.specs.Laws.Times.{year-below}
+use Rattle.timecode.specs.Laws.Times.{year-below, carried-day}
 use Rattle.timecode.specs.Layout.{Run, Field, seconds, minutes, hours, days, tenths, hundredthsDigit, hasSeconds, straightSeconds, control, years, timeFields, second, minute, hour, timeNumbers, numbers, fieldDigits, allDigits}
 use Rattle.timecode.specs.declared.Format.{Format}
 use Rattle.timecode.specs.declared.Time.{Time}
@@ -32,12 +32,14 @@ pub record Digits (ds : List ℕ) : Type 0 where
 
 -- ---- the digits of the time
 
-time-part : (f : Format) (t : Time) → OnFormat f t
+time-part : (f : Format) (t : Time) → isX f ≡ false → OnFormat f t
     → second (t .hundredths) % 10 ∷ second (t .hundredths) / 10 ∷ minute (t .hundredths) % 10 ∷ minute (t .hundredths) / 10 ∷ hour (t .hundredths) % 10 ∷ hour (t .hundredths) / 10
     ∷ t .day % 10 ∷ t .day / 10 % 10 ∷ t .day / 10 / 10 ∷ t .hundredths / 10 % 10 ∷ t .hundredths % 10 ∷ []
-    ≡ allDigits (timeFields f) (timeNumbers t)
+    ≡ allDigits (timeFields f) (timeNumbers f t)
 unfolding timeFields timeNumbers seconds minutes hours days tenths hundredthsDigit
-time-part f t o =
+time-part f t x o =
+    rw (carried-day f t x)
+    (
     let c = t .hundredths in
     let seconds-tens : second c / 10 ≡ second c / 10 % 10 = omega (arith, o .below) in
     let minutes-tens : minute c / 10 ≡ minute c / 10 % 10 = omega arith in
@@ -46,7 +48,7 @@ time-part f t o =
     let tenth : c / 10 % 10 ≡ c / 10 % 10 % 10 = omega arith in
     let hundredth : c % 10 ≡ c % 10 % 10 = omega arith in
     λ i.
-    second c % 10 ∷ seconds-tens i ∷ minute c % 10 ∷ minutes-tens i ∷ hour c % 10 ∷ hours-tens i ∷ t .day % 10 ∷ t .day / 10 % 10 ∷ days-hundreds i ∷ tenth i ∷ hundredth i ∷ []
+    second c % 10 ∷ seconds-tens i ∷ minute c % 10 ∷ minutes-tens i ∷ hour c % 10 ∷ hours-tens i ∷ t .day % 10 ∷ t .day / 10 % 10 ∷ days-hundreds i ∷ tenth i ∷ hundredth i ∷ [])
 
 -- ---- straight binary seconds, where they are carried
 
@@ -155,11 +157,11 @@ splitDigits t straight word =
     ∷ word % 512 ∷ word / 512 % 512 ∷ word / 512 / 512 % 512 ∷ word / 512 / 512 / 512 % 512 ∷ word / 512 / 512 / 512 / 512 % 512
     ∷ t .year % 10 ∷ t .year / 10 ∷ []
 
-pub split-digits : (f : Format) (t : Time) (w straight word : ℕ) → Valid f t w → straight ≡ cond (eqb (getD (widthsOf f) 11 0) 0) 0 (t .hundredths / 100) → word ≡ w * 2 ^ (9 - getD (widthsOf f) 13 0)
-    → splitDigits t straight word ≡ allDigits (codeFields f) (numbers t w)
+pub split-digits : (f : Format) (t : Time) (w straight word : ℕ) → isX f ≡ false → Valid f t w → straight ≡ cond (eqb (getD (widthsOf f) 11 0) 0) 0 (t .hundredths / 100) → word ≡ w * 2 ^ (9 - getD (widthsOf f) 13 0)
+    → splitDigits t straight word ≡ allDigits (codeFields f) (numbers f t w)
 unfolding splitDigits codeFields timeFields numbers timeNumbers seconds minutes hours days tenths hundredthsDigit codeControl years
-split-digits f t w straight word v p q =
-    λ i. time-part f t (v .time) i ++ (straight-part f (t .hundredths / 100) straight (omega (arith, v .time .below)) p i ++ (control-part f (v .format) w word (v .room) q i ++ year-part f t (v .time) i))
+split-digits f t w straight word x v p q =
+    λ i. time-part f t x (v .time) i ++ (straight-part f (t .hundredths / 100) straight (omega (arith, v .time .below)) p i ++ (control-part f (v .format) w word (v .room) q i ++ year-part f t (v .time) i))
 
 code-total : (f : Format) → totalWidth (codeControl f) ≡ getD (widthsOf f) 13 0 + getD (widthsOf f) 14 0 + getD (widthsOf f) 15 0 + getD (widthsOf f) 16 0 + getD (widthsOf f) 17 0
 unfolding widthsOf codeRuns codeFields timeFields seconds minutes hours days tenths hundredthsDigit straightSeconds codeControl years

@@ -1,10 +1,11 @@
 // A time and a control word as the digits at a format's runs, and what digits mean: numbers 7 and 8, the time and the control word.
-// Written digits are those of a time and a control word that Write takes; read ones come from a frame in which nothing offends.
+// Letter X is left out. Written digits are those of a time and a control word that Write takes; read ones come from a frame in which nothing offends.
 ghost use mathlib.Core.Path.{_≡_};
-ghost use mathlib.Core.Bool.{true, cond};
+ghost use mathlib.Core.Bool.{true, false, cond};
 ghost use Prim.Native.Nat.{_+_, _*_, _^_, _≤_, _<_};
 ghost use lib.Dec.{eqb};
 ghost use lib.ListN.{getD, length};
+ghost use Rattle.timecode.specs.Formats.{isX};
 ghost use Rattle.timecode.specs.Frames.{controlFits, Valid};
 ghost use Rattle.timecode.specs.Layout.{numbers, allDigits};
 ghost use Rattle.timecode.specs.declared.Format.{Format};
@@ -72,7 +73,7 @@ fn carried(widths: &[u8], j: usize, x: u64) -> u64
 // ranges behind the last that is carried.
 pub fn digits_of(widths: &[u8], time: Time, control: u64) -> [u64; 20]
     requires { ⌜ Widths (now widths) ⌝ }
-    ensures { λ r. ⌜ ((f : Format) → now (widths .entry) ≡ widthsOf f → Valid f time control → r ≡ allDigits (codeFields f) (numbers time control)) ⌝ }
+    ensures { λ r. ⌜ ((f : Format) → isX f ≡ false → now (widths .entry) ≡ widthsOf f → Valid f time control → r ≡ allDigits (codeFields f) (numbers f time control)) ⌝ }
 {
     let year = time.year as u64;
     let day = time.day as u64;

@@ -45,9 +45,9 @@ unfolding splitDigits
 returns c =
     let a = c .before .before .before .before .before .before .before .args in
     let w = a .control in
-    λ f same valid.
+    λ f x same valid.
     let width : c .width .result ≡ getD (widthsOf f) 13 0 = c .width .ensures .0 ∙ ap (λ ws. getD ws 13 0) same in
-    split-digits f (a .time) w (c .before .carried .result) _ valid
+    split-digits f (a .time) w (c .before .carried .result) _ x valid
     (c .before .carried .ensures ∙ ap (λ ws. cond (eqb (getD ws 11 0) 0) 0 (a .time .hundredths / 100)) same)
     (moved-fits f w (c .width .result) (subst Widths same (c .before .before .before .before .before .before .before .pre)) (valid .room) (c .width .ensures .1) ∙ ap (λ n. w * 2 ^ (9 - n)) width)
 
