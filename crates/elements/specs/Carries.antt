@@ -10,6 +10,7 @@ use borrow.Author.Tests.{ltb-true, ltb-false, leb-true, leb-false}
 use lib.Dec.{leb, ltb}
 use lib.ListN.{getD}
 use lib.Pow.{mod-mod-pow, mod-pow-add, pow-add, pow-pos}
+use Rattle.timecode.specs.Formats.{isX}
 use Rattle.timecode.specs.Frames.{covered}
 use Rattle.timecode.specs.Laws.Runs.{place-in}
 use Rattle.timecode.specs.Laws.Tests.{by-test}
@@ -82,9 +83,9 @@ abbrev pub AgreeBelow : ℕ → List Run → List ℕ → List ℕ → Type 0
 AgreeBelow m rs xs ys = (k : ℕ) → k < m → covered rs k ≡ true → getD xs k 0 ≡ getD ys k 0
 
 module _ (from to m : ℕ) (f : from ≤ m) (xs ys : List ℕ) where
-  run-low : (r : Run) → r .width ≤ roomAt (r .start) → ((k : ℕ) → k < m → inRun r k ≡ true → getD xs k 0 ≡ getD ys k 0) → from ≤ r .start
+  run-low : (r : Run) → r .width ≤ roomAt (r .start) → r .falls ≡ false → ((k : ℕ) → k < m → inRun r k ≡ true → getD xs k 0 ≡ getD ys k 0) → from ≤ r .start
       → digitIn xs r % 2 ^ roomAt (r .start) * 2 ^ (r .start - from) % 2 ^ (m - from) ≡ digitIn ys r % 2 ^ roomAt (r .start) * 2 ^ (r .start - from) % 2 ^ (m - from)
-  run-low r w e l =
+  run-low r w rises e l =
       let x = digitIn xs r in
       let y = digitIn ys r in
       let room = roomAt (r .start) in
@@ -96,26 +97,26 @@ module _ (from to m : ℕ) (f : from ≤ m) (xs ys : List ℕ) where
       (by-test (leb (r .width) (m - r .start))
       (λ b.
       let h = leb-true (r .width) (m - r .start) b in
-      ap (λ (n : ℕ). n % 2 ^ room % 2 ^ (m - r .start)) (value-below (r .width) (λ b. getD xs (placeOf r b) 0) (λ b. getD ys (placeOf r b) 0) (λ b k. e (placeOf r b) (omega arith) (place-in r b k))))
+      ap (λ (n : ℕ). n % 2 ^ room % 2 ^ (m - r .start)) (value-below (r .width) (λ b. getD xs (placeOf r b) 0) (λ b. getD ys (placeOf r b) 0) (λ b k. e (placeOf r b) (rw rises (omega arith)) (place-in r b k))))
       (λ b.
       let h = leb-false (r .width) (m - r .start) b in
       room-low x room (m - r .start) (omega arith)
-      ∙ value-low (r .width) (m - r .start) (λ b. getD xs (placeOf r b) 0) (λ b. getD ys (placeOf r b) 0) (λ b k. e (placeOf r b) (omega arith) (place-in r b (omega arith)))
+      ∙ value-low (r .width) (m - r .start) (λ b. getD xs (placeOf r b) 0) (λ b. getD ys (placeOf r b) 0) (λ b k. e (placeOf r b) (rw rises (omega arith)) (place-in r b (omega arith)))
       ∙ sym (room-low y room (m - r .start) (omega arith)))))
 
-  placed-low : (r : Run) → r .width ≤ roomAt (r .start) → ((k : ℕ) → k < m → inRun r k ≡ true → getD xs k 0 ≡ getD ys k 0)
+  placed-low : (r : Run) → r .width ≤ roomAt (r .start) → r .falls ≡ false → ((k : ℕ) → k < m → inRun r k ≡ true → getD xs k 0 ≡ getD ys k 0)
       → placedAt from to (r .start) (digitIn xs r) % 2 ^ (m - from) ≡ placedAt from to (r .start) (digitIn ys r) % 2 ^ (m - from)
-  placed-low r w e =
+  placed-low r w rises e =
       by-test (ltb (r .start) from)
       (λ y. rw y)
-      (λ y. by-test (leb to (r .start)) (λ z. rw (y, z)) (λ z. rw (y, z) (run-low r w e (ltb-false (r .start) from y))))
+      (λ y. by-test (leb to (r .start)) (λ z. rw (y, z)) (λ z. rw (y, z) (run-low r w rises e (ltb-false (r .start) from y))))
 
   packed-low : (rs : List Run) → Narrow rs → AgreeBelow m rs xs ys
       → packed from to (map (λ (r : Run). r .start) rs) (decode rs xs) % 2 ^ (m - from) ≡ packed from to (map (λ (r : Run). r .start) rs) (decode rs ys) % 2 ^ (m - from)
   unfolding packed
   packed-low [] n e = refl
   packed-low (r ∷ rs) n e =
-      let here = placed-low r (n .0) (λ k l h. e k l (rw h)) in
+      let here = placed-low r (n .0 .0) (n .0 .1) (λ k l h. e k l (rw h)) in
       let later = packed-low rs (n .1) (λ k l h. e k l (by-test (inRun r k) (λ y. rw y) (λ z. rw (z, h)))) in
       let starts = map (λ (r : Run). r .start) rs in
       add-mod (placedAt from to (r .start) (digitIn xs r)) (packed from to starts (decode rs xs)) (2 ^ (m - from))
@@ -131,11 +132,11 @@ module _ (from to m : ℕ) (f : from ≤ m) (xs ys : List ℕ) where
       ∙ sym (low-bit (packed from to starts (decode rs ys)) (m - from) b (omega arith))
 
 -- the digits of both, written again, are the same elements below the index
-pub put-low : (f : Format) (n m : ℕ) (xs ys : List ℕ) → AgreeBelow m (codeRuns f) xs ys → (k : ℕ) → k < m → k < n → getD (putIn n (decode (codeRuns f) xs)) k 0 ≡ getD (putIn n (decode (codeRuns f) ys)) k 0
+pub put-low : (f : Format) → isX f ≡ false → (n m : ℕ) (xs ys : List ℕ) → AgreeBelow m (codeRuns f) xs ys → (k : ℕ) → k < m → k < n → getD (putIn n (decode (codeRuns f) xs)) k 0 ≡ getD (putIn n (decode (codeRuns f) ys)) k 0
 unfolding elementAt startsOf
-put-low f n m xs ys e k h l =
+put-low f x n m xs ys e k h l =
     let rs = codeRuns f in
-    let starts : map (λ (r : Run). r .start) rs ≡ runStarts = same-starts f in
+    let starts : map (λ (r : Run). r .start) rs ≡ runStarts = same-starts f x in
     put-at n (decode rs xs) k l
     ∙ rw (← starts)
     (by-test (isMark k)
@@ -143,8 +144,8 @@ put-low f n m xs ys e k h l =
     (λ z.
     rw z
     (by-test (ltb k 60)
-    (λ y. rw y (bit-low 0 60 m (omega arith) xs ys rs (runs-narrow f) e k (omega arith)))
+    (λ y. rw y (bit-low 0 60 m (omega arith) xs ys rs (runs-narrow f x) e k (omega arith)))
     (λ y.
     let from = ltb-false k 60 y in
-    rw y (bit-low 60 100 m (omega arith) xs ys rs (runs-narrow f) e (k - 60) (omega arith))))))
+    rw y (bit-low 60 100 m (omega arith) xs ys rs (runs-narrow f x) e (k - 60) (omega arith))))))
     ∙ sym (put-at n (decode rs ys) k l)

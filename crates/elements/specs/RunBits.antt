@@ -9,7 +9,7 @@ use borrow.Author.Tests.{ltb-true, ltb-false, leb-true, leb-false}
 use lib.Dec.{leb, ltb}
 use lib.ListN.{getD, length}
 use lib.Pow.{field, high, low, mod-mod-pow, pow-mono, pow-pos, shr-shr, split}
-use Rattle.timecode.specs.Formats.{table, lookUp, rowOf, known, size, carriesControl, carriesSeconds, carriesYear, controlPlaces}
+use Rattle.timecode.specs.Formats.{isX, table, lookUp, rowOf, known, size, carriesControl, carriesSeconds, carriesYear, controlPlaces}
 use Rattle.timecode.specs.Frames.{covered}
 use Rattle.timecode.specs.Laws.Bits.{value-of-bits}
 use Rattle.timecode.specs.Laws.Runs.{in-run, proper, covered-once, later-proper, covered-inside, symbol-free, place-in, length-tabulate, getD-tabulate, tabulate-same, tabulate-self}
@@ -143,9 +143,9 @@ not-in : (r : Run) (i : ℕ) → (r .start ≤ i → i < r .start + r .width →
 not-in r i h = by-test (inRun r i) (λ y. let p = in-run r i y in absurd (h (p .0) (p .1))) (λ m. m)
 
 -- a number whose bits from t on are zeros, as far as x is wide, and x there
-sum-bit : (r : Run) (from m x b symbol : ℕ) → from ≤ r .start → x < 2 ^ r .width → m / 2 ^ (r .start - from) % 2 ^ r .width ≡ 0 → m / 2 ^ b % 2 ≡ symbol
+sum-bit : (r : Run) → r .falls ≡ false → (from m x b symbol : ℕ) → from ≤ r .start → x < 2 ^ r .width → m / 2 ^ (r .start - from) % 2 ^ r .width ≡ 0 → m / 2 ^ b % 2 ≡ symbol
     → (x * 2 ^ (r .start - from) + m) / 2 ^ b % 2 ≡ cond (inRun r (from + b)) (x / 2 ^ bitOf r (from + b) % 2) symbol
-sum-bit r from m x b symbol l s free q =
+sum-bit r rises from m x b symbol l s free q =
     let t = r .start - from in
     by-test (leb (r .start) (from + b))
     (λ y.
@@ -154,7 +154,7 @@ sum-bit r from m x b symbol l s free q =
     (λ z.
     let ends = ltb-true (from + b) (r .start + r .width) z in
     let bit : b - t ≡ from + b - r .start = omega arith in
-    rw (y, z) (within-sum m x t (r .width) s free b (omega arith) (omega arith) ∙ ap (λ (k : ℕ). x / 2 ^ k % 2) bit))
+    rw (y, z, rises) (within-sum m x t (r .width) s free b (omega arith) (omega arith) ∙ ap (λ (k : ℕ). x / 2 ^ k % 2) bit))
     (λ z. let behind = ltb-false (from + b) (r .start + r .width) z in rw (y, z) (above-sum m x t (r .width) s free b (omega arith) ∙ q)))
     (λ y. let before = leb-false (r .start) (from + b) y in rw y (below-sum m x t (r .width) s free b (omega arith) ∙ q))
 
@@ -180,17 +180,17 @@ module _ (n : ℕ) (fillers : ℕ → ℕ) (from to : ℕ) where
       rw (y, z, zero-add m, not-in r (from + b) (λ u v. omega arith)) (later b h))
       (λ z.
       let ends : r .start + r .width ≤ to = leb-true (r .start + r .width) to (rw (y, z) at here) in
-      let fits : x < 2 ^ roomAt (r .start) = omega (arith, s .0, pow-mono {i = r .width} {j = roomAt (r .start)} (w .0)) in
-      rw (y, z, mod-eq-of-lt fits) (sum-bit r from m x b (symbolAt zeros rs xs (from + b)) begins (s .0) (free r rs xs p m begins ends later) (later b h))))
+      let fits : x < 2 ^ roomAt (r .start) = omega (arith, s .0, pow-mono {i = r .width} {j = roomAt (r .start)} (w .0 .0)) in
+      rw (y, z, mod-eq-of-lt fits) (sum-bit r (w .0 .1) from m x b (symbolAt zeros rs xs (from + b)) begins (s .0) (free r (w .0 .1) rs xs p m begins ends later) (later b h))))
     where
-      free : (r : Run) (rs : List Run) (xs : List ℕ) → proper n fillers (r ∷ rs) ≡ true → (m : ℕ) → from ≤ r .start → r .start + r .width ≤ to
+      free : (r : Run) → r .falls ≡ false → (rs : List Run) (xs : List ℕ) → proper n fillers (r ∷ rs) ≡ true → (m : ℕ) → from ≤ r .start → r .start + r .width ≤ to
           → ((b : ℕ) → from + b < to → m / 2 ^ b % 2 ≡ symbolAt zeros rs xs (from + b)) → m / 2 ^ (r .start - from) % 2 ^ r .width ≡ 0
-      free r rs xs p m begins ends later =
+      free r rises rs xs p m begins ends later =
           let t = r .start - from in
           sym (value-of-bits (r .width) (λ c. m / 2 ^ t / 2 ^ c % 2) (m / 2 ^ t) (λ c l. refl))
           ∙ no-bits (r .width) (λ c. m / 2 ^ t / 2 ^ c % 2)
           (λ c l.
-          let place : from + (t + c) ≡ placeOf r c = omega arith in
+          let place : from + (t + c) ≡ placeOf r c = rw rises (omega arith) in
           ap (λ (k : ℕ). k % 2) (shr-shr m t c) ∙ later (t + c) (omega arith) ∙ ap (symbolAt zeros rs xs) place
           ∙ symbol-free n zeros rs xs (placeOf r c) (covered-once n fillers rs r p (placeOf r c) (place-in r c l)))
 
@@ -203,29 +203,29 @@ symbol-fillers fillers others (r ∷ rs) [] i h = h
 symbol-fillers fillers others (r ∷ rs) (x ∷ xs) i h = ap (cond (inRun r i) (x / 2 ^ bitOf r i % 2)) (symbol-fillers fillers others rs xs i h)
 
 -- a mark is in no run
-mark-free : (f : Format) → known f ≡ true → (i : ℕ) → isMark i ≡ true → covered (codeRuns f) i ≡ false
+mark-free : (f : Format) → known f ≡ true → isX f ≡ false → (i : ℕ) → isMark i ≡ true → covered (codeRuns f) i ≡ false
 unfolding filler
-mark-free f k i y = by-test (covered (codeRuns f) i) (λ h. clash {b = true} refl (rw y at (covered-inside (size f) (filler f) (codeRuns f) (code-proper f k) i h .1))) (λ m. m)
+mark-free f k x i y = by-test (covered (codeRuns f) i) (λ h. clash {b = true} refl (rw (x, y) at (covered-inside (size f) (filler f) (codeRuns f) (code-proper f k) i h .1))) (λ m. m)
 
-symbol-marks : (f : Format) → known f ≡ true → (xs : List ℕ) (i : ℕ) → symbolAt (filler f) (codeRuns f) xs i ≡ cond (isMark i) 2 (symbolAt zeros (codeRuns f) xs i)
+symbol-marks : (f : Format) → known f ≡ true → isX f ≡ false → (xs : List ℕ) (i : ℕ) → symbolAt (filler f) (codeRuns f) xs i ≡ cond (isMark i) 2 (symbolAt zeros (codeRuns f) xs i)
 unfolding filler
-symbol-marks f k xs i =
+symbol-marks f k x xs i =
     by-test (isMark i)
-    (λ y. symbol-free (size f) (filler f) (codeRuns f) xs i (mark-free f k i y) ∙ rw y)
-    (λ m. rw m (symbol-fillers (filler f) zeros (codeRuns f) xs i (rw m)))
+    (λ y. symbol-free (size f) (filler f) (codeRuns f) xs i (mark-free f k x i y) ∙ rw (x, y))
+    (λ m. rw m (symbol-fillers (filler f) zeros (codeRuns f) xs i (rw (x, m))))
 
 parts-apart : everyFormat (λ f. allApart 0 60 (codeRuns f) && allApart 60 100 (codeRuns f)) ≡ true
-unfolding everyFormat table codeRuns codeFields timeFields seconds minutes hours days tenths hundredthsDigit straightSeconds hasSeconds carriesSeconds codeControl codeRange carriesControl carriesYear controlPlaces years rowOf lookUp
+unfolding everyFormat table codeRuns codeFields timeFields seconds minutes hours days tenths hundredthsDigit straightSeconds hasSeconds carriesSeconds codeControl codeRange carriesControl carriesYear controlPlaces years rowOf lookUp isX
 parts-apart = refl
 
-module _ (f : Format) (k : known f ≡ true) (xs : List ℕ) where
+module _ (f : Format) (k : known f ≡ true) (x : isX f ≡ false) (xs : List ℕ) where
   -- the elements of the digits' bits
   abbrev put : ℕ → ℕ
   put = elementAt (packed 0 60 (startsOf f) xs) (packed 60 100 (startsOf f) xs)
 
   put-is : (n : ℕ) → putIn n xs ≡ tabulate n 0 put
   unfolding putIn
-  put-is n = rw (same-starts f)
+  put-is n = rw (same-starts f x)
 
   -- where the digits fit their runs, these are the symbols in which they stand
   pub put-right : Small (codeRuns f) xs → (n : ℕ) → n ≤ 100 → putIn n xs ≡ encode n (filler f) (codeRuns f) xs
@@ -241,12 +241,12 @@ module _ (f : Format) (k : known f ≡ true) (xs : List ℕ) where
       (by-test (ltb i 60)
       (λ y.
       let below = ltb-true i 60 y in
-      rw y (packed-bit (size f) (filler f) 0 60 (codeRuns f) xs (code-proper f k) (runs-narrow f) s first i (omega arith) ∙ ap (symbolAt zeros (codeRuns f) xs) (zero-add i)))
+      rw y (packed-bit (size f) (filler f) 0 60 (codeRuns f) xs (code-proper f k) (runs-narrow f x) s first i (omega arith) ∙ ap (symbolAt zeros (codeRuns f) xs) (zero-add i)))
       (λ y.
       let from = ltb-false i 60 y in
       let at : 60 + (i - 60) ≡ i = omega arith in
-      rw y (packed-bit (size f) (filler f) 60 100 (codeRuns f) xs (code-proper f k) (runs-narrow f) s last (i - 60) (omega arith) ∙ ap (symbolAt zeros (codeRuns f) xs) at)))
-      ∙ sym (symbol-marks f k xs i))
+      rw y (packed-bit (size f) (filler f) 60 100 (codeRuns f) xs (code-proper f k) (runs-narrow f x) s last (i - 60) (omega arith) ∙ ap (symbolAt zeros (codeRuns f) xs) at)))
+      ∙ sym (symbol-marks f k x xs i))
 
 pub length-put : (n : ℕ) (xs : List ℕ) → length (putIn n xs) ≡ n
 unfolding putIn

@@ -5,21 +5,21 @@ use mathlib.Core.List.{List, [], _∷_, map}
 use Prim.Native.Nat.{ℕ, zero, suc, _+_, _*_, _-_, _<_, _≤_}
 use native.Mathlib.Nat.{zero-add}
 use native.Mathlib.Omega.{arith}
-use borrow.Author.Tests.{leb-true}
+use borrow.Author.Tests.{leb-true, le-leb, lt-ltb}
 use lib.Dec.{leb, eqb}
 use lib.ListN.{getD, length, List·getD-map}
 use lib.Pow.{pow-mono}
-use Rattle.timecode.specs.Formats.{A, B, E, G, H, member, known, size, carriesControl, carriesYear, controlPlaces}
-use Rattle.timecode.specs.Laws.Runs.{place-in, covered-inside, covered-at, getD-tabulate}
+use Rattle.timecode.specs.Formats.{A, B, E, G, H, isX, member, known, size, carriesControl, carriesYear, controlPlaces}
+use Rattle.timecode.specs.Laws.Runs.{covered-inside, covered-at, getD-tabulate}
 use Rattle.timecode.specs.Laws.Tests.{by-test, and-left, and-right, everyBelow, below-every}
-use Rattle.timecode.specs.Layout.{Run, seconds, minutes, hours, days, tenths, hundredthsDigit, hasSeconds, straightSeconds, years, timeFields, filler, tabulate, value, Small, decode}
+use Rattle.timecode.specs.Layout.{Run, seconds, minutes, hours, days, tenths, hundredthsDigit, hasSeconds, straightSeconds, years, timeFields, inRun, filler, tabulate, value, Small, decode}
 use Rattle.timecode.specs.declared.Format.{Format}
 use Rattle.layout.specs.Letters.{same-starts}
 use Rattle.layout.specs.Tables.{runStarts, fullWidths, isCarried, runWidths, startsOf, widthsOf}
 use Rattle.layout.specs.Runs.{codeRange, codeControl, codeFields, codeRuns, code-proper}
 
 abbrev noRun : Run
-noRun = record { start = 0; width = 0; radix = 1 }
+noRun = record { start = 0; width = 0; radix = 1; falls = false }
 
 abbrev runAt : Format → ℕ → Run
 runAt f j = getD (codeRuns f) j noRun
@@ -50,52 +50,54 @@ pub room-small : (s : ℕ) → roomAt s ≤ 9
 unfolding roomAt
 room-small s = by-test (eqb s 55) (λ y. rw y (omega arith)) (λ n. rw n (omega arith))
 
--- every run has room
+-- every run has room, and its lowest weight first
 abbrev pub Narrow : List Run → Type 0
 Narrow [] = Unit
-Narrow (r ∷ rs) = (r .width ≤ roomAt (r .start)) × Narrow rs
+Narrow (r ∷ rs) = ((r .width ≤ roomAt (r .start)) × (r .falls ≡ false)) × Narrow rs
 
 -- so wide, or not carried
 carried-small : (b : Bool) (w room : ℕ) → w ≤ room → cond b w 0 ≤ room
 carried-small b w room h = by-test b (λ y. rw y h) (λ n. rw n (omega arith))
 
-pub runs-narrow : (f : Format) → Narrow (codeRuns f)
+pub runs-narrow : (f : Format) → isX f ≡ false → Narrow (codeRuns f)
 unfolding codeRuns codeFields timeFields seconds minutes hours days tenths hundredthsDigit straightSeconds codeControl codeRange years roomAt
-runs-narrow f =
-    (carried-small (member (f .letter) (A ∷ B ∷ G ∷ [])) 4 9 (omega arith), (carried-small (member (f .letter) (A ∷ B ∷ E ∷ G ∷ [])) 3 9 (omega arith), (carried-small (member (f .letter) (A ∷ B ∷ E ∷ G ∷ H ∷ [])) 4 9 (omega arith), (carried-small (member (f .letter) (A ∷ B ∷ E ∷ G ∷ H ∷ [])) 3 9 (omega arith), (omega arith, (omega arith, (omega arith, (omega arith, (omega arith, (carried-small (member (f .letter) (A ∷ G ∷ [])) 4 9 (omega arith), (carried-small (member (f .letter) (G ∷ [])) 4 9 (omega arith), (carried-small (hasSeconds f) 9 9 (omega arith), (carried-small (hasSeconds f) 8 9 (omega arith), (carried-small (carriesControl f && member 50 (controlPlaces f)) 9 9 (omega arith), (carried-small (carriesControl f && member 60 (controlPlaces f)) 9 9 (omega arith), (carried-small (carriesControl f && member 70 (controlPlaces f)) 9 9 (omega arith), (carried-small (carriesControl f && member 80 (controlPlaces f)) 9 9 (omega arith), (carried-small (carriesControl f && member 90 (controlPlaces f)) 9 9 (omega arith), (carried-small (carriesYear f) 4 9 (omega arith), (carried-small (carriesYear f) 4 4 (omega arith), tt))))))))))))))))))))
+runs-narrow f x = rw x ((carried-small (member (f .letter) (A ∷ B ∷ G ∷ [])) 4 9 (omega arith), refl), ((carried-small (member (f .letter) (A ∷ B ∷ E ∷ G ∷ [])) 3 9 (omega arith), refl), ((carried-small (member (f .letter) (A ∷ B ∷ E ∷ G ∷ H ∷ [])) 4 9 (omega arith), refl), ((carried-small (member (f .letter) (A ∷ B ∷ E ∷ G ∷ H ∷ [])) 3 9 (omega arith), refl), ((omega arith, refl), ((omega arith, refl), ((omega arith, refl), ((omega arith, refl), ((omega arith, refl), ((carried-small (member (f .letter) (A ∷ G ∷ [])) 4 9 (omega arith), refl), ((carried-small (member (f .letter) (G ∷ [])) 4 9 (omega arith), refl), ((carried-small (hasSeconds f) 9 9 (omega arith), refl), ((carried-small (hasSeconds f) 8 9 (omega arith), refl), ((carried-small (carriesControl f && member 50 (controlPlaces f)) 9 9 (omega arith), refl), ((carried-small (carriesControl f && member 60 (controlPlaces f)) 9 9 (omega arith), refl), ((carried-small (carriesControl f && member 70 (controlPlaces f)) 9 9 (omega arith), refl), ((carried-small (carriesControl f && member 80 (controlPlaces f)) 9 9 (omega arith), refl), ((carried-small (carriesControl f && member 90 (controlPlaces f)) 9 9 (omega arith), refl), ((carried-small (carriesYear f) 4 9 (omega arith), refl), ((carried-small (carriesYear f) 4 4 (omega arith), refl), tt))))))))))))))))))))
 
 narrow-at : (rs : List Run) → Narrow rs → (j : ℕ) → getD (map (λ (r : Run). r .width) rs) j 0 ≤ 9
 narrow-at [] h j = omega arith
-narrow-at (r ∷ rs) h zero = omega (arith, h .0, room-small (r .start))
+narrow-at (r ∷ rs) h zero = omega (arith, h .0 .0, room-small (r .start))
 narrow-at (r ∷ rs) h (suc j) = narrow-at rs (h .1) j
 
-pub width-small : (f : Format) (j : ℕ) → getD (widthsOf f) j 0 ≤ 9
+pub width-small : (f : Format) → isX f ≡ false → (j : ℕ) → getD (widthsOf f) j 0 ≤ 9
 unfolding widthsOf
-width-small f j = narrow-at (codeRuns f) (runs-narrow f) j
+width-small f x j = narrow-at (codeRuns f) (runs-narrow f x) j
 
 pub small-digit : (rs : List Run) (xs : List ℕ) → Narrow rs → Small rs xs → (j : ℕ) → getD xs j 0 < 512
 small-digit [] [] n s j = omega arith
 small-digit [] (x ∷ xs) n s j = absurd s
 small-digit (r ∷ rs) [] n s j = omega arith
-small-digit (r ∷ rs) (x ∷ xs) n s zero = omega (arith, s .0, pow-mono {i = r .width} {j = 9} (omega (arith, n .0, room-small (r .start))))
+small-digit (r ∷ rs) (x ∷ xs) n s zero = omega (arith, s .0, pow-mono {i = r .width} {j = 9} (omega (arith, n .0 .0, room-small (r .start))))
 small-digit (r ∷ rs) (x ∷ xs) n s (suc j) = small-digit rs xs (n .1) (s .1) j
+
+within : (r : Run) (k : ℕ) → k < r .width → inRun r (r .start + k) ≡ true
+within r k h = simp (le-leb (r .start) (r .start + k) (omega arith), lt-ltb (r .start + k) (r .start + r .width) (omega arith))
 
 pub run-inside : (f : Format) → known f ≡ true → (j k : ℕ) → j < 20 → k < getD (widthsOf f) j 0 → getD (startsOf f) j 0 + k < size f
 run-inside f h j k b l =
     let w : k < runAt f j .width = rw (width-at f j) at l in
     rw (start-at f j)
-    (covered-inside (size f) (filler f) (codeRuns f) (code-proper f h) (runAt f j .start + k) (covered-at (codeRuns f) noRun j (runAt f j .start + k) (omega (arith, length-runs f)) (place-in (runAt f j) k w)) .0)
+    (covered-inside (size f) (filler f) (codeRuns f) (code-proper f h) (runAt f j .start + k) (covered-at (codeRuns f) noRun j (runAt f j .start + k) (omega (arith, length-runs f)) (within (runAt f j) k w)) .0)
 
 -- a row's runs lie in a frame of n elements
 pub record RunsInside (widths : List ℕ) (n : ℕ) : Type 0 where
   pub narrow : (j : ℕ) → getD widths j 0 ≤ 9
   pub inside : (j k : ℕ) → j < 20 → k < getD widths j 0 → getD runStarts j 0 + k < n
 
-pub runs-inside : (f : Format) → known f ≡ true → RunsInside (widthsOf f) (size f)
-runs-inside f h =
+pub runs-inside : (f : Format) → known f ≡ true → isX f ≡ false → RunsInside (widthsOf f) (size f)
+runs-inside f h x =
     record {
-      narrow = width-small f;
-      inside = λ j k b l. rw (ap (λ (ss : List ℕ). getD ss j 0) (same-starts f)) at (run-inside f h j k b l);
+      narrow = width-small f x;
+      inside = λ j k b l. rw (ap (λ (ss : List ℕ). getD ss j 0) (same-starts f x)) at (run-inside f h j k b l);
     }
 
 -- ---- where runs start: nine bits that are moved there lose none
@@ -134,9 +136,9 @@ pub no-digit : (runs : ℕ) (frame : List ℕ) (j : ℕ) → j < 20 → isCarrie
 unfolding runDigit value
 no-digit runs frame j h n = rw (width-of runs j h, n)
 
-pub digits-at : (f : Format) (frame : List ℕ) → digitsAt (widthsOf f) frame ≡ decode (codeRuns f) frame
+pub digits-at : (f : Format) (frame : List ℕ) → isX f ≡ false → digitsAt (widthsOf f) frame ≡ decode (codeRuns f) frame
 unfolding digitsAt runDigit widthsOf codeRuns codeFields timeFields seconds minutes hours days tenths hundredthsDigit straightSeconds codeControl codeRange years
-digits-at f frame = refl
+digits-at f frame x = rw x
 
 -- ---- the bits of one digit, from the highest to the lowest
 
