@@ -37,23 +37,22 @@ impl Count {
     }
 }
 
-/// The window by definition: with the setting k the last kn + 1 symbols are a mark and k frames that Read takes, each
-/// next after the one before.
+/// The window by definition: with the setting k the last kn + 1 symbols are a mark and k frames that Read takes, in X the
+/// last kn are k such frames, each next after the one before.
 fn plain(format: Format, setting: u8, history: &mut Vec<u8>, symbol: u8) -> Answer {
     if symbol > 3 {
         return Answer::Refused(reference::Refusal::Symbol);
     }
     history.push(symbol);
     let n = size(format);
-    let Some(start) = history.len().checked_sub(usize::from(setting) * n + 1) else {
+    let Some(start) = history.len().checked_sub(usize::from(setting) * n) else {
         return Answer::Quiet;
     };
-    let w = &history[start..];
-    if w[0] != 2 {
+    if !is_x(format) && (start == 0 || history[start - 1] != 2) {
         return Answer::Quiet;
     }
     let mut last = None;
-    for frame in w[1..].chunks(n) {
+    for frame in history[start..].chunks(n) {
         let Ok((u, c)) = read(format, frame) else {
             return Answer::Quiet;
         };
@@ -89,9 +88,14 @@ fn show(name: &str, format: Format, setting: u8, c: &Count) {
     );
 }
 
+fn is_x(f: Format) -> bool {
+    f.letter == b'X'
+}
+
 fn size(f: Format) -> usize {
     match f.letter {
         b'D' | b'H' => 60,
+        b'X' => 25,
         _ => 100,
     }
 }
@@ -99,7 +103,7 @@ fn size(f: Format) -> usize {
 fn interval(f: Format) -> u32 {
     match f.letter {
         b'A' => 10,
-        b'B' => 100,
+        b'B' | b'X' => 100,
         b'D' => 360_000,
         b'E' => 1_000,
         b'G' => 1,
@@ -123,13 +127,13 @@ fn control_bits(f: Format) -> u32 {
     bits
 }
 
-/// Frames of a generator that starts on day 365 of that year, where the format carries it, and is told a length of the year
-/// with each step.
+/// Frames of a generator that starts on day 365 of that year, where the format carries them, and is told a length of the
+/// year with each step.
 fn frames(f: Format, year: u8, length: impl Fn(u64) -> u16) -> Vec<u8> {
     let bits = control_bits(f);
     let mut t = Time {
         year: if f.expression < 4 { 0 } else { year },
-        day: 365,
+        day: if is_x(f) { 1 } else { 365 },
         hundredths: 8_640_000 - 11 * interval(f),
     };
     let mut out = Vec::new();
@@ -152,6 +156,7 @@ fn formats() -> Vec<Format> {
         ("E", 1..3),
         ("G", 1..3),
         ("H", 1..3),
+        ("X", 2..3),
     ]
     .into_iter()
     .flat_map(|(l, es)| {
@@ -204,7 +209,12 @@ fn made_up(setting: u8) {
     each("shaped", setting, &|f| {
         let n = size(f);
         (0..M)
-            .map(|i| if i % n == 0 || i % n % 10 == 9 { 2 } else { 1 })
+            .map(|i| match i % n {
+                0 => 2,
+                21.. if is_x(f) => 3,
+                index if !is_x(f) && index % 10 == 9 => 2,
+                _ => 1,
+            })
             .collect()
     });
     random_symbols(setting);

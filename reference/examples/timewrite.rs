@@ -2,14 +2,12 @@
 use reference::{step, write, Format, Refusal, Time, USUAL_DAY};
 
 fn line(format: Format, time: Time, control: u64) -> Result<String, Refusal> {
-    let mut frame = vec![
-        0;
-        if b"DH".contains(&format.letter) {
-            60
-        } else {
-            100
-        }
-    ];
+    let size = match format.letter {
+        b'D' | b'H' => 60,
+        b'X' => 25,
+        _ => 100,
+    };
+    let mut frame = vec![0; size];
     write(format, time, control, &mut frame)?;
     let groups = frame.chunks(10).map(|group| {
         let characters = group.iter().map(|&symbol| b"01P-"[usize::from(symbol)]);

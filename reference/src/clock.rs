@@ -44,6 +44,16 @@ fn length_of(layout: &Layout, year: u8, given: u16) -> u16 {
     }
 }
 
+/// The day after which day 1 comes: the year's last, or day 1 itself where the
+/// format carries no day.
+fn day_before_new_year(layout: &Layout, year_length: u16) -> u16 {
+    if layout.carries_day {
+        year_length
+    } else {
+        1
+    }
+}
+
 /// The hundredths of a day of that kind as the format counts them, or refusal
 /// 11 or 15 for a time that no such day of such a year has.
 fn day_length(layout: &Layout, time: Time, year_length: u16, kind: u8) -> Result<u32, Refusal> {
@@ -94,7 +104,7 @@ pub fn step_back(format: Format, time: Time, year_length: u16, kind: u8) -> Resu
         Time {
             year,
             day: if first_of_year {
-                year_length
+                day_before_new_year(layout, year_length)
             } else {
                 time.day - 1
             },
@@ -110,7 +120,7 @@ fn advance(layout: &Layout, time: Time, year_length: u16, kind: u8) -> Result<Ti
     let hundredths = time.hundredths + layout.interval;
     Ok(if hundredths < day_length {
         Time { hundredths, ..time }
-    } else if time.day < year_length {
+    } else if time.day < day_before_new_year(layout, year_length) {
         Time {
             year: time.year,
             day: time.day + 1,

@@ -2,7 +2,7 @@
 
 /// A year from 2000, a day of year and the hundredths of a second since
 /// midnight; the added second of a day follows its 86,400 usual ones. The year
-/// is 0 where the format carries none.
+/// is 0 where the format carries none, and in X the day is 1.
 #[derive(Clone, Copy, Debug, PartialEq, Eq, Hash)]
 pub struct Time {
     pub year: u8,
@@ -50,7 +50,8 @@ impl Time {
 }
 
 /// A rate letter (capital ASCII) and a coded expression: 0 = BCD, CF, SBS;
-/// 1 = BCD, CF; 2 = BCD; 3 = BCD, SBS; 4 to 7 = 0 to 3 with the year.
+/// 1 = BCD, CF; 2 = BCD; 3 = BCD, SBS; 4 to 7 = 0 to 3 with the year. X has 2
+/// alone.
 #[derive(Clone, Copy, Debug, PartialEq, Eq, Hash)]
 pub struct Format {
     pub letter: u8,
@@ -63,5 +64,5 @@ pub const ZERO: u8 = 0;
 pub const ONE: u8 = 1;
 /// Symbol of a position identifier or reference bit.
 pub const MARK: u8 = 2;
-/// Symbol of an element that could not be told.
+/// Symbol of an element that could not be told, and of a missing pulse in X.
 pub const SPOILED: u8 = 3;

@@ -56,7 +56,10 @@ pub(crate) fn decode(layout: &Layout, frame: &[u8]) -> Result<(Time, u64), Refus
     check_elements(layout, frame)?;
 
     let year = get_decimal(frame, &layout.year)? as u8;
-    let day = get_decimal(frame, &layout.days)?;
+    let day = match layout.carries_day {
+        true => get_decimal(frame, &layout.days)?,
+        false => 1,
+    };
     let hours = get_decimal(frame, &layout.hours)?;
     let minutes = get_decimal(frame, &layout.minutes)?;
     let seconds = get_decimal(frame, &layout.seconds)?;
@@ -96,7 +99,10 @@ pub(crate) fn decode(layout: &Layout, frame: &[u8]) -> Result<(Time, u64), Refus
 fn check_elements(layout: &Layout, frame: &[u8]) -> Result<(), Refusal> {
     for (index, (&symbol, &kind)) in frame.iter().zip(&layout.kinds).enumerate() {
         match (kind, symbol) {
-            (Element::Mark, MARK) | (Element::IndexMarker, ZERO) | (Element::Bit, ZERO | ONE) => {}
+            (Element::Mark, MARK)
+            | (Element::IndexMarker, ZERO)
+            | (Element::Bit, ZERO | ONE)
+            | (Element::MissingPulse, SPOILED) => {}
             (Element::Mark, _) | (_, MARK) => return Err(Refusal::Mark(index)),
             _ => return Err(Refusal::Element(index)),
         }
@@ -105,17 +111,33 @@ fn check_elements(layout: &Layout, frame: &[u8]) -> Result<(), Refusal> {
 }
 
 fn put_bits(frame: &mut [u8], field: Field, value: u64) {
-    for (bit, symbol) in frame[field.start..][..field.width].iter_mut().enumerate() {
+    let symbols = frame[field.start..][..field.width].iter_mut();
+    if field.highest_first {
+        put_rising(symbols.rev(), value);
+    } else {
+        put_rising(symbols, value);
+    }
+}
+
+/// Sets symbols to the bits of a value, the lowest first.
+fn put_rising<'a>(symbols: impl Iterator<Item = &'a mut u8>, value: u64) {
+    for (bit, symbol) in symbols.enumerate() {
         *symbol = (value >> bit & 1) as u8;
     }
 }
 
 fn get_bits(frame: &[u8], field: Field) -> u64 {
-    let symbols = &frame[field.start..][..field.width];
-    symbols
-        .iter()
-        .rev()
-        .fold(0, |value, &symbol| value << 1 | u64::from(symbol))
+    let symbols = frame[field.start..][..field.width].iter();
+    if field.highest_first {
+        get_falling(symbols)
+    } else {
+        get_falling(symbols.rev())
+    }
+}
+
+/// The value of symbols as bits, the highest first.
+fn get_falling<'a>(symbols: impl Iterator<Item = &'a u8>) -> u64 {
+    symbols.fold(0, |value, &symbol| value << 1 | u64::from(symbol))
 }
 
 /// Writes a number as decimal digits; `digits` lists them highest first.

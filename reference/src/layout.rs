@@ -1,29 +1,44 @@
 //! Where each element of a frame stands: one constant table for each format,
 //! used by writer and reader alike.
 
-use crate::formats::{Format, Time, MARK, ZERO};
+use crate::formats::{Format, Time, MARK, SPOILED, ZERO};
 use crate::refusal::Refusal;
 
 /// The longest frame, in elements.
 pub const MAX_ELEMENTS: usize = 100;
 
-/// Consecutive elements carrying bits, lowest weight first.
+/// Consecutive elements carrying bits.
 #[derive(Clone, Copy, Debug, PartialEq, Eq)]
 pub struct Field {
     pub start: usize,
     pub width: usize,
+    /// Whether the highest weight stands first, and not the lowest.
+    pub highest_first: bool,
 }
 
-/// Elements `start` to `last`, both included.
+/// Elements `start` to `last`, both included, lowest weight first.
 const fn field(start: usize, last: usize) -> Field {
     Field {
         start,
         width: last - start + 1,
+        highest_first: false,
+    }
+}
+
+/// Elements `start` to `last`, both included, highest weight first.
+const fn highest_first(start: usize, last: usize) -> Field {
+    Field {
+        highest_first: true,
+        ..field(start, last)
     }
 }
 
 /// A digit that the format does not carry; it always counts as 0.
-const ABSENT: Field = Field { start: 0, width: 0 };
+const ABSENT: Field = Field {
+    start: 0,
+    width: 0,
+    highest_first: false,
+};
 
 /// What belongs at one index of a frame.
 #[derive(Clone, Copy, Debug, PartialEq, Eq)]
@@ -31,6 +46,8 @@ pub enum Element {
     Mark,
     IndexMarker,
     Bit,
+    /// Symbol 3: no pulse stands there.
+    MissingPulse,
 }
 
 /// The frame of one format. Decimal digits are listed highest first, the parts
@@ -44,6 +61,10 @@ pub struct Layout {
     /// Whether a second added to a day or taken from it shows in the format.
     pub leap_second: bool,
     pub carries_year: bool,
+    /// Where it does not, every time is of day 1.
+    pub carries_day: bool,
+    /// Whether a frame counts only directly after a mark.
+    pub mark_before: bool,
     pub seconds: [Field; 2],
     pub minutes: [Field; 2],
     pub hours: [Field; 2],
@@ -57,7 +78,7 @@ pub struct Layout {
     pub binary_seconds: &'static [Field],
     /// What belongs at each index, derived from the fields above.
     pub kinds: [Element; MAX_ELEMENTS],
-    /// A frame with its marks set and everything else zero.
+    /// A frame with its marks and missing pulses set and everything else zero.
     pub blank: [u8; MAX_ELEMENTS],
 }
 
@@ -71,6 +92,7 @@ impl Layout {
             b'E' => (&E, 1),
             b'G' => (&G, 1),
             b'H' => (&H, 1),
+            b'X' => (&X, 2),
             _ => return Err(Refusal::Format),
         };
         format
@@ -81,13 +103,25 @@ impl Layout {
     }
 
     /// The last day that a time of that year has in the format: the year's own,
-    /// or 366 where the format does not carry it.
+    /// 366 where the format does not carry the year, 1 where it carries no day.
     pub fn last_day(&self, year: u8) -> u16 {
         if self.carries_year {
             Time::days_in(year)
-        } else {
+        } else if self.carries_day {
             Time::LAST_DAY
+        } else {
+            1
         }
+    }
+
+    /// What stands last in every good frame.
+    pub fn last_symbol(&self) -> u8 {
+        self.blank[self.elements - 1]
+    }
+
+    /// Elements asked for before the first frame: one mark, or none.
+    pub fn lead(&self) -> usize {
+        usize::from(self.mark_before)
     }
 
     /// Number of control bits that a frame carries.
@@ -120,6 +154,7 @@ static D: [Layout; 2] = [build(b'D', 1), build(b'D', 2)];
 static E: [Layout; 2] = [build(b'E', 1), build(b'E', 2)];
 static G: [Layout; 2] = [build(b'G', 1), build(b'G', 2)];
 static H: [Layout; 2] = [build(b'H', 1), build(b'H', 2)];
+static X: [Layout; 1] = [build_xr3()];
 
 const CONTROL_A_B: &[Field] = &[field(50, 58), field(60, 68), field(70, 78)];
 const CONTROL_WITH_YEAR: &[Field] = &[field(60, 68), field(70, 78)];
@@ -192,13 +227,10 @@ const fn build(letter: u8, expression: u8) -> Layout {
     set_bits(&mut kinds, &fraction);
     set_bits(&mut kinds, control);
     set_bits(&mut kinds, binary_seconds);
-
-    let mut blank = [ZERO; MAX_ELEMENTS];
     let mut index = 0;
     while index < elements {
         if index == 0 || index % 10 == 9 {
             kinds[index] = Element::Mark;
-            blank[index] = MARK;
         }
         index += 1;
     }
@@ -208,6 +240,8 @@ const fn build(letter: u8, expression: u8) -> Layout {
         interval,
         leap_second,
         carries_year,
+        carries_day: true,
+        mark_before: true,
         seconds,
         minutes,
         hours: HOURS,
@@ -217,8 +251,53 @@ const fn build(letter: u8, expression: u8) -> Layout {
         control,
         binary_seconds,
         kinds,
-        blank,
+        blank: blank(&kinds),
     }
+}
+
+/// The table of X2, document 02, "XR3 tapes".
+const fn build_xr3() -> Layout {
+    let hours = [highest_first(1, 2), highest_first(3, 6)];
+    let minutes = [highest_first(7, 9), highest_first(10, 13)];
+    let seconds = [highest_first(14, 16), highest_first(17, 20)];
+    let mut kinds = [Element::MissingPulse; MAX_ELEMENTS];
+    kinds[0] = Element::Mark;
+    set_bits(&mut kinds, &hours);
+    set_bits(&mut kinds, &minutes);
+    set_bits(&mut kinds, &seconds);
+    Layout {
+        elements: 25,
+        interval: 100,
+        leap_second: false,
+        carries_year: false,
+        carries_day: false,
+        mark_before: false,
+        seconds,
+        minutes,
+        hours,
+        days: [ABSENT; 3],
+        year: [ABSENT; 2],
+        fraction: [ABSENT; 2],
+        control: &[],
+        binary_seconds: &[],
+        kinds,
+        blank: blank(&kinds),
+    }
+}
+
+/// The frame of these elements in which every bit is zero.
+const fn blank(kinds: &[Element; MAX_ELEMENTS]) -> [u8; MAX_ELEMENTS] {
+    let mut blank = [ZERO; MAX_ELEMENTS];
+    let mut index = 0;
+    while index < MAX_ELEMENTS {
+        blank[index] = match kinds[index] {
+            Element::Mark => MARK,
+            Element::MissingPulse => SPOILED,
+            Element::IndexMarker | Element::Bit => ZERO,
+        };
+        index += 1;
+    }
+    blank
 }
 
 const fn set_bits(kinds: &mut [Element; MAX_ELEMENTS], fields: &[Field]) {

@@ -1,9 +1,9 @@
 //! Serial time code after IRIG 200-98: formats A, B, D, E, G and H as
-//! pulse-width elements, with days that are a second longer or shorter, and A
-//! and B with the year after IRIG 200-04.
+//! pulse-width elements, with days that are a second longer or shorter, A and B
+//! with the year after IRIG 200-04, and the XR3 code as format X.
 //!
 //! A symbol is one byte: 0 (zero or index marker), 1 (one), 2 (mark: position
-//! identifier or reference bit), 3 (spoiled).
+//! identifier or reference bit), 3 (spoiled, or in X a missing pulse).
 
 #![forbid(unsafe_code)]
 

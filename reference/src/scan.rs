@@ -7,6 +7,7 @@ use crate::refusal::Refusal;
 
 /// The lowest `a`, at least 1 and at least `start`, where element `a - 1` is a
 /// mark and a good frame begins at `a`; with the frame's time and control word.
+/// In X no mark is asked for before the frame, and `a` may be 0.
 pub fn scan(
     format: Format,
     recording: &[u8],
@@ -16,14 +17,16 @@ pub fn scan(
     if start > recording.len() {
         return Err(Refusal::Start);
     }
-    let before = start.saturating_sub(1);
-    for (offset, window) in recording[before..].windows(layout.elements + 1).enumerate() {
+    let lead = layout.lead();
+    let before = start.saturating_sub(lead);
+    let windows = recording[before..].windows(lead + layout.elements);
+    for (offset, window) in windows.enumerate() {
         // The mark before the frame and the frame's own reference bit.
-        if window[0] != MARK || window[1] != MARK {
+        if window[..=lead].iter().any(|&symbol| symbol != MARK) {
             continue;
         }
-        if let Ok((time, control)) = decode(layout, &window[1..]) {
-            return Ok(Some((before + offset + 1, time, control)));
+        if let Ok((time, control)) = decode(layout, &window[lead..]) {
+            return Ok(Some((before + offset + lead, time, control)));
         }
     }
     Ok(None)

@@ -22,16 +22,16 @@ pub enum Answer {
 }
 
 /// Hears one symbol at a time and, with the setting k, keeps the last kn + 1 of
-/// them.
+/// them, in X the last kn.
 #[derive(Clone, Debug, PartialEq, Eq)]
 pub struct Reader {
     format: Format,
     layout: &'static Layout,
     setting: u8,
-    /// Ring of the last kn + 1 symbols, held twice in a row so that they can
-    /// be seen in one piece. What has not been heard yet is spoiled.
+    /// Ring of the window's symbols, held twice in a row so that they can be
+    /// seen in one piece. What has not been heard yet is spoiled.
     ring: [u8; 2 * MAX_WINDOW],
-    /// Where the next symbol goes, below kn + 1.
+    /// Where the next symbol goes, below the window's length.
     head: usize,
     /// Symbols accepted so far, modulo n.
     place: usize,
@@ -69,7 +69,7 @@ impl Reader {
             return Answer::Refused(Refusal::Symbol);
         }
         self.push(symbol);
-        if symbol != MARK {
+        if symbol != self.layout.last_symbol() {
             return Answer::Quiet;
         }
         match self.newest_frame() {
@@ -95,11 +95,12 @@ impl Reader {
     }
 
     /// The last frame's reading, if the last kn + 1 symbols are a mark and k
-    /// good frames, each next after the one before.
+    /// good frames, in X the last kn k good frames, each next after the one
+    /// before.
     fn newest_frame(&self) -> Option<(Time, u64)> {
         let window = &self.ring[self.head..][..self.window_length()];
-        let (&oldest, frames) = window.split_first()?;
-        if oldest != MARK {
+        let (lead, frames) = window.split_at(self.layout.lead());
+        if lead.iter().any(|&symbol| symbol != MARK) {
             return None;
         }
         let mut readings = frames
@@ -113,6 +114,6 @@ impl Reader {
     }
 
     fn window_length(&self) -> usize {
-        usize::from(self.setting) * self.layout.elements + 1
+        usize::from(self.setting) * self.layout.elements + self.layout.lead()
     }
 }

@@ -3,223 +3,18 @@
 //! the stream reader with each of its settings, fed singly and in blocks, held
 //! against the plain machine.
 
+mod common;
+
+use common::*;
 use reference::{
     backward, classify, classify_and_feed, classify_list, difference, forward, next_after, read,
     scan, step, step_back, timeread, write, Answer, Block, Format, Reader, Refusal, Stop, Time,
     MARK, SECOND_ADDED, SECOND_TAKEN, USUAL_DAY,
 };
 
-const FORMATS: [&str; 24] = [
-    "A0", "A1", "A2", "A3", "A4", "A5", "A6", "A7", "B0", "B1", "B2", "B3", "B4", "B5", "B6", "B7",
-    "D1", "D2", "E1", "E2", "G1", "G2", "H1", "H2",
-];
-
-const SETTINGS: [u8; 4] = [2, 3, 4, 5];
-
 const LISTING: &str = "H1\n\
     P P00000000P 000100000P 001001000P 100001001P 100000000P 000000000P \
     P00000000P 100100000P 001001000P 100001001P 100000000P 000000000P";
-
-fn format(name: &str) -> Format {
-    let name = name.as_bytes();
-    Format {
-        letter: name[0],
-        expression: name[1] - b'0',
-    }
-}
-
-/// A time of year 0.
-fn time(day: u16, hundredths: u32) -> Time {
-    dated(0, day, hundredths)
-}
-
-fn dated(year: u8, day: u16, hundredths: u32) -> Time {
-    Time {
-        year,
-        day,
-        hundredths,
-    }
-}
-
-/// n, S and the number of control bits by document 01's table, and 18 of these
-/// beside the year.
-fn table(format: Format) -> (usize, u32, u32) {
-    let (n, s, bits) = match format.letter {
-        b'A' => (100, 10, 27),
-        b'B' => (100, 100, 27),
-        b'D' => (60, 360_000, 9),
-        b'E' => (100, 1_000, 45),
-        b'G' => (100, 1, 36),
-        b'H' => (60, 6_000, 9),
-        _ => unreachable!(),
-    };
-    let bits = match format.expression {
-        0 | 1 => bits,
-        4 | 5 => 18,
-        _ => 0,
-    };
-    (n, s, bits)
-}
-
-/// Whether the format carries the year.
-fn has_year(format: Format) -> bool {
-    format.expression >= 4
-}
-
-fn formats_without_year() -> impl Iterator<Item = Format> {
-    FORMATS
-        .into_iter()
-        .map(format)
-        .filter(|&format| !has_year(format))
-}
-
-fn formats_with_year() -> impl Iterator<Item = Format> {
-    FORMATS.into_iter().map(format).filter(|&f| has_year(f))
-}
-
-fn days_in(year: u8) -> u16 {
-    365 + u16::from(year % 4 == 0)
-}
-
-/// Whether the format carries the leap second.
-fn leaps(format: Format) -> bool {
-    b"ABG".contains(&format.letter)
-}
-
-/// Where days of the kinds 0, 1 and 2 end in the format's frames.
-fn day_ends(format: Format) -> [u32; 3] {
-    if leaps(format) {
-        [8_640_000, 8_640_100, 8_639_900]
-    } else {
-        [8_640_000; 3]
-    }
-}
-
-fn frame(format: Format, time: Time, control: u64) -> Vec<u8> {
-    let mut frame = vec![0xa5; table(format).0];
-    write(format, time, control, &mut frame).expect("a time and control word to write");
-    frame
-}
-
-fn ones(frame: &[u8]) -> Vec<usize> {
-    (0..frame.len())
-        .filter(|&index| frame[index] == 1)
-        .collect()
-}
-
-/// A small generator of numbers, the same at each run.
-struct Random(u64);
-
-impl Random {
-    fn below(&mut self, limit: u64) -> u64 {
-        self.0 ^= self.0 << 13;
-        self.0 ^= self.0 >> 7;
-        self.0 ^= self.0 << 17;
-        (self.0 >> 11) % limit
-    }
-
-    fn time(&mut self, format: Format) -> Time {
-        let s = table(format).1;
-        let frames = u64::from(8_640_000 / s);
-        // Half of the times lie close before the end of a day of some kind.
-        let end = match self.below(3) {
-            0 if leaps(format) => 8_639_900,
-            1 if leaps(format) => 8_640_100,
-            _ => 8_640_000,
-        };
-        let hundredths = match self.below(2) {
-            0 => self.below(frames) as u32 * s,
-            _ => end - (1 + self.below(frames.min(4)) as u32) * s,
-        };
-        let (year, last) = if has_year(format) {
-            let year = [0, 1, 99, self.below(100) as u8][self.below(4) as usize];
-            (year, days_in(year))
-        } else {
-            (0, 366)
-        };
-        let day = match self.below(4) {
-            0 => 365,
-            1 => last,
-            _ => 1 + self.below(last.into()) as u16,
-        };
-        dated(year, day, hundredths)
-    }
-
-    fn control(&mut self, format: Format) -> u64 {
-        self.below(1 << table(format).2)
-    }
-
-    fn setting(&mut self) -> u8 {
-        SETTINGS[self.below(4) as usize]
-    }
-
-    /// Frames of a generator one after another, each with its time.
-    fn generator(&mut self, format: Format, count: usize) -> (Vec<u8>, Vec<Time>) {
-        let mut elements = Vec::new();
-        let mut times = Vec::new();
-        let mut now = self.time(format);
-        for _ in 0..count {
-            elements.extend(frame(format, now, self.control(format)));
-            times.push(now);
-            let length = if now.day == 366 {
-                366
-            } else {
-                365 + self.below(2) as u16
-            };
-            // A day with a second added holds every time.
-            let kind = self.below(3) as u8;
-            now = step(format, now, length, kind)
-                .or_else(|_| step(format, now, length, SECOND_ADDED))
-                .expect("a step");
-        }
-        (elements, times)
-    }
-}
-
-/// The plain machine with the setting k: holds every accepted symbol and looks
-/// at the last kn + 1.
-struct PlainMachine {
-    format: Format,
-    setting: usize,
-    list: Vec<u8>,
-}
-
-impl PlainMachine {
-    fn new(format: Format, setting: u8) -> PlainMachine {
-        PlainMachine {
-            format,
-            setting: setting.into(),
-            list: Vec::new(),
-        }
-    }
-
-    fn feed(&mut self, symbol: u8) -> Answer {
-        if symbol > 3 {
-            return Answer::Refused(Refusal::Symbol);
-        }
-        self.list.push(symbol);
-        let n = table(self.format).0;
-        let Some(begin) = self.list.len().checked_sub(self.setting * n + 1) else {
-            return Answer::Quiet;
-        };
-        let frames = self.list[begin + 1..].chunks(n);
-        let accepted: Vec<(Time, u64)> = frames
-            .filter_map(|frame| read(self.format, frame).ok())
-            .collect();
-        let (time, control) = match accepted.last() {
-            Some(&last) if accepted.len() == self.setting => last,
-            _ => return Answer::Quiet,
-        };
-        let in_a_row = accepted
-            .windows(2)
-            .all(|pair| next_after(self.format, pair[0].0, pair[1].0));
-        if self.list[begin] == MARK && in_a_row {
-            Answer::Report(time, control)
-        } else {
-            Answer::Quiet
-        }
-    }
-}
 
 #[test]
 fn listing() {
@@ -387,7 +182,7 @@ fn stepping_by_kind() {
             );
         }
     }
-    for name in FORMATS {
+    for name in FORMATS.into_iter().filter(|name| has_day(format(name))) {
         for step in [step, step_back] {
             refused_by_kind(step, name);
         }
@@ -546,8 +341,7 @@ fn added_second() {
         [7, 8, 10, 13, 15, 17, 20, 21, 26, 30, 45, 51]
     );
 
-    for name in FORMATS {
-        let format = format(name);
+    for format in FORMATS.map(format).into_iter().filter(|&f| has_day(f)) {
         let (n, s, _) = table(format);
         for hundredths in (8_640_000..8_640_100).step_by(s as usize) {
             let mut lent = vec![9; n];
@@ -1003,7 +797,8 @@ fn written_and_read() {
     }
 }
 
-/// A reader joining at any element first reports (k + 1)n - j elements later.
+/// A reader joining at any element j first reports (k + 1)n - j elements later,
+/// in X at its first element kn.
 #[test]
 fn first_report() {
     let mut random = Random(2);
@@ -1022,42 +817,18 @@ fn first_report() {
                         _ => None,
                     });
             // Joined at the reference bit itself, the mark before is missing.
+            let last = if join < 1 - lead(format) {
+                frames - 2
+            } else {
+                frames - 1
+            };
             assert_eq!(
                 first,
-                Some((frames * n - join, times[frames - 1])),
+                Some(((last + 1) * n - join, times[last])),
                 "{name}, setting {setting}, joined at {join}"
             );
         }
     }
-}
-
-fn formats_and_settings() -> impl Iterator<Item = (&'static str, u8)> {
-    FORMATS
-        .into_iter()
-        .flat_map(|name| SETTINGS.map(|setting| (name, setting)))
-}
-
-/// Every report of the elements, by its last element counted from 1.
-fn reports(format: Format, setting: u8, elements: &[u8]) -> Vec<(usize, Time, u64)> {
-    let mut reader = Reader::fresh(format, setting).unwrap();
-    let numbered = (1..).zip(elements);
-    numbered
-        .filter_map(|(number, &symbol)| match reader.feed(symbol) {
-            Answer::Report(time, control) => Some((number, time, control)),
-            _ => None,
-        })
-        .collect()
-}
-
-/// How many reports, each with the time of the frame that ends there.
-fn right_reports(format: Format, setting: u8, elements: &[u8], times: &[Time]) -> usize {
-    let n = table(format).0;
-    let reports = reports(format, setting, elements);
-    for &(number, time, _) in &reports {
-        assert_eq!(number % n, 0);
-        assert_eq!(time, times[number / n - 1]);
-    }
-    reports.len()
 }
 
 /// One replaced symbol never makes a wrong time.
@@ -1271,9 +1042,10 @@ fn scanned() {
                 recording[index] = random.below(6) as u8;
             }
             let start = random.below(recording.len() as u64 + 1) as usize;
-            let expected = (start.max(1)..=recording.len() - n).find_map(|a| {
+            let lead = lead(format);
+            let expected = (start.max(lead)..=recording.len() - n).find_map(|a| {
                 let (time, control) = read(format, &recording[a..a + n]).ok()?;
-                (recording[a - 1] == MARK).then_some((a, time, control))
+                (lead == 0 || recording[a - 1] == MARK).then_some((a, time, control))
             });
             assert_eq!(scan(format, &recording, start), Ok(expected));
         }
