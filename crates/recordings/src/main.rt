@@ -1,7 +1,7 @@
 // For each recording that an argument names: its name, and what timeread prints of it.
 // The expected lines are not this program's: they came with the recordings, and for those named own_, for leap_added_A0,
-// which the leap second changed, and for line_a4_baseonly and line_b7_baseonly, which the year changed, they are the plain version's in
-// reference/.
+// which the leap second changed, for line_a4_baseonly and line_b7_baseonly, which the year changed, and for line_x2_baseonly, which
+// letter X changed, they are the plain version's in reference/.
 fn print_recording(argument: usize) {
     let mut name = io::buffer();
     let n = os::arg(argument, &mut name);
