@@ -23,7 +23,7 @@ use timecode::Time;
 use timecode::Written;
 use timecode::ZERO;
 
-const FORMATS: usize = 24;
+const FORMATS: usize = 25;
 
 // Symbols of a stream that no generator made.
 const SYMBOLS: u64 = 200_000;
@@ -169,13 +169,23 @@ fn fresh(format: Format, setting: u8) -> Tally {
     }
 }
 
-// Marks where frames have them, and ones between.
-fn shaped(i: u64, n: u64) -> u8
+fn is_x(format: Format) -> bool {
+    format.letter == b'X'
+}
+
+// Marks, and in X missing pulses, where frames have them, and ones between.
+fn shaped(format: Format, i: u64, n: u64) -> u8
     requires { ⌜ 25 ≤ n ⌝ }
 {
     let index = i % n;
     if index == 0 {
         return MARK;
+    }
+    if is_x(format) {
+        if 20 < index {
+            return SPOILED;
+        }
+        return ONE;
     }
     if index % 10 == 9 {
         return MARK;
@@ -185,7 +195,7 @@ fn shaped(i: u64, n: u64) -> u8
 
 // Symbol i of a stream that no generator made. Pairs has marks where two frames of 60 have them at every third symbol, and
 // Fours where two of 60 or of 100 have them at every fourth: frames are looked into far more often than generators end them.
-fn symbol_of(case: Case, i: u64, n: u64) -> u8
+fn symbol_of(case: Case, format: Format, i: u64, n: u64) -> u8
     requires { ⌜ 25 ≤ n ⌝ }
 {
     match case {
@@ -210,7 +220,7 @@ fn symbol_of(case: Case, i: u64, n: u64) -> u8
             ZERO
         }
         Case::Refused => (4 + i % 252) as u8,
-        _ => shaped(i, n),
+        _ => shaped(format, i, n),
     }
 }
 
@@ -219,7 +229,7 @@ fn receive_symbols(case: Case, format: Format, setting: u8, count: u64) -> Tally
     let mut tally = fresh(format, setting);
     let mut i = 0;
     while i < count {
-        tally = receive(tally, symbol_of(case, i, n));
+        tally = receive(tally, symbol_of(case, format, i, n));
         i += 1;
     }
     tally
@@ -382,11 +392,19 @@ fn first_year(case: Case, format: Format) -> u8 {
     0
 }
 
+// In X every day is day 1.
+fn first_day(format: Format) -> u16 {
+    if is_x(format) {
+        return 1;
+    }
+    365
+}
+
 // Ten steps before the last time of day 365.
 fn first_time(case: Case, format: Format) -> Time {
     Time {
         year: first_year(case, format),
-        day: 365,
+        day: first_day(format),
         hundredths: Time::DAY_LENGTH - 11 * frame_interval(format),
     }
 }
@@ -489,7 +507,7 @@ fn print_line(name: &[u8], format: Format, setting: u8, tally: Tally) {
 }
 
 fn format_at(i: usize) -> Format {
-    let letters = *b"AAAAAAAABBBBBBBBDDEEGGHH";
+    let letters = *b"AAAAAAAABBBBBBBBDDEEGGHHX";
     let expressions = [
         0u8,
         1,
@@ -515,10 +533,11 @@ fn format_at(i: usize) -> Format {
         2,
         1,
         2,
+        2,
     ];
     Format {
-        letter: letters[i % 24],
-        expression: expressions[i % 24],
+        letter: letters[i % 25],
+        expression: expressions[i % 25],
     }
 }
 
