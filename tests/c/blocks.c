@@ -41,16 +41,6 @@ static uint16_t days[MOST];
 static uint32_t hundredths[MOST];
 static uint64_t controls[MOST];
 
-/* Memory of an exact length on the heap, so that valgrind sees an access past either end. */
-static void *memory(size_t bytes)
-{
-    void *lent = malloc(bytes == 0 ? 1 : bytes);
-    if (lent == NULL)
-        abort();
-    memset(lent, FILL, bytes == 0 ? 1 : bytes);
-    return lent;
-}
-
 /* One block: its reader with guard words around it, its lent list of records as five lists, and its result. */
 struct block {
     uint64_t guard0;
@@ -71,11 +61,11 @@ static struct block make(const duskveyra_reader *reader, size_t room)
     memset(&made, FILL, sizeof made);
     made.reader = *reader;
     made.room = room;
-    made.indexes = (size_t *)memory(room * sizeof *made.indexes);
-    made.years = (uint8_t *)memory(room * sizeof *made.years);
-    made.days = (uint16_t *)memory(room * sizeof *made.days);
-    made.hundredths = (uint32_t *)memory(room * sizeof *made.hundredths);
-    made.controls = (uint64_t *)memory(room * sizeof *made.controls);
+    made.indexes = (size_t *)lent_memory(room * sizeof *made.indexes);
+    made.years = (uint8_t *)lent_memory(room * sizeof *made.years);
+    made.days = (uint16_t *)lent_memory(room * sizeof *made.days);
+    made.hundredths = (uint32_t *)lent_memory(room * sizeof *made.hundredths);
+    made.controls = (uint64_t *)lent_memory(room * sizeof *made.controls);
     return made;
 }
 
@@ -91,7 +81,7 @@ static void release(struct block *block)
 /* Feeds the symbols, from memory of exactly their length, into lists of these lengths from an index on. */
 static void feed_lists(struct block *block, const uint8_t *symbols, size_t count, size_t from, const size_t *lengths)
 {
-    uint8_t *lent = (uint8_t *)memory(count);
+    uint8_t *lent = (uint8_t *)lent_memory(count);
     memcpy(lent, symbols, count);
     block->result = duskveyra_feed_block(&block->reader, lent, count, block->indexes + from, lengths[0],
                                          block->years + from, lengths[1], block->days + from, lengths[2],
@@ -380,16 +370,6 @@ static void refusals(void)
         invalid.words[2] = settings[which];
         refused_first(&invalid, DUSKVEYRA_INVALID_READER);
     }
-}
-
-static uint64_t random_state = UINT64_C(0x9e3779b97f4a7c15);
-
-static uint64_t below(uint64_t limit)
-{
-    random_state ^= random_state << 13;
-    random_state ^= random_state >> 7;
-    random_state ^= random_state << 17;
-    return (random_state * UINT64_C(0x2545f4914f6cdd1d) >> 11) % limit;
 }
 
 /* Feeds the symbols singly, up to where a block stops, and puts their reports into the block's lists. Gives how many

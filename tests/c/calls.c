@@ -59,23 +59,17 @@ static void set_values(uint16_t day, uint32_t hundredths, uint64_t control)
     SET(uint64_t, control, control);
 }
 
-/* Memory of an exact length on the heap, so that valgrind sees an access past either end. */
 static uint8_t *bytes(size_t length, int fill)
 {
-    uint8_t *memory = (uint8_t *)malloc(length == 0 ? 1 : length);
-    if (memory == NULL)
-        abort();
-    memset(memory, fill, length == 0 ? 1 : length);
+    uint8_t *memory = (uint8_t *)lent_memory(length);
+    memset(memory, fill, length);
     return memory;
 }
 
 static uint32_t *ticks(size_t length, uint32_t value)
 {
-    uint32_t *memory = (uint32_t *)malloc((length == 0 ? 1 : length) * sizeof(uint32_t));
+    uint32_t *memory = (uint32_t *)lent_memory(length * sizeof(uint32_t));
     size_t i;
-    if (memory == NULL)
-        abort();
-    memory[0] = value;
     for (i = 0; i < length; i++)
         memory[i] = value;
     return memory;
@@ -88,21 +82,6 @@ static int all_bytes(const uint8_t *memory, size_t length, int value)
         if (memory[i] != (uint8_t)value)
             return 0;
     return 1;
-}
-
-static uint64_t random_state = UINT64_C(0x9e3779b97f4a7c15);
-
-static uint64_t random64(void)
-{
-    random_state ^= random_state << 13;
-    random_state ^= random_state >> 7;
-    random_state ^= random_state << 17;
-    return random_state * UINT64_C(0x2545f4914f6cdd1d);
-}
-
-static uint64_t below(uint64_t limit)
-{
-    return (random64() >> 11) % limit;
 }
 
 /* Document 01's table, the formats without the year, and where each element stands. */

@@ -3,45 +3,13 @@
  * document 02, "The year on the wire". Also compiles as C++. */
 #include "check.h"
 #include "duskveyra.h"
+#include "times.h"
 
 #include <stdio.h>
 #include <stdlib.h>
 #include <string.h>
 
 #define N DUSKVEYRA_LONGEST_FRAME
-
-static uint64_t random_state = UINT64_C(0x9e3779b97f4a7c15);
-
-static uint64_t below(uint64_t limit)
-{
-    random_state ^= random_state << 13;
-    random_state ^= random_state >> 7;
-    random_state ^= random_state << 17;
-    return (random_state * UINT64_C(0x2545f4914f6cdd1d) >> 11) % limit;
-}
-
-static duskveyra_format format_of(char letter, unsigned expression)
-{
-    duskveyra_format format;
-    format.letter = (uint8_t)letter;
-    format.expression = (uint8_t)expression;
-    return format;
-}
-
-static duskveyra_time time_of(unsigned year, unsigned day, uint32_t hundredths)
-{
-    duskveyra_time time;
-    memset(&time, FILL, sizeof time);
-    time.year = (uint8_t)year;
-    time.day = (uint16_t)day;
-    time.hundredths = hundredths;
-    return time;
-}
-
-static int is_time(duskveyra_time time, unsigned year, unsigned day, uint32_t hundredths)
-{
-    return time.year == year && time.day == day && time.hundredths == hundredths;
-}
 
 static uint32_t interval_of(char letter)
 {
@@ -60,25 +28,6 @@ static uint64_t control_of(unsigned expression)
     return expression % 4 > 1 ? 0 : below(expression < 4 ? 1 << 27 : 1 << 18);
 }
 
-/* Memory of an exact length on the heap, so that valgrind sees an access past either end. */
-static uint8_t *bytes(size_t length)
-{
-    uint8_t *memory = (uint8_t *)malloc(length == 0 ? 1 : length);
-    if (memory == NULL)
-        abort();
-    memset(memory, FILL, length == 0 ? 1 : length);
-    return memory;
-}
-
-static int untouched(const uint8_t *memory, size_t length)
-{
-    size_t i;
-    for (i = 0; i < length; i++)
-        if (memory[i] != FILL)
-            return 0;
-    return 1;
-}
-
 /* One digit: its bits from the lowest weight on. */
 static int is_digit(const uint8_t *elements, unsigned digit)
 {
@@ -92,14 +41,6 @@ static int is_digit(const uint8_t *elements, unsigned digit)
 static uint8_t call_write(duskveyra_format format, duskveyra_time time, uint64_t control, uint8_t *frame)
 {
     return duskveyra_write(format, time, control, frame, N).number;
-}
-
-/* Both steps, for what holds of either. */
-static duskveyra_step_result step_either(int back, duskveyra_format format, duskveyra_time time, uint16_t year_length,
-                                         uint8_t kind)
-{
-    return back ? duskveyra_step_back(format, time, year_length, kind)
-                : duskveyra_step(format, time, year_length, kind);
 }
 
 /* Both converters; the year is given to the forward one. */
@@ -122,7 +63,7 @@ static void places(void)
                 uint32_t interval = interval_of(letters[which]), c = (uint32_t)below(8640100 / interval) * interval;
                 unsigned day = 1 + (unsigned)below(days_in(year));
                 uint64_t control = control_of(expression);
-                uint8_t *frame = bytes(N);
+                uint8_t *frame = lent_bytes(N);
                 duskveyra_read_result read;
                 CHECK(call_write(format, time_of(year, day, c), control, frame) == 0);
                 CHECK(is_digit(frame + 50, year % 10) && frame[54] == 0 && is_digit(frame + 55, year / 10));
@@ -156,7 +97,7 @@ static void invalid_years(void)
             int carried = format.expression > 3;
             uint8_t number = (carried ? year < 100 : year == 0) ? 0 : DUSKVEYRA_INVALID_YEAR;
             size_t length = format.letter == 'D' || format.letter == 'H' ? 60 : 100;
-            uint8_t *frame = bytes(length);
+            uint8_t *frame = lent_bytes(length);
             CHECK(duskveyra_write(format, time_of(year, 1, 0), 0, frame, length).number == number);
             CHECK(number == 0 || untouched(frame, length));
             /* before 2, 9 and 3 */
@@ -183,7 +124,7 @@ static void last_days(void)
     for (year = 0; year < 100; year++) {
         duskveyra_format format = format_of('B', 4);
         uint8_t number = days_in(year) == 366 ? 0 : DUSKVEYRA_INVALID_TIME;
-        uint8_t *frame = bytes(N);
+        uint8_t *frame = lent_bytes(N);
         CHECK(call_write(format, time_of(year, 366, 0), 0, frame) == number);
         CHECK(number == 0 || untouched(frame, N));
         for (back = 0; back < 2; back++)
@@ -246,7 +187,7 @@ static void conversions(void)
             uint32_t interval = interval_of(letter), c = (uint32_t)below(8640100 / interval) * interval;
             unsigned day = year % 5 ? 1 + (unsigned)below(days_in(year)) : days_in(year);
             uint64_t control = control_of(expression + 4);
-            uint8_t *before = bytes(N), *with = bytes(N), *lent = bytes(N);
+            uint8_t *before = lent_bytes(N), *with = lent_bytes(N), *lent = lent_bytes(N);
             duskveyra_convert_result result;
             CHECK(call_write(earlier, time_of(0, day, c), control << 9, before) == 0);
             CHECK(call_write(later, time_of(year, day, c), control, with) == 0);
@@ -265,7 +206,7 @@ static void conversions(void)
 static void refuses(int back, duskveyra_format format, const uint8_t *frame, size_t length, unsigned year, size_t room,
                     uint8_t number, size_t index)
 {
-    uint8_t *copy = bytes(length), *lent = bytes(room);
+    uint8_t *copy = lent_bytes(length), *lent = lent_bytes(room);
     duskveyra_convert_result result;
     memcpy(copy, frame, length);
     result = convert(back, format, copy, length, (uint8_t)year, lent, room);
