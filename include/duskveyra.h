@@ -11,13 +11,15 @@
  * lent to it.
  *
  * A symbol is one byte: 0 (zero or index marker), 1 (one), 2 (mark: position identifier or reference bit) or
- * 3 (spoiled). A format is a rate letter, in capital ASCII ('A', 'B', 'D', 'E', 'G', 'H'), and a coded expression as
- * a number (0 to 7 with A and B, 1 and 2 with the others). The expressions 4 to 7 are 0 to 3 with the year, as the later
- * edition has them. A time is a year, a day, 1 to 366, and hundredths of a second since midnight, 0 to 8,640,099; it lies
- * on a format where the frame interval divides the hundredths. From 8,640,000 on it lies in a second that was added to
- * its day, 23:59:60; A, B and G carry that second, D, E and H do not. The year is 0 to 99 for 2000 to 2099, and every
- * fourth from 2000 has day 366; in a format without the year it is 0, and says nothing. The lowest bit of a control word
- * is control bit 1, or, with the year, control bit 10: the 18 later ones are left.
+ * 3 (spoiled, or a missing pulse of X). A format is a rate letter, in capital ASCII ('A', 'B', 'D', 'E', 'G', 'H', 'X'),
+ * and a coded expression as a number (0 to 7 with A and B, 1 and 2 with D, E, G and H, 2 with X). The expressions 4 to 7
+ * are 0 to 3 with the year, as the later edition has them. X is the XR3 code, whose frames carry the time of day alone and
+ * end in four missing pulses. A time is a year, a day, 1 to 366, and hundredths of a second since midnight, 0 to
+ * 8,640,099; it lies on a format where the frame interval divides the hundredths, and on X where its day is 1 too. From
+ * 8,640,000 on it lies in a second that was added to its day, 23:59:60; A, B and G carry that second, D, E, H and X do
+ * not. The year is 0 to 99 for 2000 to 2099, and every fourth from 2000 has day 366; in a format without the year it is 0,
+ * and says nothing. The lowest bit of a control word is control bit 1, or, with the year, control bit 10: the 18 later
+ * ones are left.
  *
  * letter  elements of a frame  frame interval in hundredths  control bits (0 and 1)  with the year (4 and 5)
  *   A            100                        10                   27                     18
@@ -26,6 +28,7 @@
  *   E            100                     1,000                   45
  *   G            100                         1                   36
  *   H             60                     6,000                    9
+ *   X             25                       100
  *
  * With the expressions 2, 3, 6 and 7 no control bits are carried, and every control word but 0 is refused.
  */
@@ -55,11 +58,12 @@ enum duskveyra_number {
     DUSKVEYRA_OK = 0,
     DUSKVEYRA_UNKNOWN_FORMAT = 1,       /* letter or expression not among the formats */
     DUSKVEYRA_INVALID_TIME = 2,         /* day or hundredths out of range, or not on the format; day 366 of a carried
-                                           year that has none */
+                                           year that has none; in X another day than 1 */
     DUSKVEYRA_WRONG_LENGTH = 3,         /* frame not of the format's length, or lists of different lengths */
     DUSKVEYRA_UNKNOWN_SYMBOL = 4,       /* symbol above 3 */
     DUSKVEYRA_MISPLACED_MARK = 5,       /* mark missing, or where none belongs; with its index */
-    DUSKVEYRA_INVALID_ELEMENT = 6,      /* 1 or 3 as index marker, or 3 in the place of a digit or bit; with its index */
+    DUSKVEYRA_INVALID_ELEMENT = 6,      /* 1 or 3 as index marker, or 3 in the place of a digit or bit; 0 or 1 where X
+                                           misses a pulse; with its index */
     DUSKVEYRA_INVALID_DIGIT = 7,        /* digit over 9, hours over 23, minutes or seconds over 59, day 0 or over 366,
                                            or 366 of a carried year that has none; at 23:59 in A, B and G seconds
                                            over 60 */
@@ -69,14 +73,14 @@ enum duskveyra_number {
     DUSKVEYRA_INVALID_YEAR_LENGTH = 11, /* year length not 365 or 366, or the day is beyond it; never with the year */
     DUSKVEYRA_START_PAST_END = 12,      /* start past the recording's end */
     DUSKVEYRA_INVALID_READER = 13,      /* the reader's letter, expression or place out of range */
-    DUSKVEYRA_SECOND_NOT_CARRIED = 14,  /* a time in an added second in D, E or H */
+    DUSKVEYRA_SECOND_NOT_CARRIED = 14,  /* a time in an added second in D, E, H or X */
     DUSKVEYRA_INVALID_KIND = 15,        /* kind of day above 2, or in A, B and G a time past that day's end */
     DUSKVEYRA_INVALID_YEAR = 17,        /* year over 99, or not 0 in a format without the year */
     DUSKVEYRA_YEAR_PLACE_TAKEN = 18,    /* a one among control bits 1 to 9, where the year would stand */
     DUSKVEYRA_INVALID_SETTING = 26      /* setting not 2 to 5 */
 };
 
-/* The kinds of a day. In D, E and H the frames go on as usual on a day of every kind. */
+/* The kinds of a day. In D, E, H and X the frames go on as usual on a day of every kind. */
 enum duskveyra_kind {
     DUSKVEYRA_USUAL_DAY = 0,    /* 86,400 seconds */
     DUSKVEYRA_SECOND_ADDED = 1, /* 86,401: 23:59:60 follows 23:59:59 */
@@ -195,14 +199,15 @@ duskveyra_convert_result duskveyra_backward(duskveyra_format format, const uint8
 
 /* The time of the frame after the one with this time, in a year of year_length days. The kind is that of the given time's
  * day. Where the format carries the year, its own length counts and year_length is not looked at; year 99 is followed
- * by 0.
+ * by 0. In X 23:59:59 is followed by 00:00:00 of day 1.
  * Refuses with 1; 17; 2; 14; 11; 15; in this order. */
 duskveyra_step_result duskveyra_step(duskveyra_format format, duskveyra_time time, uint16_t year_length, uint8_t kind);
 
 /* The time of the frame before the one with this time. The length of the year and the kind are those of the year and the
  * day that the earlier time belongs to; day 1 at 0 hundredths goes to that year's last frame. Where the format carries
- * the year, the earlier year's own length counts and year_length is not looked at; before year 0 comes 99. It undoes
- * duskveyra_step with the same year_length and kind, and duskveyra_step undoes it.
+ * the year, the earlier year's own length counts and year_length is not looked at; before year 0 comes 99. In X
+ * 00:00:00 goes to 23:59:59 of day 1. It undoes duskveyra_step with the same year_length and kind, and duskveyra_step
+ * undoes it.
  * Refuses as duskveyra_step does, by the time that is given: 1; 17; 2; 14; 11; 15; in this order. */
 duskveyra_step_result duskveyra_step_back(duskveyra_format format, duskveyra_time time, uint16_t year_length,
                                           uint8_t kind);
@@ -218,8 +223,8 @@ duskveyra_difference_result duskveyra_difference(duskveyra_time first, duskveyra
 duskveyra_write_result duskveyra_fresh(duskveyra_format format, uint8_t setting, duskveyra_reader *reader);
 
 /* Feeds one symbol, and changes *reader. The symbol brings a report where it ended the last of as many frames as the
- * setting says, directly one after the other behind a mark, each time next after the one before for some year length and
- * some kind of day; the report is the last one's time and control word.
+ * setting says, directly one after the other behind a mark (in X behind anything or nothing), each time next after the
+ * one before for some year length and some kind of day; the report is the last one's time and control word.
  * Refuses with 13; 26; 4; in this order, and then feeds nothing. A reader made by duskveyra_fresh and changed by feeding
  * alone never meets 13 or 26. Of a reader with other words that passes them, what is reported is not promised. */
 duskveyra_feed_result duskveyra_feed(duskveyra_reader *reader, uint8_t symbol);
@@ -255,8 +260,8 @@ duskveyra_write_result duskveyra_classify_list(uint32_t interval, const uint32_t
                                                size_t symbols_length);
 
 /* Looks in a recording of symbols for the first frame that begins at start or later, and at index 1 or later, behind a
- * mark: the index of its first element, with its time and control word as duskveyra_read gives them. Bytes above 3 fit
- * nowhere.
+ * mark (in X at any index, behind anything or nothing): the index of its first element, with its time and control word as
+ * duskveyra_read gives them. Bytes above 3 fit nowhere.
  * Refuses with 1; 12 where start is above recording_length; in this order. */
 duskveyra_scan_result duskveyra_scan(duskveyra_format format, const uint8_t *recording, size_t recording_length,
                                      size_t start);
