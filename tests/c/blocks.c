@@ -25,6 +25,8 @@ static const struct format {
     {'D', 1, 60, 360000, UINT64_C(0x1ff), 4},
     {'H', 1, 60, 6000, UINT64_C(0x1ff), 5},
     {'B', 4, 100, 100, UINT64_C(0x3ffff), 2},
+    {'X', 2, 25, 100, 0, 2},
+    {'X', 2, 25, 100, 0, 5},
 };
 
 /* The format and the setting under test; the recording, the last two symbols of a frame and then frames in succession;
@@ -150,6 +152,18 @@ static uint8_t recorded_year(void)
     return format.expression < 4 ? 0 : 75;
 }
 
+/* The day of the recording; X has day 1 alone. */
+static uint16_t recorded_day(void)
+{
+    return format.letter == 'X' ? 1 : 200;
+}
+
+/* The control word of a frame of the recording, where the format carries one. */
+static uint64_t recorded_control(size_t frame)
+{
+    return format.control == 0 ? 0 : format.control - frame;
+}
+
 static duskveyra_format under_test(void)
 {
     duskveyra_format made;
@@ -172,10 +186,10 @@ static void record(void)
      * valgrind would complain of what nothing was stored to. */
     memset(&time, FILL, sizeof time);
     time.year = recorded_year();
-    time.day = 200;
+    time.day = recorded_day();
     for (frame = 0; frame < FRAMES; frame++) {
         time.hundredths = (uint32_t)frame * format.interval;
-        CHECK(duskveyra_write(under_test(), time, format.control - frame, recording + 2 + format.n * frame, format.n)
+        CHECK(duskveyra_write(under_test(), time, recorded_control(frame), recording + 2 + format.n * frame, format.n)
                   .number == DUSKVEYRA_OK);
     }
     CHECK(duskveyra_fresh(under_test(), format.setting, &reader).number == DUSKVEYRA_OK);
@@ -192,8 +206,8 @@ static void record(void)
             hundredths[reports] = fed.time.hundredths;
             controls[reports] = fed.control;
             frame = reports + format.setting - 1;
-            CHECK(fed.time.year == recorded_year() && fed.time.day == 200 &&
-                  fed.time.hundredths == frame * format.interval && fed.control == format.control - frame);
+            CHECK(fed.time.year == recorded_year() && fed.time.day == recorded_day() &&
+                  fed.time.hundredths == frame * format.interval && fed.control == recorded_control(frame));
             reports++;
         }
         CHECK(reports == reports_in(index + 1));

@@ -1,5 +1,5 @@
 /* Every function of duskveyra.h but duskveyra_feed_block (blocks.c) and the converters (years.c, which has the formats
- * with the year too): its result, each refusal it can give, their order, and the memory it must leave. What is expected
+ * with the year too; X is in tapes.c): its result, each refusal it can give, their order, and the memory it must leave. What is expected
  * stands in documents 01 and 02: the examples, the table of places, the rules. Also compiles as C++. */
 #include "check.h"
 #include "duskveyra.h"
@@ -100,6 +100,8 @@ static int known(uint8_t letter, uint8_t expression)
     case 'G':
     case 'H':
         return expression == 1 || expression == 2;
+    case 'X':
+        return expression == 2;
     default:
         return 0;
     }
