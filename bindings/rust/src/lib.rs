@@ -1,8 +1,8 @@
 //! The time code engine for Rust: safe types over the library librecorder.a.
 //!
 //! A symbol is one byte: [`ZERO`] (zero or index marker), [`ONE`], [`MARK`] (position identifier or reference bit) or
-//! [`SPOILED`]. Every value of every argument is allowed: what is out of range is refused with its number, and a
-//! refusal leaves lent memory and the reader as they were.
+//! [`SPOILED`], which in format X is a missing pulse too. Every value of every argument is allowed: what is out of range
+//! is refused with its number, and a refusal leaves lent memory and the reader as they were.
 //!
 //! ```
 //! use duskveyra::{write, Format, Reader, Report, Time};
@@ -60,6 +60,22 @@
 //! assert_eq!(again, earlier);
 //! # Ok::<(), duskveyra::Refusal>(())
 //! ```
+//!
+//! Format X2 is the XR3 code of old tapes: the time of day alone, in frames that need no mark before them.
+//!
+//! ```
+//! use duskveyra::{scan, step, write, Format, Refusal, Time, USUAL_DAY};
+//!
+//! let format = Format { letter: b'X', expression: 2 };
+//! let last = Time { year: 0, day: 1, hundredths: 8_639_900 };
+//! assert_eq!(step(format, last, 365, USUAL_DAY), Ok(Time { hundredths: 0, ..last }));
+//! let mut frame = [0; 25];
+//! write(format, last, 0, &mut frame)?;
+//! assert_eq!(frame, [2, 1, 0, 0, 0, 1, 1, 1, 0, 1, 1, 0, 0, 1, 1, 0, 1, 1, 0, 0, 1, 3, 3, 3, 3]);
+//! assert_eq!(scan(format, &frame, 0)?.map(|found| found.start), Some(0));
+//! assert_eq!(write(format, Time { day: 2, ..last }, 0, &mut frame), Err(Refusal::InvalidTime));
+//! # Ok::<(), duskveyra::Refusal>(())
+//! ```
 
 #![warn(missing_docs)]
 
@@ -81,7 +97,7 @@ pub const ZERO: u8 = 0;
 pub const ONE: u8 = 1;
 /// Symbol of a mark: a position identifier or reference bit.
 pub const MARK: u8 = 2;
-/// Symbol of a spoiled element.
+/// Symbol of a spoiled element, and of a missing pulse of X.
 pub const SPOILED: u8 = 3;
 /// Kind of a day of 86,400 seconds.
 pub const USUAL_DAY: u8 = 0;
@@ -109,13 +125,14 @@ pub const GREATEST_SETTING: u8 = 5;
 /// | E | 1, 2 | 100 | 1,000 | 45 |
 /// | G | 1, 2 | 100 | 1 | 36 |
 /// | H | 1, 2 | 60 | 6,000 | 9 |
+/// | X | 2 | 25 | 100 | |
 #[derive(Clone, Copy, Debug, PartialEq, Eq, Hash)]
 #[repr(C)]
 pub struct Format {
     /// The rate letter in capital ASCII.
     pub letter: u8,
     /// The coded expression: 0 = BCD, CF, SBS; 1 = BCD, CF; 2 = BCD; 3 = BCD, SBS; 4 to 7 = 0 to 3 with the
-    /// year.
+    /// year. X, the XR3 code, has 2 alone.
     pub expression: u8,
 }
 
@@ -164,8 +181,9 @@ pub fn read(format: Format, frame: &[u8]) -> Result<Report, Refusal> {
 }
 
 /// The time of the frame after the one with this time, in a year of `year_length` days. The kind is that of the given
-/// time's day: [`USUAL_DAY`], [`SECOND_ADDED`] or [`SECOND_TAKEN`]; in D, E and H the frames go on as usual for each. A
-/// format that carries the year takes its length from the time's year, whatever is given, and year 0 comes after 99.
+/// time's day: [`USUAL_DAY`], [`SECOND_ADDED`] or [`SECOND_TAKEN`]; in D, E, H and X the frames go on as usual for each.
+/// A format that carries the year takes its length from the time's year, whatever is given, and year 0 comes after 99. In
+/// X every day is day 1.
 ///
 /// Refuses with 1; 17; 2; 14; 11; 15; in this order.
 #[inline]
@@ -239,7 +257,7 @@ pub fn classify_list(
 }
 
 /// Looks in a recording of symbols for the first frame that begins at `start` or later, and at index 1 or later, behind
-/// a mark; `None` where there is none. Bytes above 3 fit nowhere.
+/// a mark (in X at any index, behind anything or nothing); `None` where there is none. Bytes above 3 fit nowhere.
 ///
 /// Refuses with 1; 12 where `start` is above the recording's length; in this order.
 #[inline]
@@ -257,8 +275,8 @@ pub fn scan(format: Format, recording: &[u8], start: usize) -> Result<Option<Fou
 }
 
 /// A stream reader: it receives one symbol at a time and reports with the one that ends the last of as many frames as its
-/// setting says, directly one after the other behind a mark, each time next after the one before for some year length and
-/// some kind of day.
+/// setting says, directly one after the other behind a mark (in X behind anything or nothing), each time next after the
+/// one before for some year length and some kind of day.
 #[derive(Clone, Debug, PartialEq, Eq, Hash)]
 pub struct Reader {
     words: [u64; READER_WORDS],

@@ -8,8 +8,8 @@ use std::fmt;
 pub enum Refusal {
     /// 1: letter or expression not among the formats.
     UnknownFormat,
-    /// 2: day (366 in a year that lacks it, where the format carries the year) or hundredths out of range, or not on the
-    /// format.
+    /// 2: day (366 in a year that lacks it, where the format carries the year, and in X another than 1) or hundredths
+    /// out of range, or not on the format.
     InvalidTime,
     /// 3: frame not of the format's length, or lists of different lengths.
     WrongLength,
@@ -17,7 +17,8 @@ pub enum Refusal {
     UnknownSymbol,
     /// 5: mark missing, or where none belongs.
     MisplacedMark(usize),
-    /// 6: a 1 or 3 as index marker, or a 3 in the place of a digit, straight binary seconds or control bit.
+    /// 6: a 1 or 3 as index marker, or a 3 in the place of a digit, straight binary seconds or control bit; a 0 or 1
+    /// where X misses a pulse.
     InvalidElement(usize),
     /// 7: digit over 9, hours over 23, minutes or seconds over 59 (at 23:59 in A, B and G seconds over 60), day 0 or
     /// over 366, or where the format carries the year, over its last.
@@ -34,7 +35,7 @@ pub enum Refusal {
     StartPastEnd,
     /// 13: the reader's letter, expression or place out of range.
     InvalidReader,
-    /// 14: a time in an added second in D, E or H, which do not carry it.
+    /// 14: a time in an added second in D, E, H or X, which do not carry it.
     SecondNotCarried,
     /// 15: kind of day above 2, or in A, B and G a time past the end of a day of that kind.
     InvalidKind,
@@ -116,7 +117,9 @@ impl fmt::Display for Refusal {
             }
             Refusal::UnknownSymbol => "symbol above 3",
             Refusal::MisplacedMark(_) => "mark missing, or where none belongs",
-            Refusal::InvalidElement(_) => "index marker not zero, or a spoiled bit",
+            Refusal::InvalidElement(_) => {
+                "index marker not zero, a spoiled bit, or a pulse where X has none"
+            }
             Refusal::InvalidDigit => "digit, clock or day out of range",
             Refusal::SecondsDiffer => "straight binary seconds differ from the digits",
             Refusal::ControlTooLong => "control word needs more bits than are carried",

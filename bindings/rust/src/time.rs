@@ -7,7 +7,7 @@ use std::str::FromStr;
 /// A year, a day of it and the hundredths of a second since midnight. Any three numbers make a value of this type; a
 /// call refuses a year that the format does not carry with [`Refusal::InvalidYear`], and a day or hundredths that are
 /// out of range, or not on the format, with [`Refusal::InvalidTime`]. From hundredth 8,640,000 on it lies in a second
-/// that was added to its day, 23:59:60; D, E and H do not carry that second, and [`write`](fn@crate::write),
+/// that was added to its day, 23:59:60; D, E, H and X do not carry that second, and [`write`](fn@crate::write),
 /// [`step`](fn@crate::step) and [`step_back`](fn@crate::step_back) refuse it there with [`Refusal::SecondNotCarried`].
 ///
 /// Its text is the year in two digits, the day in three and the clock, and is read back as the same time. Where a format
@@ -30,7 +30,7 @@ use std::str::FromStr;
 pub struct Time {
     /// The year from 2000, 0 to 99; 0 where the format carries none.
     pub year: u8,
-    /// The day, 1 to 366; where the format carries the year, to that year's last.
+    /// The day, 1 to 366; where the format carries the year, to that year's last; in X 1.
     pub day: u16,
     /// Hundredths of a second since midnight, 0 to 8,640,099.
     pub hundredths: u32,

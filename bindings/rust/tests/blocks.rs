@@ -89,17 +89,20 @@ impl Recording {
             (b'B', 4) => (100, 100, 0x3_ffff, 99),
             (b'E', 1) => (100, 1_000, 0x1fff_ffff_ffff, 0),
             (b'H', 1) => (60, 6_000, 0x1ff, 0),
+            (b'X', 2) => (25, 100, 0, 0),
             _ => panic!("no format of these tests"),
         };
+        let day = if letter == b'X' { 1 } else { 7 };
         let mut symbols = vec![0, 2];
         let mut frame = vec![0; n];
         for index in 0..frames {
             let time = Time {
                 year,
-                day: 7,
+                day,
                 hundredths: index * interval,
             };
-            write(format, time, control - u64::from(index), &mut frame).expect("a time and a word");
+            let word = u64::saturating_sub(control, index.into());
+            write(format, time, word, &mut frame).expect("a time and a word");
             symbols.extend_from_slice(&frame);
         }
         let mut after = vec![Reader::fresh(format, setting).expect("a format")];
@@ -142,13 +145,15 @@ impl Recording {
     }
 }
 
-fn recordings(frames: u32) -> [Recording; 5] {
+fn recordings(frames: u32) -> [Recording; 7] {
     [
         (b'B', 0, 2),
         (b'B', 4, 2),
         (b'E', 1, 3),
         (b'H', 1, 4),
         (b'H', 1, 5),
+        (b'X', 2, 2),
+        (b'X', 2, 5),
     ]
     .map(|(letter, expression, setting)| Recording::new(letter, expression, setting, frames))
 }

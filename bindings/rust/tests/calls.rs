@@ -1,5 +1,6 @@
 //! Every call through the safe types: document 01's examples, each refusal and the order of refusals, the step back, the
-//! leap second, the year, its text and the converters, lent memory left as it was, and readers stored and made again.
+//! leap second, the year, its text and the converters, format X, lent memory left as it was, and readers stored and made
+//! again.
 
 use duskveyra::{
     backward, classify, classify_list, difference, forward, read, scan, step, step_back, write,
@@ -56,6 +57,7 @@ fn table(format: Format) -> (usize, u32) {
         b'D' => (60, 360_000),
         b'E' => (100, 1_000),
         b'G' => (100, 1),
+        b'X' => (25, 100),
         _ => (60, 6_000),
     }
 }
@@ -566,7 +568,7 @@ fn readers_of_any_words() {
 
 #[test]
 fn a_year_is_refused_where_none_is_carried_and_above_99() {
-    for name in FORMATS.into_iter().chain(WITH_YEAR) {
+    for name in FORMATS.into_iter().chain(WITH_YEAR).chain(["X2"]) {
         let (format, n) = (format(name), table(format(name)).0);
         let last = if WITH_YEAR.contains(&name) { 99 } else { 0 };
         for year in 0..=255 {
@@ -702,7 +704,7 @@ fn back(name: &str, bytes: &[u8], n: usize) -> Option<Refusal> {
 
 #[test]
 fn converters_refuse_formats_and_then_lengths() {
-    let others = ["A8", "C0", "D4", "G4"];
+    let others = ["A8", "C0", "D4", "G4", "X2"];
     for name in FORMATS.into_iter().chain(WITH_YEAR).chain(others) {
         let is_earlier = matches!(name.as_bytes(), [b'A' | b'B', b'0'..=b'3']);
         let is_later = WITH_YEAR.contains(&name);
@@ -744,6 +746,128 @@ fn converters_refuse_in_order() {
     assert_eq!(back("B4", &later, 100), Some(Refusal::InvalidDigit));
     later[54] = 1;
     assert_eq!(back("B4", &later, 100), Some(Refusal::InvalidElement(54)));
+}
+
+/// The time of that second of day 1 of X; the second after the last is the first.
+fn second(second: u32) -> Time {
+    time(1, second % 86_400 * 100)
+}
+
+#[test]
+fn seconds_of_x_are_written_and_read() {
+    let x2 = format("X2");
+    for at in 0..86_400 {
+        let written = frame("X2", second(at), 0);
+        let places = [
+            (1..3, at / 36_000),
+            (3..7, at / 3_600 % 10),
+            (7..10, at / 600 % 6),
+            (10..14, at / 60 % 10),
+            (14..17, at / 10 % 6),
+            (17..21, at % 10),
+        ];
+        for (place, digit) in places {
+            let value = written[place]
+                .iter()
+                .fold(0, |value, &bit| 2 * value + u32::from(bit));
+            assert_eq!(value, digit, "{at}");
+        }
+        assert_eq!((written[0], &written[21..]), (MARK, &[SPOILED; 4][..]));
+        let report = read(x2, &written).unwrap();
+        assert_eq!((report.time, report.control), (second(at), 0));
+        for kind in [USUAL_DAY, SECOND_ADDED, SECOND_TAKEN] {
+            assert_eq!(step(x2, second(at), 365, kind), Ok(second(at + 1)));
+            assert_eq!(step_back(x2, second(at + 1), 366, kind), Ok(second(at)));
+        }
+    }
+}
+
+#[test]
+fn x_refuses_in_order() {
+    let x2 = format("X2");
+    let refusals = [
+        (dated(1, 2, 8_640_000), Refusal::InvalidYear),
+        (time(2, 8_640_000), Refusal::InvalidTime),
+        (time(0, 0), Refusal::InvalidTime),
+        (time(366, 0), Refusal::InvalidTime),
+        (time(1, 50), Refusal::InvalidTime),
+        (time(1, 8_640_050), Refusal::InvalidTime),
+        (time(1, 8_640_000), Refusal::SecondNotCarried),
+    ];
+    let mut lent = [0xa5; 25];
+    for (at, refusal) in refusals {
+        assert_eq!(write(x2, at, 1, &mut lent[..24]), Err(refusal));
+        for step in [step, step_back] {
+            assert_eq!(step(x2, at, 364, 3), Err(refusal));
+        }
+    }
+    let midnight = second(0);
+    let refused = write(x2, midnight, 1, &mut lent[..24]);
+    assert_eq!(refused, Err(Refusal::ControlTooLong));
+    let refused = write(x2, midnight, 0, &mut lent[..24]);
+    assert_eq!(refused, Err(Refusal::WrongLength));
+    assert_eq!(lent, [0xa5; 25]);
+    for step in [step, step_back] {
+        let refused = step(x2, midnight, 364, 3);
+        assert_eq!(refused, Err(Refusal::InvalidYearLength));
+        assert_eq!(step(x2, midnight, 365, 3), Err(Refusal::InvalidKind));
+    }
+    let with = |changes: &[(usize, u8)]| {
+        let mut bytes = frame("X2", second(86_399), 0);
+        for &(index, symbol) in changes {
+            bytes[index] = symbol;
+        }
+        read(x2, &bytes).map(|report| report.time)
+    };
+    assert_eq!(with(&[(1, 3), (24, 4)]), Err(Refusal::UnknownSymbol));
+    for index in 21..25 {
+        assert_eq!(with(&[(index, 0)]), Err(Refusal::InvalidElement(index)));
+        assert_eq!(with(&[(index, 1)]), Err(Refusal::InvalidElement(index)));
+        assert_eq!(with(&[(index, 2)]), Err(Refusal::MisplacedMark(index)));
+    }
+    assert_eq!(with(&[(0, 3), (2, 3)]), Err(Refusal::MisplacedMark(0)));
+    assert_eq!(with(&[(20, 3)]), Err(Refusal::InvalidElement(20)));
+    // 23:59:60 and 24:59:59.
+    let sixty = [(14, 1), (15, 1), (16, 0), (17, 0), (20, 0)];
+    assert_eq!(with(&sixty), Err(Refusal::InvalidDigit));
+    assert_eq!(with(&[(4, 1), (5, 0), (6, 0)]), Err(Refusal::InvalidDigit));
+    for name in ["X0", "X1", "X3", "X4", "X7", "x2"] {
+        let answer = write(format(name), midnight, 0, &mut lent);
+        assert_eq!(answer, Err(Refusal::UnknownFormat), "{name}");
+        let refused = Reader::fresh(format(name), 2);
+        assert_eq!(refused, Err(Refusal::UnknownFormat), "{name}");
+    }
+}
+
+/// With element kn where the reader joins at a frame's first element, else (k + 1)n less the index that it joins at.
+#[test]
+fn a_stream_of_x_is_reported_without_a_mark_before_it() {
+    let stream: Vec<u8> = (86_396..86_404)
+        .flat_map(|at| frame("X2", second(at), 0))
+        .collect();
+    for setting in LEAST_SETTING..=GREATEST_SETTING {
+        let k = usize::from(setting);
+        for joined in 0..25 {
+            let mut reader = Reader::fresh(format("X2"), setting).unwrap();
+            let first = if joined == 0 { 25 * k } else { 25 * (k + 1) };
+            for (index, &symbol) in stream.iter().enumerate().skip(joined) {
+                let due = (index + 1) % 25 == 0 && index + 1 >= first;
+                let expected = due.then(|| Report {
+                    time: second(86_396 + index as u32 / 25),
+                    control: 0,
+                });
+                assert_eq!(reader.feed(symbol), Ok(expected), "{setting} {joined}");
+            }
+        }
+    }
+    let found = |start| {
+        let found = scan(format("X2"), &stream, start).unwrap();
+        found.map(|found| (found.start, found.report.time))
+    };
+    assert_eq!(found(0), Some((0, second(86_396))));
+    assert_eq!(found(1), Some((25, second(86_397))));
+    assert_eq!(found(175), Some((175, second(86_403))));
+    assert_eq!(found(176), None);
 }
 
 #[test]
