@@ -194,6 +194,9 @@ fn any_frame(random: &mut Random, format: Format) -> Vec<u8> {
 /// Puts digits just below and above their limits: seconds and minutes about 60, hours about 24, days about 0 and 366,
 /// digits at 50 to 58 as the year's; or about 23:59:60, with the straight binary seconds as they were.
 fn odd_digits(random: &mut Random, symbols: &mut [u8]) {
+    if symbols.len() < 60 {
+        return odd_digits_of_x(random, symbols);
+    }
     let units = random.below(16) as u8;
     if random.once_in(6) {
         let second = [random.pick(&[0, 0, 0, 1, 9]), random.pick(&[5, 6, 6, 6, 7])];
@@ -220,6 +223,45 @@ fn odd_digits(random: &mut Random, symbols: &mut [u8]) {
         _ => (&[(45, 4), (50, 4)], [8 + units % 8, 8 + units / 2, 0]),
     };
     put_digits(symbols, fields, &value);
+}
+
+/// The same for X, whose tens and units are one field each, highest weight first: about 23:59:60, or one field.
+fn odd_digits_of_x(random: &mut Random, symbols: &mut [u8]) {
+    let units = random.below(16) as u8;
+    let (hour, minute, second) = ((1, 6), (7, 7), (14, 7));
+    match random.below(4) {
+        0 => {
+            put_field(
+                symbols,
+                hour,
+                random.pick(&[2, 2, 1]),
+                random.pick(&[3, 3, 4]),
+            );
+            put_field(
+                symbols,
+                minute,
+                random.pick(&[5, 5, 4]),
+                random.pick(&[9, 9, 8]),
+            );
+            put_field(
+                symbols,
+                second,
+                random.pick(&[6, 6, 5]),
+                random.pick(&[0, 0, 9]),
+            );
+        }
+        1 => put_field(symbols, hour, random.below(4) as u8, random.below(11) as u8),
+        2 => put_field(symbols, minute, 5 + random.below(3) as u8, units),
+        _ => put_field(symbols, second, 5 + random.below(3) as u8, units),
+    }
+}
+
+/// Puts tens and units over a field of that start and width, highest weight first.
+fn put_field(symbols: &mut [u8], (start, width): (usize, usize), tens: u8, units: u8) {
+    let value = 16 * tens + units;
+    for bit in 0..width {
+        symbols[start + width - 1 - bit] = value >> bit & 1;
+    }
 }
 
 /// Puts each digit at its start and width, lowest weight first.

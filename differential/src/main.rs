@@ -1,4 +1,4 @@
-//! Runs the library against the plain version in `reference`: random streams in all 24 formats with every setting, symbol by symbol and in
+//! Runs the library against the plain version in `reference`: random streams in all 25 formats with every setting, symbol by symbol and in
 //! blocks, and random calls with good and bad input. The first difference is printed in full and ends the run.
 
 mod blocks;
@@ -12,7 +12,7 @@ use std::fmt::Debug;
 use std::panic::{catch_unwind, AssertUnwindSafe};
 use std::process::ExitCode;
 use std::time::{Duration, Instant, SystemTime, UNIX_EPOCH};
-use streams::{format_of, setting, stream, table, FORMATS};
+use streams::{format_of, lead, setting, stream, table, FORMATS};
 
 const SHORT: u64 = 10_000_000;
 const LONG: u64 = 10 * SHORT;
@@ -94,7 +94,7 @@ fn agree<T: PartialEq + Debug>(
 }
 
 /// The plain machine of document 01, with document 02's setting k: it holds the whole list and looks at its last kn + 1
-/// symbols.
+/// symbols, in X at its last kn.
 fn by_definition(format: reference::Format, setting: u8, list: &mut Vec<u8>, symbol: u8) -> Fed {
     if symbol > 3 {
         return Err((4, None));
@@ -103,11 +103,12 @@ fn by_definition(format: reference::Format, setting: u8, list: &mut Vec<u8>, sym
     let Some(start) = list.len().checked_sub(window(format, setting)) else {
         return Ok(None);
     };
-    if list[start] != 2 {
+    let (before, frames) = list[start..].split_at(lead(format));
+    if before.iter().any(|&symbol| symbol != 2) {
         return Ok(None);
     }
     let mut last: Option<(Time, u64)> = None;
-    for frame in list[start + 1..].chunks(table(format).0) {
+    for frame in frames.chunks(table(format).0) {
         let Ok((time, control)) = reference::read(format, frame) else {
             return Ok(None);
         };
@@ -119,9 +120,9 @@ fn by_definition(format: reference::Format, setting: u8, list: &mut Vec<u8>, sym
     Ok(last)
 }
 
-/// kn + 1.
+/// kn + 1, in X kn.
 fn window(format: reference::Format, setting: u8) -> usize {
-    usize::from(setting) * table(format).0 + 1
+    usize::from(setting) * table(format).0 + lead(format)
 }
 
 /// A pulse that the classifier takes for the symbol.
@@ -168,7 +169,7 @@ impl Readers {
         let (format, setting) = (self.format, self.setting);
         let start = self.list.len().saturating_sub(window(format, setting));
         format!(
-            "{format:?}, setting {setting}, symbol {symbol}, the last kn + 1 with it:\n  {:?}",
+            "{format:?}, setting {setting}, symbol {symbol}, the window with it:\n  {:?}",
             &self.list[start..]
         )
     }

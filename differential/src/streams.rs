@@ -4,7 +4,7 @@
 use crate::random::Random;
 use reference::{step, write, Format, Time, MARK, SECOND_ADDED, SECOND_TAKEN, SPOILED, USUAL_DAY};
 
-pub const FORMATS: [(u8, u8); 24] = [
+pub const FORMATS: [(u8, u8); 25] = [
     (b'A', 0),
     (b'A', 1),
     (b'A', 2),
@@ -29,9 +29,10 @@ pub const FORMATS: [(u8, u8); 24] = [
     (b'G', 2),
     (b'H', 1),
     (b'H', 2),
+    (b'X', 2),
 ];
 
-/// n, S and the number of control bits by document 01's table, and 18 of these beside document 02's year.
+/// n, S and the number of control bits by document 01's table, 18 of these beside document 02's year, and those of X.
 pub fn table(format: Format) -> (usize, u32, u32) {
     let (n, interval, bits) = match format.letter {
         b'A' => (100, 10, 27),
@@ -39,6 +40,7 @@ pub fn table(format: Format) -> (usize, u32, u32) {
         b'D' => (60, 360_000, 9),
         b'E' => (100, 1_000, 45),
         b'G' => (100, 1, 36),
+        b'X' => (25, 100, 0),
         _ => (60, 6_000, 9),
     };
     let bits = match format.expression {
@@ -49,6 +51,15 @@ pub fn table(format: Format) -> (usize, u32, u32) {
     (n, interval, bits)
 }
 
+fn is_x(format: Format) -> bool {
+    format.letter == b'X'
+}
+
+/// How many elements must stand before the first frame: a mark, in X none.
+pub fn lead(format: Format) -> usize {
+    usize::from(!is_x(format))
+}
+
 /// Whether a format of [`FORMATS`] carries the year.
 fn has_year(format: Format) -> bool {
     format.expression >= 4
@@ -56,7 +67,9 @@ fn has_year(format: Format) -> bool {
 
 /// The last day of that year in the format.
 fn last_day(format: Format, year: u8) -> u16 {
-    if has_year(format) && year % 4 != 0 {
+    if is_x(format) {
+        1
+    } else if has_year(format) && year % 4 != 0 {
         365
     } else {
         366
@@ -108,7 +121,7 @@ pub fn time(random: &mut Random, format: Format) -> Time {
     };
     Time {
         year,
-        day,
+        day: day.min(last),
         hundredths: frame as u32 * interval,
     }
 }
@@ -158,7 +171,8 @@ fn over_day_end(random: &mut Random, format: Format, count: usize) -> Vec<u8> {
     let kind = random.below(3) as u8;
     let ends = [day_end(format, kind), 8_640_000.min(day_end(format, kind))];
     let year = year(random, format);
-    let day = random.pick(&[1, 59, 181, 364, 365, last_day(format, year)]);
+    let last = last_day(format, year);
+    let day = random.pick(&[1, 59, 181, 364, 365, last]).min(last);
     let length = 365 + u16::from(day == 366 || random.once_in(2));
     let mut at = Time {
         year,
@@ -248,28 +262,28 @@ fn successions(random: &mut Random, format: Format) -> Vec<u8> {
     out
 }
 
-/// Frames of another format of the same length, which this reader must judge by its own layout.
+/// Frames of another format of the same length, in X of any, which this reader must judge by its own layout.
 fn other_format(random: &mut Random, format: Format) -> Vec<u8> {
     let n = table(format).0;
     loop {
         let other = format_of(random.pick(&FORMATS));
-        if table(other).0 == n {
+        if table(other).0 == n || is_x(format) {
             return frames(random, other, 5);
         }
     }
 }
 
-/// Marks where they belong and random bits elsewhere: digits over 9, clocks and days out of range, seconds that differ.
+/// Marks and missing pulses where they belong and random bits elsewhere: digits over 9, clocks and days out of range,
+/// seconds that differ.
 pub fn random_bits(random: &mut Random, format: Format) -> Vec<u8> {
     let n = table(format).0;
     let full = u64::from(random.once_in(2));
     (0..n)
-        .map(|index| {
-            if index == 0 || index % 10 == 9 {
-                MARK
-            } else {
-                (random.below(5) < full + 1) as u8
-            }
+        .map(|index| match index {
+            0 => MARK,
+            21.. if is_x(format) => SPOILED,
+            _ if !is_x(format) && index % 10 == 9 => MARK,
+            _ => (random.below(5) < full + 1) as u8,
         })
         .collect()
 }
