@@ -99,11 +99,9 @@ pub(crate) fn decode(layout: &Layout, frame: &[u8]) -> Result<(Time, u64), Refus
 fn check_elements(layout: &Layout, frame: &[u8]) -> Result<(), Refusal> {
     for (index, (&symbol, &kind)) in frame.iter().zip(&layout.kinds).enumerate() {
         match (kind, symbol) {
-            (Element::Mark, MARK)
-            | (Element::IndexMarker, ZERO)
-            | (Element::Bit, ZERO | ONE)
-            | (Element::MissingPulse, SPOILED) => {}
-            (Element::Mark, _) | (_, MARK) => return Err(Refusal::Mark(index)),
+            (Element::Bit, ZERO | ONE) => {}
+            (Element::Fixed(expected), _) if symbol == expected => {}
+            (Element::Fixed(MARK), _) | (_, MARK) => return Err(Refusal::Mark(index)),
             _ => return Err(Refusal::Element(index)),
         }
     }

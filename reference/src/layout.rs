@@ -40,14 +40,12 @@ const ABSENT: Field = Field {
     highest_first: false,
 };
 
-/// What belongs at one index of a frame.
+/// What belongs at one index of a frame: the same symbol in every frame, which
+/// is a mark, an index marker or a missing pulse, or a bit.
 #[derive(Clone, Copy, Debug, PartialEq, Eq)]
 pub enum Element {
-    Mark,
-    IndexMarker,
+    Fixed(u8),
     Bit,
-    /// Symbol 3: no pulse stands there.
-    MissingPulse,
 }
 
 /// The frame of one format. Decimal digits are listed highest first, the parts
@@ -130,30 +128,12 @@ impl Layout {
     }
 }
 
-static A: [Layout; 8] = [
-    build(b'A', 0),
-    build(b'A', 1),
-    build(b'A', 2),
-    build(b'A', 3),
-    build(b'A', 4),
-    build(b'A', 5),
-    build(b'A', 6),
-    build(b'A', 7),
-];
-static B: [Layout; 8] = [
-    build(b'B', 0),
-    build(b'B', 1),
-    build(b'B', 2),
-    build(b'B', 3),
-    build(b'B', 4),
-    build(b'B', 5),
-    build(b'B', 6),
-    build(b'B', 7),
-];
-static D: [Layout; 2] = [build(b'D', 1), build(b'D', 2)];
-static E: [Layout; 2] = [build(b'E', 1), build(b'E', 2)];
-static G: [Layout; 2] = [build(b'G', 1), build(b'G', 2)];
-static H: [Layout; 2] = [build(b'H', 1), build(b'H', 2)];
+static A: [Layout; 8] = expressions_0_to_7(b'A');
+static B: [Layout; 8] = expressions_0_to_7(b'B');
+static D: [Layout; 2] = expressions_1_and_2(b'D');
+static E: [Layout; 2] = expressions_1_and_2(b'E');
+static G: [Layout; 2] = expressions_1_and_2(b'G');
+static H: [Layout; 2] = expressions_1_and_2(b'H');
 static X: [Layout; 1] = [build_xr3()];
 
 const CONTROL_A_B: &[Field] = &[field(50, 58), field(60, 68), field(70, 78)];
@@ -177,6 +157,23 @@ const DAYS: [Field; 3] = [field(40, 41), field(35, 38), field(30, 33)];
 const YEAR: [Field; 2] = [field(55, 58), field(50, 53)];
 const TENTHS: Field = field(45, 48);
 const HUNDREDTHS: Field = field(50, 53);
+
+const fn expressions_0_to_7(letter: u8) -> [Layout; 8] {
+    [
+        build(letter, 0),
+        build(letter, 1),
+        build(letter, 2),
+        build(letter, 3),
+        build(letter, 4),
+        build(letter, 5),
+        build(letter, 6),
+        build(letter, 7),
+    ]
+}
+
+const fn expressions_1_and_2(letter: u8) -> [Layout; 2] {
+    [build(letter, 1), build(letter, 2)]
+}
 
 /// The table of a format that document 01 or document 02, "The year on the
 /// wire", lists.
@@ -218,7 +215,7 @@ const fn build(letter: u8, expression: u8) -> Layout {
         &[]
     };
 
-    let mut kinds = [Element::IndexMarker; MAX_ELEMENTS];
+    let mut kinds = [Element::Fixed(ZERO); MAX_ELEMENTS];
     set_bits(&mut kinds, &seconds);
     set_bits(&mut kinds, &minutes);
     set_bits(&mut kinds, &HOURS);
@@ -230,7 +227,7 @@ const fn build(letter: u8, expression: u8) -> Layout {
     let mut index = 0;
     while index < elements {
         if index == 0 || index % 10 == 9 {
-            kinds[index] = Element::Mark;
+            kinds[index] = Element::Fixed(MARK);
         }
         index += 1;
     }
@@ -260,8 +257,8 @@ const fn build_xr3() -> Layout {
     let hours = [highest_first(1, 2), highest_first(3, 6)];
     let minutes = [highest_first(7, 9), highest_first(10, 13)];
     let seconds = [highest_first(14, 16), highest_first(17, 20)];
-    let mut kinds = [Element::MissingPulse; MAX_ELEMENTS];
-    kinds[0] = Element::Mark;
+    let mut kinds = [Element::Fixed(SPOILED); MAX_ELEMENTS];
+    kinds[0] = Element::Fixed(MARK);
     set_bits(&mut kinds, &hours);
     set_bits(&mut kinds, &minutes);
     set_bits(&mut kinds, &seconds);
@@ -290,11 +287,9 @@ const fn blank(kinds: &[Element; MAX_ELEMENTS]) -> [u8; MAX_ELEMENTS] {
     let mut blank = [ZERO; MAX_ELEMENTS];
     let mut index = 0;
     while index < MAX_ELEMENTS {
-        blank[index] = match kinds[index] {
-            Element::Mark => MARK,
-            Element::MissingPulse => SPOILED,
-            Element::IndexMarker | Element::Bit => ZERO,
-        };
+        if let Element::Fixed(symbol) = kinds[index] {
+            blank[index] = symbol;
+        }
         index += 1;
     }
     blank
