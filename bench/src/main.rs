@@ -110,13 +110,23 @@ fn table(format: Format) -> (usize, u32, u32) {
         b'B' if format.expression == 4 => (100, 100, 18),
         b'B' => (100, 100, 27),
         b'G' => (100, 1, 36),
+        b'X' => (25, 100, 0),
         _ => (60, 6_000, 9),
     }
 }
 
-/// The earlier library, where it is linked and has the format: it has none with the year.
+/// The day of a format's times: X has day 1 alone.
+fn day(format: Format, day: u16) -> u16 {
+    if format.letter == b'X' {
+        1
+    } else {
+        day
+    }
+}
+
+/// The earlier library, where it is linked and has the format: it has none with the year, and no X.
 fn before(format: Format) -> Option<Before> {
-    BEFORE.filter(|_| !has_year(format))
+    BEFORE.filter(|_| !has_year(format) && format.letter != b'X')
 }
 
 /// Whether a format of the tables carries the year.
@@ -137,7 +147,7 @@ fn stream(format: Format, length: usize) -> Vec<u8> {
     let mut state = 1;
     let mut time = Time {
         year: if has_year(format) { 99 } else { 0 },
-        day: 300,
+        day: day(format, 300),
         hundredths: 5_088_000,
     };
     let mut out = vec![0; length.next_multiple_of(n)];
@@ -200,7 +210,7 @@ fn prepared_times(format: Format) -> Vec<(Time, u64)> {
             let leap_year = (random(&mut state) % 25 * 4) as u8;
             let time = Time {
                 year: if has_year(format) { leap_year } else { 0 },
-                day: 1 + (random(&mut state) % 366) as u16,
+                day: day(format, 1 + (random(&mut state) % 366) as u16),
                 hundredths: frame as u32 * interval,
             };
             (time, random(&mut state) & ((1 << bits) - 1))
@@ -225,7 +235,7 @@ fn write(format: Format, prepared: &[(Time, u64)]) -> Vec<Option<Side>> {
         }
     });
     assert!(library(true) == rust(true, plain::write));
-    assert!(library(true) == rust(true, tuned::write));
+    assert!(!tuned::has(format) || library(true) == rust(true, tuned::write));
     assert!(before
         .as_ref()
         .is_none_or(|before| before(true) == library(true)));
@@ -234,7 +244,7 @@ fn write(format: Format, prepared: &[(Time, u64)]) -> Vec<Option<Side>> {
         &[
             Some(&|| library(false)),
             Some(&|| rust(false, plain::write)),
-            Some(&|| rust(false, tuned::write)),
+            tuned::has(format).then_some(&|| rust(false, tuned::write)),
             before
                 .as_ref()
                 .map(|before| move || before(false))
@@ -297,7 +307,7 @@ fn read(format: Format, spoiled: Option<usize>) -> Vec<Option<Side>> {
         &[
             Some(&|| read_with(frames, n, library)),
             Some(&|| rust(plain::read)),
-            Some(&|| rust(tuned::read)),
+            tuned::has(format).then_some(&|| rust(tuned::read)),
             before(format)
                 .map(|before| move || read_with(frames, n, |frame| (before.read)(format, frame)))
                 .as_ref()
@@ -406,12 +416,13 @@ fn library_time(time: Time) -> duskveyra::Time {
 }
 
 /// The formats of the tables, each with its last element that is a bit.
-fn formats() -> [(&'static str, Format, usize); 4] {
+fn formats() -> [(&'static str, Format, usize); 5] {
     [
         ("B0", format(b'B', 0), 97),
         ("B4", format(b'B', 4), 97),
         ("G1", format(b'G', 1), 98),
         ("H1", format(b'H', 1), 58),
+        ("X2", format(b'X', 2), 20),
     ]
 }
 
@@ -492,6 +503,7 @@ fn length_table() {
 fn stream_tables() {
     streams::rows("B0", format(b'B', 0));
     streams::rows("H1", format(b'H', 1));
+    streams::rows("X2", format(b'X', 2));
 }
 
 fn main() {

@@ -7,8 +7,8 @@ use std::hint::black_box;
 
 pub const STREAM: usize = 1_000_000;
 
-/// Reports that a block has room for.
-pub const ROOM: usize = 128;
+/// Reports that a block has room for: more than 4,096 symbols of X bring.
+pub const ROOM: usize = 256;
 
 const BLOCKS: [(&str, usize); 4] = [("1", 1), ("8", 8), ("256", 256), ("4,096", 4_096)];
 
@@ -68,7 +68,7 @@ pub fn feed(format: Format, setting: u8, symbols: &[u8]) -> Vec<Option<Side>> {
         &[
             Some(&|| feed_library(format, setting, symbols)),
             Some(&|| feed_plain(format, setting, symbols)),
-            Some(&|| feed_tuned(format, setting, symbols)),
+            tuned::has(format).then_some(&|| feed_tuned(format, setting, symbols)),
             before
                 .map(|before| move || (before.feed)(format, symbols))
                 .as_ref()
@@ -159,9 +159,10 @@ fn feed_blocks(format: Format, symbols: &[u8], size: usize) -> Vec<Option<Side>>
 
 fn kinds(format: Format) -> [(&'static str, Vec<u8>); 6] {
     let n = table(format).0;
+    let last_bit = if format.letter == b'X' { 20 } else { n - 2 };
     let mut spoiled = stream(format, STREAM);
     for frame in spoiled.chunks_exact_mut(n) {
-        frame[n - 2] = 3;
+        frame[last_bit] = 3;
     }
     let mut state = 5;
     let by_chance = (0..STREAM).map(|_| random(&mut state) as u8 & 3);

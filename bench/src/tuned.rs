@@ -106,6 +106,11 @@ static H1: Layout = build(
     false,
 );
 
+/// Whether the format is one of the four.
+pub fn has(format: Format) -> bool {
+    layout_of(format).is_ok()
+}
+
 fn layout_of(format: Format) -> Result<&'static Layout, Refusal> {
     match (format.letter, format.expression) {
         (b'B', 0) => Ok(&B0),
