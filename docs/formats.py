@@ -1,6 +1,6 @@
 #!/usr/bin/env python3
 """Draws docs/formats.svg, the elements of a frame of each rate letter, of A and B with the year and without, from the layout
-table in crates/layout/src/lib.rt.
+table in crates/layout/src/lib.rt; where X's digits stand is from the definition in crates/timecode/specs/Layout.antt.
 
 Without arguments it writes the file; with --check it compares the file with what it would write."""
 
@@ -10,6 +10,7 @@ from pathlib import Path
 
 HERE = Path(__file__).resolve().parent
 TABLE = HERE.parent / "crates/layout/src/lib.rt"
+DEFINITION = HERE.parent / "crates/timecode/specs/Layout.antt"
 PICTURE = HERE / "formats.svg"
 
 # What each run of the table carries, in the table's order: the field, and the weight of the run's first element.
@@ -47,9 +48,10 @@ COLOURS = {
     "SBS": "#d6ccee",
     "control": "#c9d8f5",
     "index": "#f4f4f4",
+    "missing": "#e4d8cf",
 }
 # Letters with the first expression of an edition, those of one length beside each other.
-PANELS = [[("A", 0), ("B", 0)], [("A", 4), ("B", 4)], [("E", 1), ("G", 1)], [("D", 1), ("H", 1)]]
+PANELS = [[("A", 0), ("B", 0)], [("A", 4), ("B", 4)], [("E", 1), ("G", 1)], [("D", 1), ("H", 1)], [("X", 2)]]
 
 WIDTH = 900
 MARGIN = 8
@@ -59,7 +61,7 @@ LINE = 26
 SIDE = 74  # room for a row's fields
 PANEL = LABEL + 10 * CELL + SIDE
 HEAD = 46
-LEGEND = 82
+LEGEND = 102
 FONT = "DejaVu Sans, Verdana, Arial, sans-serif"
 
 
@@ -69,6 +71,19 @@ def fail(why):
 
 def numbers(text):
     return [int(number.replace("_", "")) for number in re.findall(r"\d[\d_]*", text)]
+
+
+def read_x():
+    """The digits of X, whose places are none of the table's: field, weight of the lowest bit, start and width."""
+    source = DEFINITION.read_text(encoding="utf-8")
+    digits = []
+    for field in ("hours", "minutes", "seconds"):
+        found = re.search(rf"^{field} f = inX f (\d+) (\d+) .*?∷ inX f (\d+) (\d+) ", source, re.M)
+        if not found:
+            fail(f"no {field} of X in {DEFINITION}")
+        units, units_width, tens, tens_width = (int(number) for number in found.groups())
+        digits += [(field, 1, units, units_width), (field, 10, tens, tens_width)]
+    return digits
 
 
 def read_table():
@@ -113,9 +128,21 @@ def weight_text(weight):
     return f"{weight:.2f}".rstrip("0").rstrip(".").removeprefix("0")
 
 
+def cells_of_x(n):
+    """The same for X: a mark, digits with the highest weight first, missing pulses."""
+    cells = [("mark", "Pr", "mark Pr")] + [("missing", "–", "missing pulse")] * (n - 1)
+    for field, lowest, start, width in read_x():
+        for place in range(start, start + width):
+            text = weight_text(lowest * 2 ** (start + width - 1 - place))
+            cells[place] = (field, text, f"{field}, weight {text}")
+    return cells
+
+
 def cells_of(row, marks):
     """For each element its kind, the text in its cell and what it is in words."""
     n = row["elements"]
+    if row["letter"] == "X":
+        return cells_of_x(n)
     cells = [("index", "", "index marker")] * n
     places = [mark for mark in marks if mark < n]
     for count, mark in enumerate(places):
@@ -167,7 +194,7 @@ def side_text(cells):
     names = []
     for kind, _, _ in cells:
         name = {"tenths": "0.1 s", "hundredths": "0.01 s"}.get(kind, kind)
-        if kind not in ("mark", "index") and name not in names:
+        if kind not in ("mark", "index", "missing") and name not in names:
             names.append(name)
     if names == ["control"]:
         numbers_in = [content for kind, content, _ in cells if kind == "control"]
@@ -189,13 +216,14 @@ def draw_cell(x, y, kind, content, words):
 def draw_panel(x, y, row, marks):
     cells = cells_of(row, marks)
     letter, n = row["letter"], row["elements"]
-    takes = "–".join(str(expression) for expression in (row["first"], row["last"]))
+    takes = "–".join(str(expression) for expression in sorted({row["first"], row["last"]}))
+    expressions = "expressions" if "–" in takes else "expression"
     out = [
         text(x + LABEL, y + 20, f"Format {letter}", 17, bold=True),
         text(
             x + LABEL + 92,
             y + 20,
-            f"frame {duration(row['interval'])}, {n} elements of {duration(row['interval'], n)}, expressions {takes}",
+            f"frame {duration(row['interval'])}, {n} elements of {duration(row['interval'], n)}, {expressions} {takes}",
             10.5,
             fill="#444",
         ),
@@ -209,11 +237,19 @@ def draw_panel(x, y, row, marks):
         for column, (kind, content, words) in enumerate(line):
             out.append(draw_cell(x + LABEL + column * CELL, top, kind, content, f"{letter}{takes}, element {first + column}: {words}"))
         out.append(text(x + LABEL + 10 * CELL + 5, top + LINE / 2 + 4, side_text(line), 10, fill="#444"))
-    left, top, right, bottom = x + LABEL, y + HEAD, x + LABEL + 10 * CELL, y + HEAD + n // 10 * LINE
-    path = "".join(f"M{left + i * CELL:g} {top:g}V{bottom:g}" for i in range(11))
-    path += "".join(f"M{left:g} {top + i * LINE:g}H{right:g}" for i in range(n // 10 + 1))
+    left, top = x + LABEL, y + HEAD
+    # the last row of X has fewer than ten cells
+    bottoms = [top + lines(n - max(i - 1, 0)) * LINE for i in range(11)]
+    rights = [left + min(10, n - 10 * max(i - 1, 0)) * CELL for i in range(lines(n) + 1)]
+    path = "".join(f"M{left + i * CELL:g} {top:g}V{bottom:g}" for i, bottom in enumerate(bottoms))
+    path += "".join(f"M{left:g} {top + i * LINE:g}H{right:g}" for i, right in enumerate(rights))
     out.append(f'<path d="{path}" stroke="#9aa5ab" stroke-width="1" fill="none"/>')
     return out
+
+
+def lines(n):
+    """How many rows of ten cells n elements take."""
+    return -(-n // 10)
 
 
 def draw_legend(x, y):
@@ -229,6 +265,7 @@ def draw_legend(x, y):
         ("years", "years", 532, 1),
         ("tenths", "tenths and", 598, 1),
         ("hundredths", "hundredths of a second", 690, 1),
+        ("missing", "missing pulse of X, symbol 3", 0, 2),
     ]
     out = []
     for kind, words, left, line in entries:
@@ -238,7 +275,7 @@ def draw_legend(x, y):
     out.append(
         text(
             x,
-            y + 54,
+            y + 74,
             "A cell's number is the weight of a one there, or a control bit's number. Expression 0 carries everything shown, 1 no straight binary",
             11,
             fill="#444",
@@ -247,7 +284,7 @@ def draw_legend(x, y):
     out.append(
         text(
             x,
-            y + 69,
+            y + 89,
             "seconds, 2 neither these nor control bits, 3 no control bits, 4 to 7 the same with the year; what is not carried is an index marker.",
             11,
             fill="#444",
@@ -265,13 +302,13 @@ def draw():
     for pair in PANELS:
         for column, key in enumerate(pair):
             body += draw_panel(MARGIN + column * (PANEL + gap), y, rows[key], marks)
-        y += HEAD + max(rows[key]["elements"] for key in pair) // 10 * LINE + 14
+        y += HEAD + max(lines(rows[key]["elements"]) for key in pair) * LINE + 14
     height = y + MARGIN - 8
     head = [
         f'<svg xmlns="http://www.w3.org/2000/svg" width="{WIDTH}" height="{height}" viewBox="0 0 {WIDTH} {height}" '
         f'font-family="{FONT}">',
-        "<title>The elements of a frame in formats A and B with the year and without, D, E, G and H</title>",
-        "<!-- Drawn by docs/formats.py from crates/layout/src/lib.rt. -->",
+        "<title>The elements of a frame in formats A and B with the year and without, D, E, G, H and X</title>",
+        "<!-- Drawn by docs/formats.py from crates/layout/src/lib.rt and crates/timecode/specs/Layout.antt. -->",
         f'<rect width="{WIDTH}" height="{height}" fill="#fff"/>',
     ]
     return "\n".join(head + body + ["</svg>"]) + "\n"
