@@ -272,24 +272,12 @@ def draw_legend(x, y):
         at, top = x + left, y + line * 20
         out.append(f'<rect x="{at:g}" y="{top:g}" width="14" height="14" fill="{COLOURS[kind]}" stroke="#9aa5ab"/>')
         out.append(text(at + 19, top + 11.5, words, 11))
-    out.append(
-        text(
-            x,
-            y + 74,
-            "A cell's number is the weight of a one there, or a control bit's number. Expression 0 carries everything shown, 1 no straight binary",
-            11,
-            fill="#444",
-        )
+    notes = (
+        "A cell's number is the weight of a one there, or a control bit's number. Expression 0 carries everything shown, 1 no straight binary",
+        "seconds, 2 neither these nor control bits, 3 no control bits, 4 to 7 the same with the year; what is not carried is an index marker.",
     )
-    out.append(
-        text(
-            x,
-            y + 89,
-            "seconds, 2 neither these nor control bits, 3 no control bits, 4 to 7 the same with the year; what is not carried is an index marker.",
-            11,
-            fill="#444",
-        )
-    )
+    for line, words in enumerate(notes):
+        out.append(text(x, y + 74 + 15 * line, words, 11, fill="#444"))
     return out
 
 

@@ -59,6 +59,35 @@ static void set_values(uint16_t day, uint32_t hundredths, uint64_t control)
     SET(uint64_t, control, control);
 }
 
+/* A call that gives this time, these values or this difference, or that is refused with this number and index. */
+#define CHECK_TIME(call, day, hundredths) \
+    do {                                  \
+        CHECK((call) == 0);               \
+        set_time(day, hundredths);        \
+        CHECK(same());                    \
+    } while (0)
+
+#define CHECK_VALUES(call, day, hundredths, control) \
+    do {                                             \
+        CHECK((call) == 0);                          \
+        set_values(day, hundredths, control);        \
+        CHECK(same());                               \
+    } while (0)
+
+#define CHECK_DIFFERENCE(call, value)      \
+    do {                                   \
+        CHECK((call) == 0);                \
+        SET(int64_t, difference, value);   \
+        CHECK(same());                     \
+    } while (0)
+
+#define CHECK_INDEX(call, number, at) \
+    do {                              \
+        CHECK((call) == (number));    \
+        SET(size_t, index, at);       \
+        CHECK(same());                \
+    } while (0)
+
 static uint8_t *bytes(size_t length, int fill)
 {
     uint8_t *memory = (uint8_t *)lent_memory(length);
@@ -419,48 +448,26 @@ static void examples(void)
     CHECK(call_write('B', 0, 1, 50, 0, frame, 100) == 2 && all_bytes(frame, 100, FILL));
     CHECK(call_write('B', 0, 1, 0, 0, frame, 99) == 3 && all_bytes(frame, 100, FILL));
     CHECK(call_write('B', 0, 366, 0, 0, frame, 100) == 0);
-    CHECK(call_read('B', 0, frame, 100) == 0);
-    set_values(366, 0, 0);
-    CHECK(same());
+    CHECK_VALUES(call_read('B', 0, frame, 100), 366, 0, 0);
 
-    CHECK(call_step('B', 0, 365, 8639900, 365, 0) == 0);
-    set_time(1, 0);
-    CHECK(same());
-    CHECK(call_step('B', 0, 365, 8639900, 366, 0) == 0);
-    set_time(366, 0);
-    CHECK(same());
+    CHECK_TIME(call_step('B', 0, 365, 8639900, 365, 0), 1, 0);
+    CHECK_TIME(call_step('B', 0, 365, 8639900, 366, 0), 366, 0);
     for (i = 0; i < STEPS; i++) {
         CHECK(both_steps[i]('B', 0, 1, 0, 364, 0) == 11 && same());
         CHECK(both_steps[i]('B', 0, 366, 0, 365, 0) == 11 && same());
         CHECK(both_steps[i]('B', 0, 367, 0, 366, 0) == 2 && same());
     }
-    CHECK(call_step_back('B', 0, 1, 0, 365, 0) == 0);
-    set_time(365, 8639900);
-    CHECK(same());
-    CHECK(call_step_back('B', 0, 1, 0, 366, 0) == 0);
-    set_time(366, 8639900);
-    CHECK(same());
+    CHECK_TIME(call_step_back('B', 0, 1, 0, 365, 0), 365, 8639900);
+    CHECK_TIME(call_step_back('B', 0, 1, 0, 366, 0), 366, 8639900);
     /* 11 and 15 look at the time that is given, not at the one before. */
-    CHECK(call_step_back('B', 0, 366, 0, 366, 0) == 0);
-    set_time(365, 8639900);
-    CHECK(same());
+    CHECK_TIME(call_step_back('B', 0, 366, 0, 366, 0), 365, 8639900);
     CHECK(call_step_back('B', 0, 181, 8639900, 365, DUSKVEYRA_SECOND_TAKEN) == 15 && same());
 
-    CHECK(call_difference(2, 0, 1, 8639999) == 0);
-    SET(int64_t, difference, 1);
-    CHECK(same());
-    CHECK(call_difference(1, 8639999, 2, 0) == 0);
-    SET(int64_t, difference, -1);
-    CHECK(same());
-    CHECK(call_difference(191, 5088000, 191, 5088000) == 0);
-    SET(int64_t, difference, 0);
-    CHECK(same());
-    CHECK(call_difference(366, 8639999, 1, 0) == 0);
-    SET(int64_t, difference, INT64_C(3162239999));
-    CHECK(same());
-    CHECK(call_difference(1, 0, 366, 8639999) == 0);
-    SET(int64_t, difference, -INT64_C(3162239999));
-    CHECK(same());
+    CHECK_DIFFERENCE(call_difference(2, 0, 1, 8639999), 1);
+    CHECK_DIFFERENCE(call_difference(1, 8639999, 2, 0), -1);
+    CHECK_DIFFERENCE(call_difference(191, 5088000, 191, 5088000), 0);
+    CHECK_DIFFERENCE(call_difference(366, 8639999, 1, 0), INT64_C(3162239999));
+    CHECK_DIFFERENCE(call_difference(1, 0, 366, 8639999), -INT64_C(3162239999));
     CHECK(call_difference(0, 0, 1, 0) == 2 && same());
     CHECK(call_difference(1, 0, 0, 0) == 2 && same());
     CHECK(call_difference(367, 0, 1, 0) == 2 && same());
@@ -468,12 +475,8 @@ static void examples(void)
     CHECK(call_difference(1, 8640100, 1, 0) == 2 && same());
     CHECK(call_difference(1, 0, 1, UINT32_MAX) == 2 && same());
     /* A day counts 8,640,000 hundredths, also one with a second added. */
-    CHECK(call_difference(1, 8640099, 2, 0) == 0);
-    SET(int64_t, difference, 99);
-    CHECK(same());
-    CHECK(call_difference(2, 0, 1, 8640000) == 0);
-    SET(int64_t, difference, 0);
-    CHECK(same());
+    CHECK_DIFFERENCE(call_difference(1, 8640099, 2, 0), 99);
+    CHECK_DIFFERENCE(call_difference(2, 0, 1, 8640000), 0);
 
     /* The table's examples of the numbers 4 to 8. */
     CHECK(call_write('B', 0, 1, 100, 0, frame, 100) == 0);
@@ -481,14 +484,10 @@ static void examples(void)
     CHECK(call_read('B', 0, frame, 100) == 4 && same());
     frame[50] = 0;
     frame[0] = 1;
-    CHECK(call_read('B', 0, frame, 100) == 5);
-    SET(size_t, index, 0);
-    CHECK(same());
+    CHECK_INDEX(call_read('B', 0, frame, 100), 5, 0);
     frame[0] = 2;
     frame[5] = 1;
-    CHECK(call_read('B', 0, frame, 100) == 6);
-    SET(size_t, index, 5);
-    CHECK(same());
+    CHECK_INDEX(call_read('B', 0, frame, 100), 6, 5);
     frame[5] = 0;
     frame[80] = 0;
     CHECK(call_read('B', 0, frame, 100) == 8 && same());
@@ -558,17 +557,11 @@ static void orders(void)
     CHECK(call_write('B', 1, 1, 0, 0, frame, 100) == 0);
     frame[14] = 1;
     frame[19] = 3;
-    CHECK(call_read('B', 1, frame, 100) == 6);
-    SET(size_t, index, 14);
-    CHECK(same());
+    CHECK_INDEX(call_read('B', 1, frame, 100), 6, 14);
     frame[9] = 0;
-    CHECK(call_read('B', 1, frame, 100) == 5);
-    SET(size_t, index, 9);
-    CHECK(same());
+    CHECK_INDEX(call_read('B', 1, frame, 100), 5, 9);
     frame[1] = 3;
-    CHECK(call_read('B', 1, frame, 100) == 6);
-    SET(size_t, index, 1);
-    CHECK(same());
+    CHECK_INDEX(call_read('B', 1, frame, 100), 6, 1);
     for (bad = 0; bad < 4; bad++) {
         uint8_t number = bad & 1 ? 1 : bad & 2 ? 12 : 0;
         CHECK(call_scan('B', bad & 1 ? 8 : 0, frame, 4, bad & 2 ? 5 : 4) == number);
@@ -624,9 +617,7 @@ static void frames(void)
                 char at = kind(letter, expression, i);
                 CHECK(at == 'P' ? frame[i] == 2 : at == 'b' ? frame[i] <= 1 : frame[i] == 0);
             }
-            CHECK(call_read(letter, expression, frame, n) == 0);
-            set_values(day, c, control);
-            CHECK(same());
+            CHECK_VALUES(call_read(letter, expression, frame, n), day, c, control);
         }
         /* Each control bit alone, and the first that is not carried. */
         for (turn = 0; turn < 64; turn++) {
@@ -667,13 +658,9 @@ static void frames(void)
                 if (symbol > 3) {
                     CHECK(answer == 4 && same());
                 } else if ((symbol == 2) != (at == 'P')) {
-                    CHECK(answer == 5);
-                    SET(size_t, index, i);
-                    CHECK(same());
+                    CHECK_INDEX(answer, 5, i);
                 } else if (at != 'P' && (symbol == 3 || (at == '.' && symbol == 1))) {
-                    CHECK(answer == 6);
-                    SET(size_t, index, i);
-                    CHECK(same());
+                    CHECK_INDEX(answer, 6, i);
                 } else if (answer == 0) {
                     set_values(got.day, got.hundredths, got.control);
                     CHECK(same());
@@ -708,18 +695,10 @@ static void steps(void)
                 CHECK(same());
             }
         }
-        CHECK(call_step(letter, expression, 366, last, 366, 0) == 0);
-        set_time(1, 0);
-        CHECK(same());
-        CHECK(call_step(letter, expression, 59, last, 365, 0) == 0);
-        set_time(60, 0);
-        CHECK(same());
-        CHECK(call_step_back(letter, expression, 1, 0, 366, 0) == 0);
-        set_time(366, last);
-        CHECK(same());
-        CHECK(call_step_back(letter, expression, 60, 0, 365, 0) == 0);
-        set_time(59, last);
-        CHECK(same());
+        CHECK_TIME(call_step(letter, expression, 366, last, 366, 0), 1, 0);
+        CHECK_TIME(call_step(letter, expression, 59, last, 365, 0), 60, 0);
+        CHECK_TIME(call_step_back(letter, expression, 1, 0, 366, 0), 366, last);
+        CHECK_TIME(call_step_back(letter, expression, 60, 0, 365, 0), 59, last);
         for (i = 0; i < STEPS; i++) {
             step_call *step = both_steps[i];
             CHECK(step(letter, expression, 366, last, 365, 0) == 11 && same());
@@ -817,9 +796,8 @@ static void back_again(int f, uint16_t day, uint32_t c)
                 if (number != 0)
                     continue;
                 CHECK(got.day != day || got.hundredths != c);
-                CHECK(both_steps[1 - i](letter, expression, got.day, got.hundredths, year_length, day_kind) == 0);
-                set_time(day, c);
-                CHECK(same());
+                CHECK_TIME(both_steps[1 - i](letter, expression, got.day, got.hundredths, year_length, day_kind), day,
+                           c);
             }
 }
 
@@ -883,9 +861,7 @@ static void added_second(void)
                 CHECK(call_read(letter, expression, frame, n) == 7 && same());
             } else {
                 frame[7] = 1;
-                CHECK(call_read(letter, expression, frame, n) == 6);
-                SET(size_t, index, 7);
-                CHECK(same());
+                CHECK_INDEX(call_read(letter, expression, frame, n), 6, 7);
             }
             free(frame);
             free(expected);
@@ -901,9 +877,7 @@ static void added_second(void)
             memset(frame, FILL, n);
             CHECK(call_write(letter, expression, 181, c, control, frame, n) == 0);
             CHECK(memcmp(frame, expected, n) == 0);
-            CHECK(call_read(letter, expression, frame, n) == 0);
-            set_values(181, c, control);
-            CHECK(same());
+            CHECK_VALUES(call_read(letter, expression, frame, n), 181, c, control);
         }
         for (hour = 0; hour < 24; hour++)
             for (minute = 0; minute < 60; minute++)
