@@ -3,6 +3,7 @@
 
 mod blocks;
 mod calls;
+mod places;
 mod random;
 mod streams;
 
@@ -278,6 +279,32 @@ fn arguments() -> Option<Arguments> {
     Some(out)
 }
 
+/// What the run gives; a panic on either side is a difference too.
+fn run<T>(run: impl FnOnce() -> Result<T, String>) -> Result<T, String> {
+    catch_unwind(AssertUnwindSafe(run)).unwrap_or_else(|_| Err("panicked, see above".to_string()))
+}
+
+/// Every place of a loss and of a symbol put in; false where a difference was printed.
+fn tries_places(seed: u64) -> bool {
+    match run(|| places::run_places(&mut Random::new(seed, u64::MAX))) {
+        Ok(tried) => {
+            println!(
+                "one element lost or put in at every place: {} streams of {} formats with the settings 2 to 5, {} symbols, {:?} reports, {:?} of them across the place, 0 false",
+                tried.streams,
+                FORMATS.len(),
+                tried.symbols,
+                tried.reports,
+                tried.across
+            );
+            true
+        }
+        Err(difference) => {
+            println!("one element lost or put in, at seed {seed}: {difference}");
+            false
+        }
+    }
+}
+
 fn main() -> ExitCode {
     let Some(arguments) = arguments() else {
         eprintln!("{USAGE}");
@@ -286,17 +313,18 @@ fn main() -> ExitCode {
     let seed = arguments.seed;
     println!("seed {seed}");
     let started = Instant::now();
+    if arguments.stream.is_none() && !tries_places(seed) {
+        return ExitCode::FAILURE;
+    }
     let mut counts = Counts::default();
     let mut number = arguments.stream.unwrap_or(0);
     loop {
         let mut random = Random::new(seed, number);
-        // A panic on either side is a difference too.
-        let difference = catch_unwind(AssertUnwindSafe(|| {
+        let difference = run(|| {
             run_stream(&mut random, &mut counts)?;
             calls::run_calls(&mut random, &mut counts)?;
             blocks::run_blocks(&mut random, &mut counts)
-        }))
-        .unwrap_or_else(|_| Err("panicked, see above".to_string()));
+        });
         if let Err(difference) = difference {
             println!("difference at seed {seed}, stream {number}: {difference}");
             println!(

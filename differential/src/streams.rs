@@ -60,6 +60,15 @@ pub fn lead(format: Format) -> usize {
     usize::from(!is_x(format))
 }
 
+/// The last index that a digit can have: what stands behind it, the last mark or in X four missing pulses, ends every frame alike.
+pub fn digits_end(format: Format) -> usize {
+    if is_x(format) {
+        20
+    } else {
+        table(format).0 - 2
+    }
+}
+
 /// Whether a format of [`FORMATS`] carries the year.
 fn has_year(format: Format) -> bool {
     format.expression >= 4
@@ -144,16 +153,23 @@ pub fn frame(format: Format, time: Time, control: u64) -> Vec<u8> {
     frame
 }
 
-/// Frames in succession; the year's length and the kind of the day are others at each step.
-fn frames(random: &mut Random, format: Format, count: usize) -> Vec<u8> {
+/// Times in succession, each with a control word; the year's length and the kind of the day are others at each step.
+pub fn sent(random: &mut Random, format: Format, count: usize) -> Vec<(Time, u64)> {
     let mut at = time(random, format);
-    let mut out = Vec::new();
+    let mut out = Vec::with_capacity(count);
     for _ in 0..count {
-        let word = control(random, format);
-        out.extend(frame(format, at, word));
+        out.push((at, control(random, format)));
         at = next(random, format, at);
     }
     out
+}
+
+/// Their frames.
+fn frames(random: &mut Random, format: Format, count: usize) -> Vec<u8> {
+    sent(random, format, count)
+        .into_iter()
+        .flat_map(|(time, control)| frame(format, time, control))
+        .collect()
 }
 
 fn next(random: &mut Random, format: Format, at: Time) -> Time {
