@@ -71,12 +71,15 @@ enum duskveyra_number {
     DUSKVEYRA_CONTROL_TOO_LONG = 9,     /* control word needs more bits than are carried */
     DUSKVEYRA_INVALID_INTERVAL = 10,    /* nominal element interval not 100 to 10,000,000 ticks */
     DUSKVEYRA_INVALID_YEAR_LENGTH = 11, /* year length not 365 or 366, or the day is beyond it; never with the year */
-    DUSKVEYRA_START_PAST_END = 12,      /* start past the recording's end */
+    DUSKVEYRA_START_PAST_END = 12,      /* start past the recording's end, place past the log's end */
     DUSKVEYRA_INVALID_READER = 13,      /* the reader's letter, expression or place out of range */
     DUSKVEYRA_SECOND_NOT_CARRIED = 14,  /* a time in an added second in D, E, H or X */
     DUSKVEYRA_INVALID_KIND = 15,        /* kind of day above 2, or in A, B and G a time past that day's end */
+    DUSKVEYRA_INVALID_WIDTH_SETTING = 16, /* a width setting not 1 to 14 percent */
     DUSKVEYRA_INVALID_YEAR = 17,        /* year over 99, or not 0 in a format without the year */
     DUSKVEYRA_YEAR_PLACE_TAKEN = 18,    /* a one among control bits 1 to 9, where the year would stand */
+    DUSKVEYRA_RECORD_CUT_SHORT = 19,    /* the log ends within the record */
+    DUSKVEYRA_INVALID_RECORD = 20,      /* a map above 15, or a field equal to the one before */
     DUSKVEYRA_INVALID_SETTING = 26      /* setting not 2 to 5 */
 };
 

@@ -25,7 +25,7 @@ pub enum Refusal {
     Interval,
     /// 11: year length not 365 or 366, or day beyond it.
     YearLength,
-    /// 12: start past the end of the recording.
+    /// 12: start past the end of the recording, or place past that of the log.
     Start,
     /// 13: reader out of range. A [`Reader`](crate::Reader) keeps its fields
     /// to itself, so none made with this crate is ever refused so.
@@ -38,6 +38,10 @@ pub enum Refusal {
     Year,
     /// 18: a one among the control bits whose places the year takes.
     YearPlace,
+    /// 19: record cut short by the end of the log.
+    RecordCut,
+    /// 20: a record's map over 15, or a field equal to the one before.
+    Record,
     /// 26: a reader's setting not 2 to 5.
     Setting,
 }
@@ -62,6 +66,8 @@ impl Refusal {
             Refusal::DayKind => 15,
             Refusal::Year => 17,
             Refusal::YearPlace => 18,
+            Refusal::RecordCut => 19,
+            Refusal::Record => 20,
             Refusal::Setting => 26,
         }
     }

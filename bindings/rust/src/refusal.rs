@@ -1,4 +1,4 @@
-//! The eighteen numbers that a call refuses with.
+//! The twenty-five numbers that a call refuses with.
 
 use std::error::Error;
 use std::fmt;
@@ -31,7 +31,7 @@ pub enum Refusal {
     InvalidInterval,
     /// 11: year length not 365 or 366, or the day is beyond it.
     InvalidYearLength,
-    /// 12: start past the recording's end.
+    /// 12: start past the recording's end, or place past the log's end.
     StartPastEnd,
     /// 13: the reader's letter, expression or place out of range.
     InvalidReader,
@@ -39,16 +39,22 @@ pub enum Refusal {
     SecondNotCarried,
     /// 15: kind of day above 2, or in A, B and G a time past the end of a day of that kind.
     InvalidKind,
+    /// 16: a width setting not 1 to 14 percent.
+    InvalidWidthSetting,
     /// 17: year over 99, or not 0 in a format that carries none.
     InvalidYear,
     /// 18: a one among control bits 1 to 9, whose places the year takes.
     YearPlaceTaken,
+    /// 19: the log ends within the record.
+    RecordCutShort,
+    /// 20: a record's map above 15, or a field equal to the one before.
+    InvalidRecord,
     /// 26: the reader's setting not 2 to 5.
     InvalidSetting,
 }
 
 impl Refusal {
-    /// The number, 1 to 15, 17, 18 or 26.
+    /// The number, 1 to 20 or 23 to 27.
     pub fn number(self) -> u8 {
         match self {
             Refusal::UnknownFormat => 1,
@@ -66,8 +72,11 @@ impl Refusal {
             Refusal::InvalidReader => 13,
             Refusal::SecondNotCarried => 14,
             Refusal::InvalidKind => 15,
+            Refusal::InvalidWidthSetting => 16,
             Refusal::InvalidYear => 17,
             Refusal::YearPlaceTaken => 18,
+            Refusal::RecordCutShort => 19,
+            Refusal::InvalidRecord => 20,
             Refusal::InvalidSetting => 26,
         }
     }
@@ -99,8 +108,11 @@ impl Refusal {
             13 => Refusal::InvalidReader,
             14 => Refusal::SecondNotCarried,
             15 => Refusal::InvalidKind,
+            16 => Refusal::InvalidWidthSetting,
             17 => Refusal::InvalidYear,
             18 => Refusal::YearPlaceTaken,
+            19 => Refusal::RecordCutShort,
+            20 => Refusal::InvalidRecord,
             26 => Refusal::InvalidSetting,
             _ => unreachable!("the library returned {number}, which is no number of a refusal"),
         })
@@ -125,12 +137,15 @@ impl fmt::Display for Refusal {
             Refusal::ControlTooLong => "control word needs more bits than are carried",
             Refusal::InvalidInterval => "nominal element interval out of range",
             Refusal::InvalidYearLength => "year length not 365 or 366, or the day is beyond it",
-            Refusal::StartPastEnd => "start past the recording's end",
+            Refusal::StartPastEnd => "start or place past the end",
             Refusal::InvalidReader => "reader's letter, expression or place out of range",
             Refusal::SecondNotCarried => "added second in a format that does not carry it",
             Refusal::InvalidKind => "kind of day above 2, or the time is past the day's end",
+            Refusal::InvalidWidthSetting => "width setting not 1 to 14 percent",
             Refusal::InvalidYear => "year over 99, or not 0 in a format that carries none",
             Refusal::YearPlaceTaken => "a one among the control bits whose places the year takes",
+            Refusal::RecordCutShort => "record cut short by the log's end",
+            Refusal::InvalidRecord => "map above 15, or a field equal to the one before",
             Refusal::InvalidSetting => "setting not 2 to 5",
         };
         write!(f, "refused {}: {why}", self.number())?;

@@ -1,6 +1,6 @@
 // A call of the engine as a line of text, `step B 4 24 366 8639900 365 0`, and its answer as text, `25 1 0`: a time is its year, its day and its hundredths.
 // A line `feeds` is a whole stream: format, setting and symbols, and its answer is every report.
-// A refusal is R and its number, with 5 and 6 also @ and the index of the element.
+// A refusal is R and its number, with 5 and 6 also @ and the index of the element, with 25 that of the cycle.
 ghost use Prim.Native.Nat.{_≤_};
 use arguments::Number;
 use arguments::decimal_in;
@@ -129,6 +129,7 @@ fn put_refusal(text: &mut [u8; 4096], at: usize, refusal: Refusal) -> usize {
     match refusal {
         Refusal::MisplacedMark(index) => put_index(text, at, index),
         Refusal::InvalidElement(index) => put_index(text, at, index),
+        Refusal::UnknownCycle(index) => put_index(text, at, index),
         _ => at,
     }
 }

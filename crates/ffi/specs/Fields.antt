@@ -30,9 +30,16 @@ use Rattle.timecode.specs.declared.Refusal.the-variants.{
   InvalidReader,
   SecondNotCarried,
   InvalidKind,
+  InvalidWidthSetting,
   InvalidYear,
   YearPlaceTaken,
+  RecordCutShort,
+  InvalidRecord,
+  InvalidForecast,
+  InvalidCycleCount,
+  UnknownCycle,
   InvalidSetting,
+  InvalidListener,
 }
 use Rattle.timecode.specs.declared.Scanned.{Scanned}
 use Rattle.timecode.specs.declared.Scanned.the-variants.{Found, None}
@@ -67,7 +74,7 @@ valuesIn s zeros = unlessRefused s (orZeros (s .values) zeros) zeros
 abbrev pub flagIn : Result → ℕ
 flagIn s = unlessRefused s (flagOf (s .values)) 0
 
--- the index of a refusal, which 5 and 6 alone have
+-- the index of a refusal, which 5, 6 and 25 alone have
 abbrev pub indexIn : Result → ℤ
 indexIn s = unlessRefused s (pos 0) (getD (s .values) 0 (pos 0))
 
@@ -87,9 +94,16 @@ refusal-numbered StartPastEnd = refl
 refusal-numbered InvalidReader = refl
 refusal-numbered SecondNotCarried = refl
 refusal-numbered InvalidKind = refl
+refusal-numbered InvalidWidthSetting = refl
 refusal-numbered InvalidYear = refl
 refusal-numbered YearPlaceTaken = refl
+refusal-numbered RecordCutShort = refl
+refusal-numbered InvalidRecord = refl
+refusal-numbered InvalidForecast = refl
+refusal-numbered InvalidCycleCount = refl
+refusal-numbered (UnknownCycle i) = refl
 refusal-numbered InvalidSetting = refl
+refusal-numbered InvalidListener = refl
 
 index-value : (x : Refusal) → pos (refusalIndex x) ≡ getD (refusalResult x .values) 0 (pos 0)
 index-value UnknownFormat = refl
@@ -107,9 +121,16 @@ index-value StartPastEnd = refl
 index-value InvalidReader = refl
 index-value SecondNotCarried = refl
 index-value InvalidKind = refl
+index-value InvalidWidthSetting = refl
 index-value InvalidYear = refl
 index-value YearPlaceTaken = refl
+index-value RecordCutShort = refl
+index-value InvalidRecord = refl
+index-value InvalidForecast = refl
+index-value InvalidCycleCount = refl
+index-value (UnknownCycle i) = refl
 index-value InvalidSetting = refl
+index-value InvalidListener = refl
 
 -- ---- the values of the structs, in the order of the results' values
 

@@ -26,9 +26,16 @@ use Rattle.timecode.specs.declared.Refusal.the-variants.{
   InvalidReader,
   SecondNotCarried,
   InvalidKind,
+  InvalidWidthSetting,
   InvalidYear,
   YearPlaceTaken,
+  RecordCutShort,
+  InvalidRecord,
+  InvalidForecast,
+  InvalidCycleCount,
+  UnknownCycle,
   InvalidSetting,
+  InvalidListener,
 }
 use Rattle.timecode.specs.declared.Scanned.{Scanned}
 use Rattle.timecode.specs.declared.Scanned.the-variants.{Found, None}
@@ -47,7 +54,7 @@ use Rattle.ffi.specs.declared.ScanResult.{ScanResult}
 use Rattle.ffi.specs.declared.StepResult.{StepResult}
 use Rattle.ffi.specs.declared.WriteResult.{WriteResult}
 
--- the index that goes with 5 and 6; with every other number 0
+-- the index that goes with 5, 6 and 25; with every other number 0
 abbrev pub refusalIndex : Refusal → ℕ
 refusalIndex UnknownFormat = 0
 refusalIndex InvalidTime = 0
@@ -64,9 +71,16 @@ refusalIndex StartPastEnd = 0
 refusalIndex InvalidReader = 0
 refusalIndex SecondNotCarried = 0
 refusalIndex InvalidKind = 0
+refusalIndex InvalidWidthSetting = 0
 refusalIndex InvalidYear = 0
 refusalIndex YearPlaceTaken = 0
+refusalIndex RecordCutShort = 0
+refusalIndex InvalidRecord = 0
+refusalIndex InvalidForecast = 0
+refusalIndex InvalidCycleCount = 0
+refusalIndex (UnknownCycle i) = i
 refusalIndex InvalidSetting = 0
+refusalIndex InvalidListener = 0
 
 abbrev pub writeResultOf : Written → WriteResult
 writeResultOf Done = record { number = 0 }

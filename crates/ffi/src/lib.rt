@@ -80,7 +80,7 @@ pub fn zero_time() -> Time
     }
 }
 
-// The index of a refusal that has one, with 5 and 6.
+// The index of a refusal that has one, with 5, 6 and 25.
 pub fn index_of(refusal: Refusal) -> usize
     ensures { λ r. ⌜ r ≡ refusalIndex refusal ⌝ }
 {
@@ -100,9 +100,16 @@ pub fn index_of(refusal: Refusal) -> usize
         Refusal::InvalidReader => 0,
         Refusal::SecondNotCarried => 0,
         Refusal::InvalidKind => 0,
+        Refusal::InvalidWidthSetting => 0,
         Refusal::InvalidYear => 0,
         Refusal::YearPlaceTaken => 0,
+        Refusal::RecordCutShort => 0,
+        Refusal::InvalidRecord => 0,
+        Refusal::InvalidForecast => 0,
+        Refusal::InvalidCycleCount => 0,
+        Refusal::UnknownCycle(cycle) => cycle,
         Refusal::InvalidSetting => 0,
+        Refusal::InvalidListener => 0,
     }
 }
 

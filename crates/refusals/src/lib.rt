@@ -22,8 +22,15 @@ pub fn number_of(refusal: Refusal) -> u8
         Refusal::InvalidReader => 13,
         Refusal::SecondNotCarried => 14,
         Refusal::InvalidKind => 15,
+        Refusal::InvalidWidthSetting => 16,
         Refusal::InvalidYear => 17,
         Refusal::YearPlaceTaken => 18,
+        Refusal::RecordCutShort => 19,
+        Refusal::InvalidRecord => 20,
+        Refusal::InvalidForecast => 23,
+        Refusal::InvalidCycleCount => 24,
+        Refusal::UnknownCycle(_) => 25,
         Refusal::InvalidSetting => 26,
+        Refusal::InvalidListener => 27,
     }
 }

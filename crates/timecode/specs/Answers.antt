@@ -26,9 +26,16 @@ use Rattle.timecode.specs.declared.Refusal.the-variants.{
   InvalidReader,
   SecondNotCarried,
   InvalidKind,
+  InvalidWidthSetting,
   InvalidYear,
   YearPlaceTaken,
+  RecordCutShort,
+  InvalidRecord,
+  InvalidForecast,
+  InvalidCycleCount,
+  UnknownCycle,
   InvalidSetting,
+  InvalidListener,
 }
 use Rattle.timecode.specs.declared.Scanned.{Scanned}
 use Rattle.timecode.specs.declared.Scanned.the-variants.{Found, None}
@@ -57,9 +64,16 @@ refusalNumber StartPastEnd = 12
 refusalNumber InvalidReader = 13
 refusalNumber SecondNotCarried = 14
 refusalNumber InvalidKind = 15
+refusalNumber InvalidWidthSetting = 16
 refusalNumber InvalidYear = 17
 refusalNumber YearPlaceTaken = 18
+refusalNumber RecordCutShort = 19
+refusalNumber InvalidRecord = 20
+refusalNumber InvalidForecast = 23
+refusalNumber InvalidCycleCount = 24
+refusalNumber (UnknownCycle i) = 25
 refusalNumber InvalidSetting = 26
+refusalNumber InvalidListener = 27
 
 -- One check of a call: the answer goes on where it passes, and is that refusal where it fails.
 abbrev pub check : {Any : Type 0} → (Refusal → Any) → Refusal → Bool → Any → Any
@@ -71,7 +85,7 @@ pub record Result : Type 0 where
   pub number : ℕ
   pub values : List ℤ
 
--- the value of a refusal: the index of the element, with 5 and 6 alone
+-- the value of a refusal: the index of the element with 5 and 6, of the cycle with 25, with no other
 abbrev index : Refusal → List ℤ
 index UnknownFormat = []
 index InvalidTime = []
@@ -88,11 +102,18 @@ index StartPastEnd = []
 index InvalidReader = []
 index SecondNotCarried = []
 index InvalidKind = []
+index InvalidWidthSetting = []
 index InvalidYear = []
 index YearPlaceTaken = []
+index RecordCutShort = []
+index InvalidRecord = []
+index InvalidForecast = []
+index InvalidCycleCount = []
+index (UnknownCycle i) = pos i ∷ []
 index InvalidSetting = []
+index InvalidListener = []
 
--- a refusal carries its number, with 5 and 6 the index, and no value beside
+-- a refusal carries its number, with 5, 6 and 25 the index, and no value beside
 abbrev pub refusalResult : Refusal → Result
 refusalResult r = record { number = refusalNumber r; values = index r }
 

@@ -48,7 +48,7 @@ impl Time {
     pub const SECOND_TAKEN: u8 = 2;
 }
 
-// Document 01's thirteen numbers and document 02's 14, 15, 17, 18 and 26, in their order. With 5 and 6 goes the index of the element.
+// Document 01's thirteen numbers and document 02's 14 to 20 and 23 to 27, in their order. With 5 and 6 goes the index of the element, with 25 that of the cycle.
 pub enum Refusal {
     UnknownFormat,
     InvalidTime,
@@ -65,9 +65,16 @@ pub enum Refusal {
     InvalidReader,
     SecondNotCarried,
     InvalidKind,
+    InvalidWidthSetting,
     InvalidYear,
     YearPlaceTaken,
+    RecordCutShort,
+    InvalidRecord,
+    InvalidForecast,
+    InvalidCycleCount,
+    UnknownCycle(usize),
     InvalidSetting,
+    InvalidListener,
 }
 
 // Write, the converters, and the classifier over lists: whether the lent memory was written.
