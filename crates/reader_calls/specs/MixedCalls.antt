@@ -1,4 +1,4 @@
--- Calls in any mix equal single Feeds of the symbols that they feed; so from a fresh reader demand 3 holds of them.
+-- Calls in any mix equal single Feeds of the symbols that they feed; so from a fresh reader demand 3 and what document 02 says of one element lost or put in hold of them.
 use mathlib.Core.Path.{_≡_, refl, sym, ap, ap₂, subst, _∙_}
 use mathlib.Core.Bool.{true, cond}
 use mathlib.Core.List.{List, [], _∷_, _++_}
@@ -10,6 +10,8 @@ use Rattle.timecode.specs.Laws.Tests.{by-test}
 use Rattle.timecode.specs.Stream.{isSetting, plainAnswers, plainReceived, elementsOf, SameWindow}
 use Rattle.timecode.specs.declared.Answer.{Answer}
 use Rattle.timecode.specs.declared.Format.{Format}
+use Rattle.lost_element.specs.LostElement.{OneLostOrPutIn}
+use Rattle.lost_element.specs.Streams.{one-lost-or-put-in}
 use Rattle.stream.specs.FeedLists.{feed-answers-append, reader-append}
 use Rattle.stream.specs.Feeding.{freshReader, isValid}
 use Rattle.stream.specs.Refinement.{answers, readerAfter, Receives, fresh-receives, receives-valid, receives-setting, feed-receives, answers-plain, receives-after, answers-are-plain}
@@ -114,6 +116,14 @@ module _ (f : Format) (k : ℕ) (is-known : known f ≡ true) (is-setting : isSe
   -- So demand 3 holds of any list of calls.
   pub calls-demand-3 : (cs : List ReaderCall) (none : Answer) → Demand3 f k (allFed (callResults (freshReader f k) cs)) (allAnswers (callResults (freshReader f k) cs)) none
   calls-demand-3 cs = demand-3 f k is-setting (allFed (callResults (freshReader f k) cs)) (allAnswers (callResults (freshReader f k) cs)) (calls-are-plain cs .all-answers)
+
+  -- And so does what document 02 says of one element lost or put in,
+  pub calls-one-lost-or-put-in : (cs : List ReaderCall) (none : Answer) → OneLostOrPutIn f k (allFed (callResults (freshReader f k) cs)) (allAnswers (callResults (freshReader f k) cs)) none
+  calls-one-lost-or-put-in cs = one-lost-or-put-in f k is-setting (allFed (callResults (freshReader f k) cs)) (allAnswers (callResults (freshReader f k) cs)) (calls-are-plain cs .all-answers)
+
+  -- as of any list of single Feeds.
+  pub feeds-one-lost-or-put-in : (ss : List ℕ) (none : Answer) → OneLostOrPutIn f k ss (answers (freshReader f k) ss) none
+  feeds-one-lost-or-put-in ss = one-lost-or-put-in f k is-setting ss (answers (freshReader f k) ss) (answers-are-plain f k is-known is-setting ss)
 
   -- Two readers, each by its own calls.
   pub two-callers-agree : (cs ds : List ReaderCall) (ss rs xs : List ℕ) → allFed (callResults (freshReader f k) cs) ≡ ss ++ xs → allFed (callResults (freshReader f k) ds) ≡ rs ++ xs

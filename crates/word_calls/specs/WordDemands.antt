@@ -14,6 +14,8 @@ use Rattle.timecode.specs.Stream.{isSetting, plainAnswers, elementsOf, SameWind
 use Rattle.timecode.specs.declared.Answer.{Answer}
 use Rattle.timecode.specs.declared.Format.{Format}
 use Rattle.timecode.specs.declared.Refusal.{Refusal}
+use Rattle.lost_element.specs.LostElement.{OneLostOrPutIn}
+use Rattle.lost_element.specs.Streams.{one-lost-or-put-in}
 use Rattle.stream.specs.FeedLists.{refused-feed-same-reader}
 use Rattle.stream.specs.Feeding.{freshReader, madeOf, feedOf}
 use Rattle.stream.specs.declared.Reader.{Reader}
@@ -136,6 +138,10 @@ module _ (f : Format) (k : ℕ) (old : List ℕ) (is-known : known f ≡ true) (
   -- So demand 3 holds of them.
   pub words-demand-3 : (cs : List ReaderCall) (none : Answer) → Demand3 f k (allFed (wordsResults fresh cs)) (allAnswers (wordsResults fresh cs)) none
   words-demand-3 cs = demand-3 f k set (allFed (wordsResults fresh cs)) (allAnswers (wordsResults fresh cs)) (words-answers-are-plain cs)
+
+  -- And so does what document 02 says of one element lost or put in.
+  pub words-one-lost-or-put-in : (cs : List ReaderCall) (none : Answer) → OneLostOrPutIn f k (allFed (wordsResults fresh cs)) (allAnswers (wordsResults fresh cs)) none
+  words-one-lost-or-put-in cs = one-lost-or-put-in f k set (allFed (wordsResults fresh cs)) (allAnswers (wordsResults fresh cs)) (words-answers-are-plain cs)
 
 -- Two readers of one format and one setting in two memories, each by its own calls.
 pub two-words-agree : (f : Format) (k : ℕ) (old other : List ℕ) → known f ≡ true → isSetting k ≡ true → (cs ds : List ReaderCall) (ss rs xs : List ℕ)
