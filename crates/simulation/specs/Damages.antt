@@ -31,7 +31,7 @@ length-replaced (suc place) s xs = length-set xs place s
 pub length-damaged : (ds : List Damage) (xs : List ℕ) → length (damaged ds xs) ≡ length xs
 unfolding damaged
 length-damaged [] xs = refl
-length-damaged (d ∷ ds) xs = length-replaced (d .at) (d .symbol) (damaged ds xs) ∙ length-damaged ds xs
+length-damaged (d ∷ ds) xs = length-damaged ds (replaceAt (d .at) (d .symbol) xs) ∙ length-replaced (d .at) (d .symbol) xs
 
 replaced-other : (at s : ℕ) (xs places : List ℕ) (j : ℕ) → member j (withPlace at places) ≡ false → (getD (replaceAt at s xs) j 0 ≡ getD xs j 0) × (member j places ≡ false)
 unfolding replaceAt
@@ -41,7 +41,7 @@ replaced-other (suc p) s xs places j h = (getD-set-other xs p j s 0 (λ z. clash
 damaged-other : (ds : List Damage) (xs : List ℕ) (j : ℕ) → member j (placesOf ds) ≡ false → getD (damaged ds xs) j 0 ≡ getD xs j 0
 unfolding damaged
 damaged-other [] xs j h = refl
-damaged-other (d ∷ ds) xs j h = let x = replaced-other (d .at) (d .symbol) (damaged ds xs) (placesOf ds) j h in x .0 ∙ damaged-other ds xs j (x .1)
+damaged-other (d ∷ ds) xs j h = let x = replaced-other (d .at) (d .symbol) xs (placesOf ds) j h in damaged-other ds (replaceAt (d .at) (d .symbol) xs) j (x .1) ∙ x .0
 
 pub damaged-places : (ds : List Damage) (xs : List ℕ) → ReplacedAt (placesOf ds) (damaged ds xs) xs
 damaged-places ds xs = record { as-long = length-damaged ds xs; same = λ j b h. damaged-other ds xs j h }
@@ -59,6 +59,6 @@ pub damaged-small : (ds : List Damage) (xs : List ℕ) → haveSymbols ds ≡ tr
 unfolding damaged haveSymbols
 damaged-small [] xs a h j b = h j b
 damaged-small (d ∷ ds) xs a h j b =
-    let l = length-damaged ds xs in
-    replaced-small (d .at) (d .symbol) (damaged ds xs) (leb-true (d .symbol) 3 (and-left (isSymbol (d .symbol)) (haveSymbols ds) a))
-    (λ i c. damaged-small ds xs (and-right (isSymbol (d .symbol)) (haveSymbols ds) a) h i (omega arith)) j (omega arith)
+    let l = length-replaced (d .at) (d .symbol) xs in
+    let small = leb-true (d .symbol) 3 (and-left (isSymbol (d .symbol)) (haveSymbols ds) a) in
+    damaged-small ds (replaceAt (d .at) (d .symbol) xs) (and-right (isSymbol (d .symbol)) (haveSymbols ds) a) (λ i c. replaced-small (d .at) (d .symbol) xs small h i (omega arith)) j (omega arith)

@@ -33,7 +33,8 @@ use Rattle.timecode.specs.declared.Time.{Time}
 use Rattle.simulation.specs.Counting.{none-false, first-is, PartOf, fewer-reports, fewer-false, later-first}
 use Rattle.simulation.specs.Damages.{placesOf, length-damaged, damaged-places, damaged-small}
 use Rattle.simulation.specs.Run.{length-run, run-generator}
-use Rattle.simulation.specs.Simulation.{runOf, Damage, replaceAt, damaged, areRising, haveSymbols, isReport, firstReport, reportCount, falseCount, Listener, Counts, heard, countsOf, Simulated, Heard, every, haveSettings, areListeners, stepped, simulateOf}
+use Rattle.simulation.specs.declared.Counts.{Counts}
+use Rattle.simulation.specs.Simulation.{runOf, Damage, replaceAt, damaged, areRising, haveSymbols, isReport, firstReport, reportCount, falseCount, Listener, heard, countsOf, Simulated, Heard, every, haveSettings, areListeners, stepped, simulateOf}
 -- A report is right exactly where a frame of the generator ends with that element and its time is reported.
 pub use Rattle.simulation.specs.Counting.{ends-exactly-when}
 
@@ -98,7 +99,7 @@ module _ (f : Format) (sent : List Sent) (l : Listener) (k : isSetting (l .setti
 
     -- so with at most so many in each window none is false.
     pub few-damages-none-false : haveSymbols (l .damages) ≡ true → ((number : ℕ) → 0 < number → number ≤ length (elements f sent) → damagesIn f (l .setting) (l .damages) number < l .setting)
-        → countsOf f sent (heard f sent l) .falseReports ≡ 0
+        → countsOf f sent (heard f sent l) .wrong ≡ 0
     unfolding countsOf
     few-damages-none-false s few =
         none-false f sent 0 (heard f sent l)
@@ -149,7 +150,7 @@ module _ (f : Format) (sent : List Sent) (low high : Listener) (a : isSetting (l
       high-plain = refl
 
   -- so it counts no more reports, no more false ones, and no earlier first one.
-  pub higher-counts-no-more : (countsOf f sent (heard f sent high) .reports ≤ countsOf f sent (heard f sent low) .reports) × (countsOf f sent (heard f sent high) .falseReports ≤ countsOf f sent (heard f sent low) .falseReports)
+  pub higher-counts-no-more : (countsOf f sent (heard f sent high) .reports ≤ countsOf f sent (heard f sent low) .reports) × (countsOf f sent (heard f sent high) .wrong ≤ countsOf f sent (heard f sent low) .wrong)
       × (0 < countsOf f sent (heard f sent high) .first → (0 < countsOf f sent (heard f sent low) .first) × (countsOf f sent (heard f sent low) .first ≤ countsOf f sent (heard f sent high) .first))
   unfolding countsOf
   higher-counts-no-more =
@@ -212,7 +213,7 @@ abbrev pub nobody : Listener
 nobody = record { setting = 0; damages = [] }
 
 abbrev pub noCounts : Counts
-noCounts = record { first = 0; reports = 0; falseReports = 0 }
+noCounts = record { first = 0; reports = 0; wrong = 0 }
 
 every-one : (p : Listener → Bool) (ls : List Listener) → every p ls ≡ true → (j : ℕ) → j < length ls → p (getD ls j nobody) ≡ true
 every-one p [] h j b = absurd (not-suc-le-zero b)

@@ -9,7 +9,8 @@ use Rattle.timecode.specs.Layout.{dayCarried, seconds, minutes, hours, days, te
 use Rattle.timecode.specs.Stream.{isSetting, lead, opens, windowLength, frameIn, nextInRow, inRow, windowAnswer, lastOf, plainAnswer, plainFeed, plainAnswers}
 use Rattle.timecode.specs.declared.Format.{Format}
 use Rattle.timecode.specs.declared.Time.{Time}
-use Rattle.simulation.specs.Simulation.{runOf, Damage, replaceAt, damaged, areRising, haveSymbols, firstReport, reportCount, endsFrame, isFalse, falseCount, Listener, Counts, heard, countsOf, Simulated, Heard, haveSettings, areListeners, simulateOf}
+use Rattle.simulation.specs.declared.Counts.{Counts}
+use Rattle.simulation.specs.Simulation.{runOf, Damage, replaceAt, damaged, areRising, haveSymbols, firstReport, reportCount, endsFrame, isFalse, falseCount, Listener, heard, countsOf, Simulated, Heard, haveSettings, areListeners, simulateOf}
 
 abbrev x2 : Format
 x2 = record { letter = X; expression = 2 }
@@ -28,7 +29,7 @@ time day hundredths = record { year = 0; day = day; hundredths = hundredths }
 
 -- first report, reports, false ones; or the number of a refusal
 abbrev figures : Counts → List ℕ
-figures c = c .first ∷ c .reports ∷ c .falseReports ∷ []
+figures c = c .first ∷ c .reports ∷ c .wrong ∷ []
 
 abbrev result : Simulated → List (List ℕ)
 result (Heard cs) = map figures cs

@@ -18,6 +18,7 @@ use Rattle.timecode.specs.declared.Refusal.the-variants.{InvalidSetting, Invali
 use Rattle.timecode.specs.declared.Stepped.{Stepped}
 use Rattle.timecode.specs.declared.Stepped.the-variants.{To}
 use Rattle.timecode.specs.declared.Time.{Time}
+use Rattle.simulation.specs.declared.Counts.{Counts}
 
 -- ---- the generator
 
@@ -44,7 +45,7 @@ replaceAt (suc place) s xs = set xs place s
 
 unfoldable pub damaged : List Damage → List ℕ → List ℕ
 damaged [] xs = xs
-damaged (d ∷ ds) xs = replaceAt (d .at) (d .symbol) (damaged ds xs)
+damaged (d ∷ ds) xs = damaged ds (replaceAt (d .at) (d .symbol) xs)
 
 -- each number is above the one before
 unfoldable pub areRising : List Damage → Bool
@@ -92,17 +93,12 @@ pub record Listener : Type 0 where
   pub setting : ℕ
   pub damages : List Damage
 
-pub record Counts : Type 0 where
-  pub first : ℕ
-  pub reports : ℕ
-  pub falseReports : ℕ
-
 -- what the plain machine with the setting k answers to the damaged list
 unfoldable pub heard : Format → List Sent → Listener → List Answer
 heard f sent l = plainAnswers f (l .setting) [] (damaged (l .damages) (elements f sent))
 
 unfoldable pub countsOf : Format → List Sent → List Answer → Counts
-countsOf f sent answers = record { first = firstReport 0 answers; reports = reportCount answers; falseReports = falseCount f sent 0 answers }
+countsOf f sent answers = record { first = firstReport 0 answers; reports = reportCount answers; wrong = falseCount f sent 0 answers }
 
 -- Simulate answers each listener's counts, or refuses.
 pub data Simulated : Type 0 where
