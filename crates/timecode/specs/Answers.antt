@@ -141,7 +141,7 @@ subtractedResult (Hundredths d) = success (d ∷ [])
 subtractedResult (Subtracted.Refused r) = refusalResult r
 
 abbrev pub classifiedResult : Classified → Result
-classifiedResult (Symbol s) = success (pos s ∷ [])
+classifiedResult (Symbol s d) = success (pos s ∷ d ∷ [])
 classifiedResult (Classified.Refused r) = refusalResult r
 
 abbrev pub scannedResult : Scanned → Result

@@ -4,12 +4,13 @@ use mathlib.Core.Bool.{true, false}
 use mathlib.Core.List.{List, [], _∷_, _++_}
 use Prim.Native.Nat.{ℕ, suc, _-_, _*_, _/_, _%_, _^_, _<_, _≤_}
 use lib.Dec.{eqb}
+use lib.IntN.{ℤ}
 use lib.ListN.{getD, length, take, drop, replicate, length-replicate}
 use mathlib.Core.Logic.{_↔_, _⊎_, inl, inr}
 use native.Mathlib.Nat.{zero-mod}
 use native.Mathlib.Omega.{arith}
 use Rattle.timecode.specs.Answers.{refusalNumber}
-use Rattle.timecode.specs.Calls.{classifyListOf, classifyListLeaves}
+use Rattle.timecode.specs.Calls.{classifyListOf, symbolsLeft, deviationsLeft}
 use Rattle.timecode.specs.Editions.{withYear, withoutYear, timeInYear, nineBits, forwardOf, forwardLeaves, backwardOf, backwardLeaves}
 use Rattle.timecode.specs.Formats.{member, isX, rowOf, known, size, interval, carriesYear, lastHundredth, dayLength, yearCarried, onFormat, carriesLeap, secondCarried}
 use Rattle.timecode.specs.Frames.{newYear, turnDay, yearLengths, lengthIn, usual, kinds, dayEnd, sameDay, nextDay, stepOf, Follows, nextAfter, stepBackOf, Precedes, writeOf, writeLeaves, readOf, Sent, Generator, sentAt, dayBefore, yearOfTimeBefore, following, preceding, onDay, areSymbols, isTime, timeIn, secondsAgree}
@@ -31,6 +32,7 @@ use Rattle.timecode.specs.declared.Refusal.{Refusal}
 use Rattle.timecode.specs.declared.Stepped.{Stepped}
 use Rattle.timecode.specs.declared.Stepped.the-variants.{To}
 use Rattle.timecode.specs.declared.Time.{Time}
+use Rattle.timecode.specs.declared.WidthSettings.{WidthSettings}
 use Rattle.timecode.specs.declared.Written.{Written}
 use Rattle.timecode.specs.declared.Written.the-variants.{Done}
 -- Theorems that stand whole in Laws, passed on.
@@ -40,6 +42,10 @@ pub use Rattle.timecode.specs.Laws.Stepping.{two-that-follow}
 pub use Rattle.timecode.specs.Laws.Successors.{two-that-follow-are-apart}
 -- Scan answers the lowest place, at least 1 (in X 0) and at least the start, where a mark stands before (in X anything or nothing) and Read accepts; None exactly if there is none.
 pub use Rattle.timecode.specs.Laws.Scanning.{scan-finds-the-lowest, scan-finds-none}
+-- The classifier: settings 5, 5, 5 give document 01's symbols; no width is in two classes; a symbol below 3 is given exactly where the period and the width are in its class, whatever the order in which they are asked.
+pub use Rattle.timecode.specs.Laws.Widths.{as-before, classes-never-meet, pulse-in-its-class, symbol-exactly}
+-- The deviation lies within the setting, that of a spoiled element is 0, and 32 bits hold every one.
+pub use Rattle.timecode.specs.Laws.Widths.{deviation-within, spoiled-without-deviation, deviation-bound}
 
 -- ---- Demand 1: a refusal leaves lent memory with the contents it had. Write, the converters and the classifier over lists set lent memory; Read, Step, Difference, the classifier for one pulse and Scan set none.
 
@@ -55,9 +61,10 @@ pub refused-backward-leaves : (f : Format) (frame lent : List ℕ) (r : Refusal)
 unfolding backwardLeaves
 refused-backward-leaves f frame lent r h = rw h
 
-pub refused-list-leaves : (T : ℕ) (widths periods lent : List ℕ) (r : Refusal) → classifyListOf T widths periods lent ≡ Written.Refused r → classifyListLeaves T widths periods lent ≡ lent
-unfolding classifyListLeaves
-refused-list-leaves T widths periods lent r h = rw h
+pub refused-list-leaves : (s : WidthSettings) (T : ℕ) (widths periods symbols : List ℕ) (deviations : List ℤ) (r : Refusal) → classifyListOf s T widths periods symbols deviations ≡ Written.Refused r
+    → (symbolsLeft s T widths periods symbols deviations ≡ symbols) × (deviationsLeft s T widths periods symbols deviations ≡ deviations)
+unfolding symbolsLeft deviationsLeft
+refused-list-leaves s T widths periods symbols deviations r h = (rw h, rw h)
 
 -- ---- Demand 2: a frame is accepted exactly when some time and control word are written so, and those are then the reading.
 

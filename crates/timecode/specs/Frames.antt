@@ -224,7 +224,7 @@ writeOf f t w lent =
     Done)))))
 
 -- lent memory after a call: new contents where it was done, and the old where it was refused
-abbrev pub left : Written → List ℕ → List ℕ → List ℕ
+abbrev pub left : {Any : Type 0} → Written → List Any → List Any → List Any
 left Done new old = new
 left (Written.Refused r) new old = old
 

@@ -22,3 +22,4 @@ pub mod Streams
 pub mod Existence
 pub mod Scanning
 pub mod Editions
+pub mod Widths

@@ -7,7 +7,7 @@ use lib.Dec.{eqb}
 use lib.IntN.{ℤ, pos, negsuc}
 use lib.ListN.{length, drop, set, replicate}
 use Rattle.timecode.specs.Answers.{Result, refusalResult, writtenResult, readingResult, steppedResult, subtractedResult, classifiedResult, scannedResult, answerResult}
-use Rattle.timecode.specs.Calls.{leadAt, firstPlace, symbolOf, isInterval, classifyOf, symbolsOf, classifyListOf, classifyListLeaves, differenceOf, partAt, lowestOf, scanOf}
+use Rattle.timecode.specs.Calls.{leadAt, firstPlace, isInterval, areWidthSettings, classes, pulseAmong, pulseOf, fivePercent, classifyOf, pulsesOf, classifyListOf, symbolsLeft, deviationsLeft, differenceOf, partAt, lowestOf, scanOf}
 use Rattle.timecode.specs.Editions.{isEarlier, checkForward, forwardOf, forwardLeaves, backwardOf, backwardLeaves}
 use Rattle.timecode.specs.Formats.{A, B, D, E, G, H, X, isX, table, lookUp, rowOf, known, size, interval, carriesControl, carriesSeconds, carriesYear, controlPlaces, daysIn, yearCarried, lastDayIn, inRange, onFormat, carriesLeap, secondCarried}
 use Rattle.timecode.specs.Frames.{newYear, lengthIn, inYear, dayAfter, turnDay, yearAfter, yearOfDayAfter, usual, secondAdded, secondTaken, dayLengthOf, dayEnd, onDay, following, stepOf, dayBefore, yearOfTimeBefore, preceding, stepBackOf, nextAfter, written, controlFits, writeOf, writeLeaves, marksAgree, elementFits, checkElements, lastSecond, dayIn, isTime, timeIn, secondsAgree, readOf}
@@ -15,10 +15,11 @@ use Rattle.timecode.specs.Layout.{dayCarried, seconds, minutes, hours, d
 use Rattle.timecode.specs.Stream.{twoFrames, lead, opens, windowLength, frameIn, nextInRow, inRow, windowAnswer, lastOf, plainAnswer}
 use Rattle.timecode.specs.declared.Format.{Format}
 use Rattle.timecode.specs.declared.Time.{Time}
+use Rattle.timecode.specs.declared.WidthSettings.{WidthSettings}
 use Rattle.timecode.specs.declared.Written.{Written}
 use Rattle.timecode.specs.declared.Written.the-variants.{Done}
 
--- a call: Step; the step back; Write into a frame of n zeros (or of k), by its answer, by the bytes that it leaves, or by the indices from k on where it leaves a one; the formats that Write takes; Read; the answer to the last of a list of symbols; Difference; the classifier; the classifier over lists into k zeros, by its answer, or by what it leaves; Scan; the converters into k zeros, by the bytes that they leave
+-- a call: Step; the step back; Write into a frame of n zeros (or of k), by its answer, by the bytes that it leaves, or by the indices from k on where it leaves a one; the formats that Write takes; Read; the answer to the last of a list of symbols; Difference; the classifier; the classifier over lists into so many zeros and so many deviations of 0, by its answer, or by the symbols and then the deviations that it leaves; Scan; the converters into k zeros, by the bytes that they leave
 pub data Call : Type 0 where
   step : Format → Time → ℕ → ℕ → Call
   back : Format → Time → ℕ → ℕ → Call
@@ -30,9 +31,9 @@ pub data Call : Type 0 where
   read : Format → List ℕ → Call
   feed : Format → List ℕ → Call
   difference : Time → Time → Call
-  classify : ℕ → ℕ → ℕ → Call
-  list : ℕ → List ℕ → List ℕ → ℕ → Call
-  symbols : ℕ → List ℕ → List ℕ → Call
+  classify : WidthSettings → ℕ → ℕ → ℕ → Call
+  list : WidthSettings → ℕ → List ℕ → List ℕ → ℕ → ℕ → Call
+  pulses : WidthSettings → ℕ → List ℕ → List ℕ → Call
   scan : Format → List ℕ → ℕ → Call
   forward : ℕ → Format → List ℕ → ℕ → Call
   backward : ℕ → Format → List ℕ → Call
@@ -76,9 +77,9 @@ resultOf formats = record { number = 0; values = formatsFrom 64 27 }
 resultOf (read f bytes) = readingResult (readOf f bytes)
 resultOf (feed f received) = answerResult (plainAnswer f twoFrames received)
 resultOf (difference t u) = subtractedResult (differenceOf t u)
-resultOf (classify T width period) = classifiedResult (classifyOf T width period)
-resultOf (list T widths periods k) = writtenResult (classifyListOf T widths periods (replicate k 0))
-resultOf (symbols T widths periods) = record { number = 0; values = map pos (classifyListLeaves T widths periods (replicate (length widths) 0)) }
+resultOf (classify s T width period) = classifiedResult (classifyOf s T width period)
+resultOf (list s T widths periods k m) = writtenResult (classifyListOf s T widths periods (replicate k 0) (replicate m (pos 0)))
+resultOf (pulses s T widths periods) = record { number = 0; values = map pos (symbolsLeft s T widths periods (replicate (length widths) 0) (replicate (length widths) (pos 0))) ++ deviationsLeft s T widths periods (replicate (length widths) 0) (replicate (length widths) (pos 0)) }
 resultOf (scan f recording start) = scannedResult (scanOf f recording start)
 resultOf (forward k f bytes year) = leftResult (forwardOf f bytes year (replicate k 0)) (forwardLeaves f bytes year (replicate k 0))
 resultOf (backward k f bytes) = leftResult (backwardOf f bytes (replicate k 0)) (backwardLeaves f bytes (replicate k 0))
@@ -103,6 +104,9 @@ time day hundredths = record { year = 0; day = day; hundredths = hundredths }
 
 abbrev dated : ℕ → ℕ → ℕ → Time
 dated year day hundredths = record { year = year; day = day; hundredths = hundredths }
+
+abbrev settings : ℕ → ℕ → ℕ → WidthSettings
+settings z o m = record { zeros = z; ones = o; marks = m }
 
 abbrev indices : List ℕ → List ℤ
 indices is = map pos is
@@ -131,10 +135,10 @@ lines =
     ∷ (difference (time 1 8639999) (time 2 0) gives (negsuc 0 ∷ []))
     ∷ (difference (time 2 0) (time 2 0) gives (pos 0 ∷ []))
     -- the classifier
-    ∷ (classify 1000 150 1000 gives indices (0 ∷ []))
-    ∷ (classify 1000 250 1000 gives indices (0 ∷ []))
-    ∷ (classify 1000 149 1000 gives indices (3 ∷ []))
-    ∷ (classify 1000 251 1000 gives indices (3 ∷ []))
+    ∷ (classify fivePercent 1000 150 1000 gives (pos 0 ∷ negsuc 4999 ∷ []))
+    ∷ (classify fivePercent 1000 250 1000 gives (pos 0 ∷ pos 5000 ∷ []))
+    ∷ (classify fivePercent 1000 149 1000 gives (pos 3 ∷ pos 0 ∷ []))
+    ∷ (classify fivePercent 1000 251 1000 gives (pos 3 ∷ pos 0 ∷ []))
     -- which letters, in ASCII, take which expressions
     ∷ (formats gives indices (65 ∷ 0 ∷ 65 ∷ 1 ∷ 65 ∷ 2 ∷ 65 ∷ 3 ∷ 65 ∷ 4 ∷ 65 ∷ 5 ∷ 65 ∷ 6 ∷ 65 ∷ 7 ∷ 66 ∷ 0 ∷ 66 ∷ 1 ∷ 66 ∷ 2 ∷ 66 ∷ 3 ∷ 66 ∷ 4 ∷ 66 ∷ 5 ∷ 66 ∷ 6 ∷ 66 ∷ 7 ∷ 68 ∷ 1 ∷ 68 ∷ 2 ∷ 69 ∷ 1 ∷ 69 ∷ 2 ∷ 71 ∷ 1 ∷ 71 ∷ 2 ∷ 72 ∷ 1 ∷ 72 ∷ 2 ∷ 88 ∷ 2 ∷ []))
     -- expression 3 carries no control bits, expression 1 no SBS
@@ -153,12 +157,22 @@ lines =
     -- control bit 3 of E, by rising index
     ∷ (ones 50 (format E 1) (time 1 0) 4 gives indices (52 ∷ []))
     -- the ends of the classes and of the period, and of T
-    ∷ (symbols 10000000 (1499999 ∷ 1500000 ∷ 2500000 ∷ 2500001 ∷ 4499999 ∷ 4500000 ∷ 5500000 ∷ 5500001 ∷ 7499999 ∷ 7500000 ∷ 8500000 ∷ 8500001 ∷ 2000000 ∷ 2000000 ∷ 2000000 ∷ 2000000 ∷ []) (10000000 ∷ 10000000 ∷ 10000000 ∷ 10000000 ∷ 10000000 ∷ 10000000 ∷ 10000000 ∷ 10000000 ∷ 10000000 ∷ 10000000 ∷ 10000000 ∷ 10000000 ∷ 9499999 ∷ 9500000 ∷ 10500000 ∷ 10500001 ∷ []) gives indices (3 ∷ 0 ∷ 0 ∷ 3 ∷ 3 ∷ 1 ∷ 1 ∷ 3 ∷ 3 ∷ 2 ∷ 2 ∷ 3 ∷ 3 ∷ 0 ∷ 0 ∷ 3 ∷ []))
-    ∷ (classify 10000001 2000000 10000000 refused 10)
-    ∷ (classify 99 20 99 refused 10)
-    -- the classifier over lists asks 10, then 3
-    ∷ (list 99 (20 ∷ []) [] 1 refused 10)
-    ∷ (list 100 (20 ∷ []) (100 ∷ []) 2 refused 3)
+    ∷ (pulses fivePercent 10000000 (1499999 ∷ 1500000 ∷ 2500000 ∷ 2500001 ∷ 4499999 ∷ 4500000 ∷ 5500000 ∷ 5500001 ∷ 7499999 ∷ 7500000 ∷ 8500000 ∷ 8500001 ∷ 2000000 ∷ 2000000 ∷ 2000000 ∷ 2000000 ∷ []) (10000000 ∷ 10000000 ∷ 10000000 ∷ 10000000 ∷ 10000000 ∷ 10000000 ∷ 10000000 ∷ 10000000 ∷ 10000000 ∷ 10000000 ∷ 10000000 ∷ 10000000 ∷ 9499999 ∷ 9500000 ∷ 10500000 ∷ 10500001 ∷ []) gives indices (3 ∷ 0 ∷ 0 ∷ 3 ∷ 3 ∷ 1 ∷ 1 ∷ 3 ∷ 3 ∷ 2 ∷ 2 ∷ 3 ∷ 3 ∷ 0 ∷ 0 ∷ 3 ∷ []) ++ (pos 0 ∷ negsuc 49999999 ∷ pos 50000000 ∷ pos 0 ∷ pos 0 ∷ negsuc 49999999 ∷ pos 50000000 ∷ pos 0 ∷ pos 0 ∷ negsuc 49999999 ∷ pos 50000000 ∷ pos 0 ∷ pos 0 ∷ pos 0 ∷ pos 0 ∷ pos 0 ∷ []))
+    -- those of the widest settings and of the narrowest, and a setting for each symbol
+    ∷ (pulses (settings 14 14 14) 1000 (59 ∷ 60 ∷ 340 ∷ 341 ∷ 359 ∷ 360 ∷ 640 ∷ 641 ∷ 659 ∷ 660 ∷ 940 ∷ 941 ∷ []) (replicate 12 1000) gives indices (3 ∷ 0 ∷ 0 ∷ 3 ∷ 3 ∷ 1 ∷ 1 ∷ 3 ∷ 3 ∷ 2 ∷ 2 ∷ 3 ∷ []) ++ (pos 0 ∷ negsuc 13999 ∷ pos 14000 ∷ pos 0 ∷ pos 0 ∷ negsuc 13999 ∷ pos 14000 ∷ pos 0 ∷ pos 0 ∷ negsuc 13999 ∷ pos 14000 ∷ pos 0 ∷ []))
+    ∷ (pulses (settings 1 1 1) 1000 (189 ∷ 190 ∷ 210 ∷ 211 ∷ 489 ∷ 490 ∷ 510 ∷ 511 ∷ 789 ∷ 790 ∷ 810 ∷ 811 ∷ []) (replicate 12 1000) gives indices (3 ∷ 0 ∷ 0 ∷ 3 ∷ 3 ∷ 1 ∷ 1 ∷ 3 ∷ 3 ∷ 2 ∷ 2 ∷ 3 ∷ []) ++ (pos 0 ∷ negsuc 999 ∷ pos 1000 ∷ pos 0 ∷ pos 0 ∷ negsuc 999 ∷ pos 1000 ∷ pos 0 ∷ pos 0 ∷ negsuc 999 ∷ pos 1000 ∷ pos 0 ∷ []))
+    ∷ (pulses (settings 2 9 4) 1000 (180 ∷ 179 ∷ 410 ∷ 409 ∷ 760 ∷ 759 ∷ []) (replicate 6 1000) gives indices (0 ∷ 3 ∷ 1 ∷ 3 ∷ 2 ∷ 3 ∷ []) ++ (negsuc 1999 ∷ pos 0 ∷ negsuc 8999 ∷ pos 0 ∷ negsuc 3999 ∷ pos 0 ∷ []))
+    ∷ (classify (settings 14 14 14) 10000000 9400000 10000000 gives (pos 2 ∷ pos 140000000 ∷ []))
+    -- the classifier asks 10, then 16, over lists then 3
+    ∷ (classify fivePercent 10000001 2000000 10000000 refused 10)
+    ∷ (classify (settings 0 5 5) 99 20 99 refused 10)
+    ∷ (classify (settings 0 5 5) 100 20 100 refused 16)
+    ∷ (classify (settings 5 15 5) 100 20 100 refused 16)
+    ∷ (classify (settings 5 5 255) 100 20 100 refused 16)
+    ∷ (list (settings 15 5 5) 99 (20 ∷ []) [] 1 1 refused 10)
+    ∷ (list (settings 5 5 0) 100 (20 ∷ []) [] 1 1 refused 16)
+    ∷ (list fivePercent 100 (20 ∷ []) (100 ∷ []) 2 1 refused 3)
+    ∷ (list fivePercent 100 (20 ∷ []) (100 ∷ []) 1 0 refused 3)
     -- Difference asks both times
     ∷ (difference (time 1 0) (time 0 0) refused 2)
     -- the listing's two frames behind a mark: the second is reported
@@ -291,5 +305,5 @@ lines =
     ∷ []
 
 pub all-lines : map (λ l. resultOf (l .call)) lines ≡ map (λ l. l .result) lines
-unfolding lines isEarlier checkForward forwardOf forwardLeaves backwardOf backwardLeaves readOf checkElements marksAgree elementFits lastSecond isTime dayIn timeIn secondsAgree value scanOf firstPlace lowestOf leadAt partAt stepOf stepBackOf preceding dayBefore yearOfTimeBefore nextAfter known isX rowOf lookUp table size interval carriesControl carriesSeconds carriesYear controlPlaces daysIn yearCarried lastDayIn inRange onFormat carriesLeap secondCarried lengthIn inYear dayAfter turnDay yearAfter yearOfDayAfter dayLengthOf dayEnd onDay following writeOf writeLeaves written controlFits encode symbolAt filler isMark runs fields timeFields numbers timeNumbers dayCarried seconds minutes hours days tenths hundredthsDigit straightSeconds hasSeconds control years differenceOf classifyOf isInterval symbolOf symbolsOf classifyListOf classifyListLeaves lead opens windowLength frameIn nextInRow inRow windowAnswer lastOf plainAnswer
+unfolding lines isEarlier checkForward forwardOf forwardLeaves backwardOf backwardLeaves readOf checkElements marksAgree elementFits lastSecond isTime dayIn timeIn secondsAgree value scanOf firstPlace lowestOf leadAt partAt stepOf stepBackOf preceding dayBefore yearOfTimeBefore nextAfter known isX rowOf lookUp table size interval carriesControl carriesSeconds carriesYear controlPlaces daysIn yearCarried lastDayIn inRange onFormat carriesLeap secondCarried lengthIn inYear dayAfter turnDay yearAfter yearOfDayAfter dayLengthOf dayEnd onDay following writeOf writeLeaves written controlFits encode symbolAt filler isMark runs fields timeFields numbers timeNumbers dayCarried seconds minutes hours days tenths hundredthsDigit straightSeconds hasSeconds control years differenceOf classifyOf isInterval areWidthSettings classes pulseAmong pulseOf pulsesOf classifyListOf symbolsLeft deviationsLeft lead opens windowLength frameIn nextInRow inRow windowAnswer lastOf plainAnswer
 all-lines = refl

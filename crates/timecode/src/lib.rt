@@ -1,5 +1,5 @@
-// What the calls of the time code engine take and what they answer: types only, no function. A format and a time are C's structs too.
-// Document 01 and of document 02 the step back, the leap second, XR3 tapes, the year and the setting k as definitions, and the theorems over them, stand in specs/.
+// What the calls of the time code engine take and what they answer: types only, no function. A format, a time and width settings are C's structs too.
+// Document 01 and of document 02 the step back, the leap second, XR3 tapes, the width settings, the year and the setting k as definitions, and the theorems over them, stand in specs/.
 
 // A rate letter, in capital ASCII, and a coded expression.
 #[repr(C)]
@@ -46,6 +46,33 @@ impl Time {
     pub const SECOND_ADDED: u8 = 1;
 
     pub const SECOND_TAKEN: u8 = 2;
+}
+
+// How far the widths of zeros, ones and marks may lie from their centres, in percent of the nominal interval.
+#[repr(C)]
+pub struct WidthSettings {
+    pub zeros: u8,
+    pub ones: u8,
+    pub marks: u8,
+}
+
+impl WidthSettings {
+    pub const NARROWEST: u8 = 1;
+
+    pub const WIDEST: u8 = 14;
+}
+
+// A class of widths: its symbol, and in percent of the nominal interval its centre and the setting, how far from the centre it reaches.
+pub struct WidthClass {
+    pub symbol: u8,
+    pub centre: u8,
+    pub setting: u8,
+}
+
+// A pulse: its symbol, and 100 times its width less its class's centre times the interval; 0 for a spoiled element.
+pub struct Pulse {
+    pub symbol: u8,
+    pub deviation: i32,
 }
 
 // Document 01's thirteen numbers and document 02's 14 to 20 and 23 to 27, in their order. With 5 and 6 goes the index of the element, with 25 that of the cycle.
@@ -101,9 +128,9 @@ pub enum Subtracted {
     Refused(Refusal),
 }
 
-// The classifier, for one pulse.
+// The classifier, for one pulse: its symbol and its deviation.
 pub enum Classified {
-    Symbol(u8),
+    Symbol { symbol: u8, deviation: i32 },
     Refused(Refusal),
 }
 
