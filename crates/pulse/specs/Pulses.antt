@@ -1,55 +1,113 @@
--- The symbols of a list of pulses by their index, and what the list call leaves in the lent memory.
+-- What fits the code's numbers; the pulses of a list by their index, and what the list call leaves in the lent memory.
 use mathlib.Core.Path.{_≡_, refl, sym, ap, _∙_}
-use mathlib.Core.List.{List, [], _∷_}
-use Prim.Native.Nat.{ℕ, zero, suc, _*_, _≤_, _<_}
-use native.Mathlib.Nat.{not-suc-le-zero, zero-add, mul-le-mul-right, le-of-lt}
+use mathlib.Core.Bool.{true}
+use mathlib.Core.List.{List, [], _∷_, map}
+use Prim.Native.Nat.{ℕ, zero, suc, _+_, _*_, _-_, _^_, _≤_, _<_}
+use native.Mathlib.Nat.{not-suc-le-zero, zero-add, mul-le-mul, mul-le-mul-right, le-of-lt}
 use native.Mathlib.Omega.{arith}
-use lib.ListN.{getD, length}
+use borrow.Author.Tests.{ltb-true, ltb-false, lt-ltb}
+use lib.Dec.{ltb}
+use lib.IntN.{ℤ, pos, negsuc, natAbs, _-ℤ_}
+use lib.ListN.{getD, length, length-map, List·getD-map}
 use lib.Seq.{ext-getD}
-use Rattle.timecode.specs.Calls.{symbolOf, symbolsOf, classifyListOf, classifyListLeaves}
+use mir.Syntax.{w32}
+use mir.Val.{SFits, toZ, ofZ}
+use mir.ValLaws.{toZ-ofZ}
+use Rattle.timecode.specs.Calls.{isInterval, areWidthSettings, inClass, spoiledPulse, pulseOf, pulsesOf, classifyListOf, symbolsLeft, deviationsLeft}
 use Rattle.timecode.specs.Laws.Runs.{length-tabulate, getD-tabulate}
+use Rattle.timecode.specs.Laws.Tests.{by-test}
+use Rattle.timecode.specs.Laws.Widths.{from-to, deviation-bound}
 use Rattle.timecode.specs.Layout.{tabulate}
+use Rattle.timecode.specs.declared.Pulse.{Pulse}
 use Rattle.timecode.specs.declared.Refusal.{Refusal}
+use Rattle.timecode.specs.declared.WidthClass.{WidthClass}
+use Rattle.timecode.specs.declared.WidthSettings.{WidthSettings}
 use Rattle.timecode.specs.declared.Written.{Written}
 use Rattle.timecode.specs.declared.Written.the-variants.{Done}
+
+-- ---- numbers that fit
 
 -- a percentage of the interval fits 64 bits, before the division by 100
 pub percent-fits : (percent T : ℕ) → percent < 256 → T < 4294967296 → percent * T < 18446744073709551616
 percent-fits percent T h k = let product : percent * T ≤ 256 * T = mul-le-mul-right T (le-of-lt h) in omega arith
 
--- the symbol of pulse i
-abbrev pub pulse : ℕ → List ℕ → List ℕ → ℕ → ℕ
-pulse T widths periods i = symbolOf T (getD widths i 0) (getD periods i 0)
+-- a class whose ends are percentages: its centre is 20 to 80, its setting at most 14
+abbrev pub Usable : WidthClass → Type 0
+Usable c = (c .setting ≤ 14) × (20 ≤ c .centre) × (c .centre ≤ 80)
 
-length-symbols : (T : ℕ) (widths periods : List ℕ) → length widths ≡ length periods → length (symbolsOf T widths periods) ≡ length widths
-unfolding symbolsOf
-length-symbols T [] periods h = refl
-length-symbols T (w ∷ ws) [] h = sym h
-length-symbols T (w ∷ ws) (p ∷ ps) h = ap suc (length-symbols T ws ps (omega arith))
+-- in a class 100w and the centre's part of T are below 1,000,000,000
+pub in-class-small : (c : WidthClass) (T width : ℕ) → Usable c → isInterval T ≡ true → inClass c T width ≡ true → (100 * width < 1000000000) × (c .centre * T < 1000000000)
+unfolding isInterval
+in-class-small c T width u i y =
+    let t = from-to 100 10000000 T i in
+    let ends = from-to ((c .centre - c .setting) * T) ((c .centre + c .setting) * T) (100 * width) y in
+    let most : c .centre + c .setting ≤ 94 = omega arith in
+    let high : (c .centre + c .setting) * T ≤ 94 * 10000000 = mul-le-mul most (t .1) in
+    let middle : c .centre * T ≤ 80 * 10000000 = mul-le-mul (u .2) (t .1) in
+    (omega arith, omega arith)
 
-symbol-at : (T : ℕ) (widths periods : List ℕ) (i : ℕ) → i < length widths → i < length periods → getD (symbolsOf T widths periods) i 0 ≡ pulse T widths periods i
-unfolding symbolsOf
-symbol-at T [] periods i h k = absurd (not-suc-le-zero h)
-symbol-at T (w ∷ ws) [] i h k = absurd (not-suc-le-zero k)
-symbol-at T (w ∷ ws) (p ∷ ps) zero h k = refl
-symbol-at T (w ∷ ws) (p ∷ ps) (suc i) h k = symbol-at T ws ps i (omega arith) (omega arith)
+pub difference-fits : (a b : ℕ) → a < 1000000000 → b < 1000000000 → SFits w32 (pos a -ℤ pos b)
+difference-fits a zero h k = record { sfits = omega arith }
+difference-fits a (suc b) h k =
+    by-test (ltb a (suc b))
+    (λ y. let less = ltb-true a (suc b) y in rw y (record { sfits = omega arith }))
+    (λ n. let no-less = ltb-false a (suc b) n in rw n (record { sfits = omega arith }))
 
-pub symbols-tabulated : (T : ℕ) (widths periods : List ℕ) (n : ℕ) → length widths ≡ n → length periods ≡ n → tabulate n 0 (pulse T widths periods) ≡ symbolsOf T widths periods
-symbols-tabulated T widths periods n a b =
-    let l = length-symbols T widths periods (a ∙ sym b) in
-    let m = length-tabulate n 0 (pulse T widths periods) in
-    ext-getD 0 (tabulate n 0 (pulse T widths periods)) (symbolsOf T widths periods) (m ∙ sym a ∙ sym l)
+pub plain : (a : ℕ) → a < 1000000000 → toZ w32 a ≡ pos a
+plain a h = rw (lt-ltb a (2 ^ 31) (omega arith))
+
+pub difference-back : (a b : ℕ) → a < 1000000000 → b < 1000000000 → (z : ℤ) → z ≡ pos a -ℤ pos b → toZ w32 (ofZ w32 z) ≡ pos a -ℤ pos b
+difference-back a b h k z e = rw e (toZ-ofZ w32 (pos a -ℤ pos b) (difference-fits a b h k))
+
+bounded-fits : (z : ℤ) → natAbs z ≤ 140000000 → SFits w32 z
+bounded-fits (pos n) h = record { sfits = omega arith }
+bounded-fits (negsuc n) h = record { sfits = omega arith }
+
+-- a deviation comes back from its 32 bits
+pub deviation-back : (s : WidthSettings) (T width period : ℕ) → isInterval T ≡ true → areWidthSettings s ≡ true → (z : ℤ) → z ≡ pulseOf s T width period .deviation → toZ w32 (ofZ w32 z) ≡ z
+deviation-back s T width period i g z e = toZ-ofZ w32 z (rw e (bounded-fits (pulseOf s T width period .deviation) (deviation-bound s T width period g i)))
+
+-- ---- the pulses of a list by their index
+
+-- pulse i
+abbrev pub pulse : WidthSettings → ℕ → List ℕ → List ℕ → ℕ → Pulse
+pulse s T widths periods i = pulseOf s T (getD widths i 0) (getD periods i 0)
+
+length-pulses : (s : WidthSettings) (T : ℕ) (widths periods : List ℕ) → length widths ≡ length periods → length (pulsesOf s T widths periods) ≡ length widths
+unfolding pulsesOf
+length-pulses s T [] periods h = refl
+length-pulses s T (w ∷ ws) [] h = sym h
+length-pulses s T (w ∷ ws) (p ∷ ps) h = ap suc (length-pulses s T ws ps (omega arith))
+
+pulse-at : (s : WidthSettings) (T : ℕ) (widths periods : List ℕ) (i : ℕ) → i < length widths → i < length periods → getD (pulsesOf s T widths periods) i spoiledPulse ≡ pulse s T widths periods i
+unfolding pulsesOf
+pulse-at s T [] periods i h k = absurd (not-suc-le-zero h)
+pulse-at s T (w ∷ ws) [] i h k = absurd (not-suc-le-zero k)
+pulse-at s T (w ∷ ws) (p ∷ ps) zero h k = refl
+pulse-at s T (w ∷ ws) (p ∷ ps) (suc i) h k = pulse-at s T ws ps i (omega arith) (omega arith)
+
+-- one field of each
+pub pulses-tabulated : {A : Type 0} (field : Pulse → A) (s : WidthSettings) (T : ℕ) (widths periods : List ℕ) (n : ℕ) → length widths ≡ n → length periods ≡ n → tabulate n 0 (λ i. field (pulse s T widths periods i)) ≡ map field (pulsesOf s T widths periods)
+pulses-tabulated {A} field s T widths periods n a b =
+    let g : ℕ → A = λ i. field (pulse s T widths periods i) in
+    let ps = pulsesOf s T widths periods in
+    let l = length-map ps field ∙ length-pulses s T widths periods (a ∙ sym b) in
+    let m = length-tabulate n 0 g in
+    ext-getD (field spoiledPulse) (tabulate n 0 g) (map field ps) (m ∙ sym a ∙ sym l)
     (λ i h.
     let k : i < n = rw m at h in
-    getD-tabulate n 0 (pulse T widths periods) 0 i k ∙ ap (pulse T widths periods) (zero-add i) ∙ sym (symbol-at T widths periods i (omega arith) (omega arith)))
+    getD-tabulate n 0 g (field spoiledPulse) i k ∙ ap g (zero-add i) ∙ sym (List·getD-map field ps i spoiledPulse ∙ ap field (pulse-at s T widths periods i (omega arith) (omega arith))))
 
 -- ---- the list call's answer and what it leaves
 
-module _ (T : ℕ) (widths periods lent : List ℕ) where
-  pub list-refused : (r : Refusal) → classifyListOf T widths periods lent ≡ Written.Refused r → (Written.Refused r ≡ classifyListOf T widths periods lent) × (lent ≡ classifyListLeaves T widths periods lent)
-  unfolding classifyListLeaves
-  list-refused r h = (sym h, rw h)
+module _ (s : WidthSettings) (T : ℕ) (widths periods symbols : List ℕ) (deviations : List ℤ) where
+  abbrev Leaves : Written → List ℕ → List ℤ → Type 0
+  Leaves r new off = (r ≡ classifyListOf s T widths periods symbols deviations) × (new ≡ symbolsLeft s T widths periods symbols deviations) × (off ≡ deviationsLeft s T widths periods symbols deviations)
 
-  pub list-done : (new : List ℕ) → classifyListOf T widths periods lent ≡ Done → new ≡ symbolsOf T widths periods → (Done ≡ classifyListOf T widths periods lent) × (new ≡ classifyListLeaves T widths periods lent)
-  unfolding classifyListLeaves
-  list-done new h k = (sym h, k ∙ rw h)
+  pub list-refused : (r : Refusal) → classifyListOf s T widths periods symbols deviations ≡ Written.Refused r → Leaves (Written.Refused r) symbols deviations
+  unfolding symbolsLeft deviationsLeft
+  list-refused r h = (sym h, rw h, rw h)
+
+  pub list-done : (new : List ℕ) (off : List ℤ) → classifyListOf s T widths periods symbols deviations ≡ Done → new ≡ map (λ p. p .symbol) (pulsesOf s T widths periods) → off ≡ map (λ p. p .deviation) (pulsesOf s T widths periods) → Leaves Done new off
+  unfolding symbolsLeft deviationsLeft
+  list-done new off h k l = (sym h, k ∙ rw h, l ∙ rw h)

@@ -41,16 +41,16 @@ tabulate-self xs =
     getD-tabulate (length xs) 0 (λ i. getD xs i 0) 0 i k ∙ ap (λ (j : ℕ). getD xs j 0) (zero-add i))
 
 -- one more at the end, as a loop that fills a list stores it
-tabulate-more : (n i : ℕ) (g : ℕ → ℕ) → tabulate (suc n) i g ≡ tabulate n i g ++ (g (i + n) ∷ [])
-tabulate-more zero i g = ap (λ (k : ℕ). g k ∷ []) (sym (add-zero i))
-tabulate-more (suc n) i g = ap (λ (xs : List ℕ). g i ∷ xs) (tabulate-more n (suc i) g ∙ ap (λ (k : ℕ). tabulate n (suc i) g ++ (g k ∷ [])) (suc-add i n ∙ sym (add-suc i n)))
+tabulate-more : {A : Type 0} (n i : ℕ) (g : ℕ → A) → tabulate (suc n) i g ≡ tabulate n i g ++ (g (i + n) ∷ [])
+tabulate-more {A} zero i g = ap (λ (k : ℕ). g k ∷ []) (sym (add-zero i))
+tabulate-more {A} (suc n) i g = ap (λ (xs : List A). g i ∷ xs) (tabulate-more n (suc i) g ∙ ap (λ (k : ℕ). tabulate n (suc i) g ++ (g k ∷ [])) (suc-add i n ∙ sym (add-suc i n)))
 
-pub fill-step : (xs : List ℕ) (g : ℕ → ℕ) (i : ℕ) → i < length xs → take i xs ≡ tabulate i 0 g → take (i + 1) (set xs i (g i)) ≡ tabulate (i + 1) 0 g
-fill-step xs g i h p =
+pub fill-step : {A : Type 0} (xs : List A) (g : ℕ → A) (i : ℕ) → i < length xs → take i xs ≡ tabulate i 0 g → take (i + 1) (set xs i (g i)) ≡ tabulate (i + 1) 0 g
+fill-step {A} xs g i h p =
     rw (add-one i)
-    (take-suc-set xs i (g i) h ∙ ap (λ (ys : List ℕ). ys ++ (g i ∷ [])) p ∙ sym (tabulate-more i 0 g ∙ ap (λ (k : ℕ). tabulate i 0 g ++ (g k ∷ [])) (zero-add i)))
+    (take-suc-set xs i (g i) h ∙ ap (λ (ys : List A). ys ++ (g i ∷ [])) p ∙ sym (tabulate-more i 0 g ∙ ap (λ (k : ℕ). tabulate i 0 g ++ (g k ∷ [])) (zero-add i)))
 
-pub fill-end : (xs : List ℕ) (g : ℕ → ℕ) (n : ℕ) → length xs ≡ n → take n xs ≡ tabulate n 0 g → xs ≡ tabulate n 0 g
+pub fill-end : {A : Type 0} (xs : List A) (g : ℕ → A) (n : ℕ) → length xs ≡ n → take n xs ≡ tabulate n 0 g → xs ≡ tabulate n 0 g
 fill-end xs g n l p = sym (take-length xs) ∙ ap (λ (k : ℕ). take k xs) l ∙ p
 
 -- ---- the symbols of a frame by their index
