@@ -1,24 +1,31 @@
 -- Calls in any mix equal single Feeds of the symbols that they feed; so from a fresh reader demand 3 and what document 02 says of one element lost or put in hold of them.
 use mathlib.Core.Path.{_≡_, refl, sym, ap, ap₂, subst, _∙_}
-use mathlib.Core.Bool.{true, cond}
+use mathlib.Core.Bool.{true, cond, _&&_}
 use mathlib.Core.List.{List, [], _∷_, _++_}
 use Prim.Native.Nat.{ℕ}
-use Rattle.timecode.specs.Calls.{symbolOf, isInterval}
+use borrow.Author.Tests.{le-leb}
+use lib.IntN.{ℤ}
+use Rattle.timecode.specs.Calls.{isInterval, areWidthSettings, pulseOf}
 use Rattle.timecode.specs.Demand3.{Demand3, SameAnswers, demand-3, two-readers}
 use Rattle.timecode.specs.Formats.{known}
+use Rattle.timecode.specs.Laws.Machine.{answer-no-refusal}
 use Rattle.timecode.specs.Laws.Tests.{by-test}
-use Rattle.timecode.specs.Stream.{isSetting, plainAnswers, plainReceived, elementsOf, SameWindow}
+use Rattle.timecode.specs.Laws.Widths.{pulse-symbol-small}
+use Rattle.timecode.specs.Stream.{isSetting, plainFeed, plainAnswers, plainReceived, elementsOf, SameWindow}
 use Rattle.timecode.specs.declared.Answer.{Answer}
+use Rattle.timecode.specs.declared.Answer.the-variants.{Quiet, Report}
 use Rattle.timecode.specs.declared.Format.{Format}
 use Rattle.lost_element.specs.LostElement.{OneLostOrPutIn}
 use Rattle.lost_element.specs.Streams.{one-lost-or-put-in}
+use Rattle.timecode.specs.declared.Refusal.{Refusal}
+use Rattle.timecode.specs.declared.WidthSettings.{WidthSettings}
 use Rattle.stream.specs.FeedLists.{feed-answers-append, reader-append}
 use Rattle.stream.specs.Feeding.{freshReader, isValid}
 use Rattle.stream.specs.Refinement.{answers, readerAfter, Receives, fresh-receives, receives-valid, receives-setting, feed-receives, answers-plain, receives-after, answers-are-plain}
 use Rattle.stream.specs.declared.Reader.{Reader}
 use Rattle.block.specs.Blocks.{Lists, roomIn, areRecords, fieldLeft, listsLeft, blockFor, blockAnswer, feedBlockOf}
 use Rattle.block.specs.Folds.{Takes, block-takes, block-answers}
-use Rattle.pulse_feed.specs.PulseFeeds.{feedPulseOf}
+use Rattle.pulse_feed.specs.PulseFeeds.{deviationBeside, feedPulseOf}
 use Rattle.reader_calls.specs.ReaderCalls.{ReaderCall, symbol, symbolInPlace, pulse, block, CallResult, symbolCallResult, inPlaceCallResult, pulseCallResult, blockCallResult, symbolsFed, answersGiven, allFed, allAnswers, callResult, readerOf, callResults, readerAfterCalls, plainBlock, plainCallResult, plainCallResults}
 
 -- ---- one call, of any reader
@@ -27,15 +34,15 @@ pub call-answers : (r : Reader) (c : ReaderCall) → answersGiven (callResult r 
 unfolding answers feedPulseOf feedBlockOf blockAnswer blockFor
 call-answers r (symbol s) = refl
 call-answers r (symbolInPlace s) = refl
-call-answers r (pulse T width period) = by-test (isInterval T) (λ y. rw y) (λ n. rw n)
+call-answers r (pulse s T width period) = by-test (isInterval T) (λ y. by-test (areWidthSettings s) (λ z. rw (y, z)) (λ n. rw (y, n))) (λ n. rw n)
 call-answers r (block ss l) =
     by-test (isValid r)
     (λ v. by-test (isSetting (r .setting)) (λ k. by-test (areRecords l) (λ y. rw (v, k, y) (block-answers r (roomIn l) ss l)) (λ n. rw (v, k, n))) (λ n. rw (v, n)))
     (λ n. rw n)
 
-pulse-reader : (r : Reader) (T width period : ℕ) → feedPulseOf r T width period .reader ≡ readerAfter r (cond (isInterval T) (symbolOf T width period ∷ []) [])
+pulse-reader : (r : Reader) (s : WidthSettings) (T width period : ℕ) → feedPulseOf r s T width period .reader ≡ readerAfter r (cond (isInterval T && areWidthSettings s) (pulseOf s T width period .symbol ∷ []) [])
 unfolding readerAfter feedPulseOf
-pulse-reader r T width period = by-test (isInterval T) (λ y. rw y) (λ n. rw n)
+pulse-reader r s T width period = by-test (isInterval T) (λ y. by-test (areWidthSettings s) (λ z. rw (y, z)) (λ n. rw (y, n))) (λ n. rw n)
 
 block-reader : (r : Reader) (ss : List ℕ) (l : Lists) → feedBlockOf r ss l .reader ≡ readerAfter r (symbolsFed (blockCallResult ss l (feedBlockOf r ss l .answer) (listsLeft (blockFor r ss l) l)))
 unfolding readerAfter feedBlockOf blockAnswer blockFor
@@ -48,7 +55,7 @@ pub call-reader : (r : Reader) (c : ReaderCall) → readerOf r c ≡ readerAfter
 unfolding readerAfter
 call-reader r (symbol s) = refl
 call-reader r (symbolInPlace s) = refl
-call-reader r (pulse T width period) = pulse-reader r T width period
+call-reader r (pulse s T width period) = pulse-reader r s T width period
 call-reader r (block ss l) = block-reader r ss l
 
 -- ---- a list of calls, of any reader
@@ -78,12 +85,36 @@ reader-is-fed r (c ∷ cs) =
 pub plain-block-takes : (f : Format) (k : ℕ) (received ss : List ℕ) (l : Lists) → Takes 0 (roomIn l) (plainAnswers f k received ss) (plainBlock f k received ss l)
 plain-block-takes f k received ss l = block-takes 0 (roomIn l) (plainAnswers f k received ss)
 
+-- the deviation beside an answer that is no refusal, as the plain machine's to a pulse's symbol
+taken-beside : (a : Answer) (d : ℤ) → ((x : Refusal) → a ≡ Answer.Refused x → ⊥) → deviationBeside a d ≡ d
+taken-beside Quiet d h = refl
+taken-beside (Report t w) d h = refl
+taken-beside (Answer.Refused x) d h = absurd (h x refl)
+
+plain-beside : (f : Format) (k : ℕ) (received : List ℕ) (s : WidthSettings) (T width period : ℕ) (d : ℤ) → deviationBeside (plainFeed f k received (pulseOf s T width period .symbol) .answer) d ≡ d
+unfolding plainFeed
+plain-beside f k received s T width period d =
+    let y = pulseOf s T width period .symbol in
+    rw (le-leb y 3 (pulse-symbol-small s T width period)) (taken-beside _ d (answer-no-refusal f k (received ++ (y ∷ []))))
+
 module _ (f : Format) (k : ℕ) (is-known : known f ≡ true) (is-setting : isSetting k ≡ true) where
+  pulse-plain : (r : Reader) (received : List ℕ) (s : WidthSettings) (T width period : ℕ) → Receives f k r received → callResult r (pulse s T width period) ≡ plainCallResult f k received (pulse s T width period)
+  unfolding feedPulseOf
+  pulse-plain r received s T width period h =
+      let same = feed-receives f k is-known is-setting r received (pulseOf s T width period .symbol) h .0 in
+      let d = pulseOf s T width period .deviation in
+      by-test (isInterval T)
+      (λ y.
+      by-test (areWidthSettings s)
+      (λ z. rw (y, z) (ap₂ (pulseCallResult s T width period) same (ap (λ (a : Answer). deviationBeside a d) same ∙ plain-beside f k received s T width period d)))
+      (λ n. rw (y, n)))
+      (λ n. rw n)
+
   call-plain : (r : Reader) (received : List ℕ) (c : ReaderCall) → Receives f k r received → callResult r c ≡ plainCallResult f k received c
-  unfolding feedPulseOf feedBlockOf blockAnswer blockFor fieldLeft
+  unfolding feedBlockOf blockAnswer blockFor fieldLeft
   call-plain r received (symbol s) h = ap (symbolCallResult s) (feed-receives f k is-known is-setting r received s h .0)
   call-plain r received (symbolInPlace s) h = ap (inPlaceCallResult s) (feed-receives f k is-known is-setting r received s h .0)
-  call-plain r received (pulse T width period) h = by-test (isInterval T) (λ y. rw y (ap (pulseCallResult T width period) (feed-receives f k is-known is-setting r received (symbolOf T width period) h .0))) (λ n. rw n)
+  call-plain r received (pulse s T width period) h = pulse-plain r received s T width period h
   call-plain r received (block ss l) h =
       rw (receives-valid f k is-known is-setting r received h, receives-setting f k is-known is-setting r received h, answers-plain f k is-known is-setting r received ss h)
       (by-test (areRecords l) (λ y. rw y) (λ n. rw n))
