@@ -181,11 +181,11 @@ difference-values (Hundredths d) = refl
 difference-values (Subtracted.Refused x) = rw (refusal-numbered x)
 
 pub classify-number : (a : Classified) → classifyResultOf a .number ≡ classifiedResult a .number
-classify-number (Symbol s) = refl
+classify-number (Symbol s d) = refl
 classify-number (Classified.Refused x) = refl
 
-pub classify-values : (a : Classified) → pos (classifyResultOf a .symbol) ∷ [] ≡ valuesIn (classifiedResult a) (pos 0 ∷ [])
-classify-values (Symbol s) = refl
+pub classify-values : (a : Classified) → pos (classifyResultOf a .symbol) ∷ classifyResultOf a .deviation ∷ [] ≡ valuesIn (classifiedResult a) (pos 0 ∷ pos 0 ∷ [])
+classify-values (Symbol s d) = refl
 classify-values (Classified.Refused x) = rw (refusal-numbered x)
 
 pub scan-number : (a : Scanned) → scanResultOf a .number ≡ scannedResult a .number

@@ -7,7 +7,7 @@ use lib.Dec.{leb, eqb}
 use lib.IntN.{ℤ}
 use lib.ListN.{getD, length}
 use Rattle.timecode.specs.Answers.{Result, writtenResult, steppedResult, subtractedResult, classifiedResult, scannedResult}
-use Rattle.timecode.specs.Calls.{isInterval, classifyOf, classifyListOf, differenceOf, found, leadAt, lowestOf, scanOf, partAt, firstPlace}
+use Rattle.timecode.specs.Calls.{isInterval, areWidthSettings, classifyOf, classifyListOf, differenceOf, found, leadAt, lowestOf, scanOf, partAt, firstPlace}
 use Rattle.timecode.specs.Formats.{known, size, lastDay, yearCarried, inRange, onFormat, secondCarried}
 use Rattle.timecode.specs.Frames.{lengthIn, inYear, yearOfTimeBefore, onDay, controlFits, stepOf, stepBackOf, writeOf, readOf}
 use Rattle.timecode.specs.Laws.Tests.{by-test}
@@ -16,6 +16,7 @@ use Rattle.timecode.specs.declared.Reading.{Reading}
 use Rattle.timecode.specs.declared.Reading.the-variants.{Accepted}
 use Rattle.timecode.specs.declared.Scanned.{Scanned}
 use Rattle.timecode.specs.declared.Time.{Time}
+use Rattle.timecode.specs.declared.WidthSettings.{WidthSettings}
 use Rattle.ffi.specs.Fields.{unlessRefused}
 
 -- the values of a refusal
@@ -38,13 +39,20 @@ pub difference-no-index : (t u : Time) → refusedValues (subtractedResult (diff
 unfolding differenceOf
 difference-no-index t u = by-test (inRange lastDay t && inRange lastDay u) (λ a. rw a) (λ a. rw a)
 
-pub classify-no-index : (T width period : ℕ) → refusedValues (classifiedResult (classifyOf T width period)) ≡ []
+pub classify-no-index : (s : WidthSettings) (T width period : ℕ) → refusedValues (classifiedResult (classifyOf s T width period)) ≡ []
 unfolding classifyOf
-classify-no-index T width period = by-test (isInterval T) (λ a. rw a) (λ a. rw a)
+classify-no-index s T width period = by-test (isInterval T) (λ a. rw a (by-test (areWidthSettings s) (λ b. rw b) (λ b. rw b))) (λ a. rw a)
 
-pub classify-list-no-index : (T : ℕ) (widths periods lent : List ℕ) → refusedValues (writtenResult (classifyListOf T widths periods lent)) ≡ []
+pub classify-list-no-index : (s : WidthSettings) (T : ℕ) (widths periods symbols : List ℕ) (deviations : List ℤ) → refusedValues (writtenResult (classifyListOf s T widths periods symbols deviations)) ≡ []
 unfolding classifyListOf
-classify-list-no-index T widths periods lent = by-test (isInterval T) (λ a. rw a (by-test (eqb (length widths) (length lent) && eqb (length periods) (length lent)) (λ b. rw b) (λ b. rw b))) (λ a. rw a)
+classify-list-no-index s T widths periods symbols deviations =
+    by-test (isInterval T)
+    (λ a.
+    rw a
+    (by-test (areWidthSettings s)
+    (λ b. rw b (by-test (eqb (length widths) (length symbols) && (eqb (length periods) (length symbols) && eqb (length deviations) (length symbols))) (λ d. rw d) (λ d. rw d)))
+    (λ b. rw b)))
+    (λ a. rw a)
 
 found-no-index : (b : Bool) (r : Reading) (a : ℕ) (after : Scanned) → refusedValues (scannedResult after) ≡ [] → refusedValues (scannedResult (found b r a after)) ≡ []
 found-no-index true (Accepted t w) a after h = refl

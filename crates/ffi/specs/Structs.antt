@@ -1,6 +1,6 @@
 -- The struct of each answer: its number first, with Read's and the converters' the index, then its values; a field for which the answer has no value is 0.
 use Prim.Native.Nat.{ℕ}
-use lib.IntN.{pos}
+use lib.IntN.{ℤ, pos}
 use Rattle.timecode.specs.Answers.{refusalNumber}
 use Rattle.timecode.specs.Frames.{noTime}
 use Rattle.timecode.specs.declared.Answer.{Answer}
@@ -48,6 +48,7 @@ use Rattle.timecode.specs.declared.Written.the-variants.{Done}
 use Rattle.ffi.specs.declared.ClassifyResult.{ClassifyResult}
 use Rattle.ffi.specs.declared.ConvertResult.{ConvertResult}
 use Rattle.ffi.specs.declared.DifferenceResult.{DifferenceResult}
+use Rattle.ffi.specs.declared.FeedPulseResult.{FeedPulseResult}
 use Rattle.ffi.specs.declared.FeedResult.{FeedResult}
 use Rattle.ffi.specs.declared.ReadResult.{ReadResult}
 use Rattle.ffi.specs.declared.ScanResult.{ScanResult}
@@ -103,8 +104,8 @@ differenceResultOf (Hundredths d) = record { number = 0; hundredths = d }
 differenceResultOf (Subtracted.Refused x) = record { number = refusalNumber x; hundredths = pos 0 }
 
 abbrev pub classifyResultOf : Classified → ClassifyResult
-classifyResultOf (Symbol s) = record { number = 0; symbol = s }
-classifyResultOf (Classified.Refused x) = record { number = refusalNumber x; symbol = 0 }
+classifyResultOf (Symbol s d) = record { number = 0; symbol = s; deviation = d }
+classifyResultOf (Classified.Refused x) = record { number = refusalNumber x; symbol = 0; deviation = pos 0 }
 
 -- found: 1 with a frame, else 0
 abbrev pub scanResultOf : Scanned → ScanResult
@@ -117,3 +118,7 @@ abbrev pub feedResultOf : Answer → FeedResult
 feedResultOf Quiet = record { number = 0; reported = 0; time = noTime; control = 0 }
 feedResultOf (Report t w) = record { number = 0; reported = 1; time = t; control = w }
 feedResultOf (Answer.Refused x) = record { number = refusalNumber x; reported = 0; time = noTime; control = 0 }
+
+-- a pulse fed: what the Feed brought, and the deviation, which is 0 beside a refusal (pulse_feed.PulseFeeds.refused-pulse-no-deviation)
+abbrev pub withDeviation : FeedResult → ℤ → FeedPulseResult
+withDeviation r d = record { number = r .number; reported = r .reported; time = r .time; control = r .control; deviation = d }

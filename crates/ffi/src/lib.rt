@@ -2,7 +2,7 @@
 // A field for which an answer has no value is 0. Which struct belongs to which answer, and that it has the answer's number and values, stands in specs/.
 ghost use mathlib.Core.Path.{_≡_};
 ghost use Rattle.timecode.specs.Frames.{noTime};
-ghost use Rattle.ffi.specs.Structs.{refusalIndex, writeResultOf, convertResultOf, readResultOf, stepResultOf, differenceResultOf, classifyResultOf, scanResultOf, feedResultOf};
+ghost use Rattle.ffi.specs.Structs.{refusalIndex, writeResultOf, convertResultOf, readResultOf, stepResultOf, differenceResultOf, classifyResultOf, scanResultOf, feedResultOf, withDeviation};
 use refusals::number_of;
 use timecode::Answer;
 use timecode::Classified;
@@ -51,6 +51,7 @@ pub struct DifferenceResult {
 pub struct ClassifyResult {
     pub number: u8,
     pub symbol: u8,
+    pub deviation: i32,
 }
 
 #[repr(C)]
@@ -68,6 +69,16 @@ pub struct FeedResult {
     pub reported: u8,
     pub time: Time,
     pub control: u64,
+}
+
+// A pulse classified and fed: what the Feed brought, and the pulse's deviation.
+#[repr(C)]
+pub struct FeedPulseResult {
+    pub number: u8,
+    pub reported: u8,
+    pub time: Time,
+    pub control: u64,
+    pub deviation: i32,
 }
 
 pub fn zero_time() -> Time
@@ -192,13 +203,15 @@ pub fn classify_result(classified: Classified) -> ClassifyResult
     ensures { λ r. ⌜ r ≡ classifyResultOf classified ⌝ }
 {
     match classified {
-        Classified::Symbol(symbol) => ClassifyResult {
+        Classified::Symbol { symbol, deviation } => ClassifyResult {
             number: 0,
             symbol: symbol,
+            deviation: deviation,
         },
         Classified::Refused(refusal) => ClassifyResult {
             number: number_of(refusal),
             symbol: 0,
+            deviation: 0,
         },
     }
 }
@@ -257,5 +270,18 @@ pub fn feed_result(answer: Answer) -> FeedResult
             time: zero_time(),
             control: 0,
         },
+    }
+}
+
+pub fn feed_pulse_result(fed: FeedResult, deviation: i32) -> FeedPulseResult
+    ensures { λ r. ⌜ r ≡ withDeviation fed deviation ⌝ }
+{
+    let time = fed.time;
+    FeedPulseResult {
+        number: fed.number,
+        reported: fed.reported,
+        time: time,
+        control: fed.control,
+        deviation: deviation,
     }
 }

@@ -31,7 +31,7 @@ use Rattle.reader_words.specs.WordLaws.{Fits, words-back, fresh-fits, after-fit
 use Rattle.reader_words.specs.Words.{wordsFor, readerIn, freshResultOf, freshLeft, feedWords}
 use Rattle.block_words.specs.BlockFields.{block-number}
 use Rattle.block_words.specs.BlockWords.{fedBlockWith, feedBlockWords, blockWordsLeft}
-use Rattle.word_calls.specs.WordCalls.{wordsResult, wordsAfter, wordsResults, wordsAfterCalls, givenOf, numberGiven}
+use Rattle.word_calls.specs.WordCalls.{feedPulseWords, wordsResult, wordsAfter, wordsResults, wordsAfterCalls, givenOf, numberGiven}
 
 -- ---- demand 1
 
@@ -42,7 +42,7 @@ refused-answer a h = ne-eqb (answerResult a .number) 0 (λ e. h (feed-number a �
 pub refused-call-leaves-words : (words : List ℕ) (c : ReaderCall) → (numberGiven (givenOf (wordsResult words c)) ≡ 0 → ⊥) → wordsAfter words c ≡ words
 refused-call-leaves-words words (symbol s) h = rw (refused-answer (feedWords words s .answer) h)
 refused-call-leaves-words words (symbolInPlace s) h = rw (refused-answer (feedWords words s .answer) h)
-refused-call-leaves-words words (pulse T width period) h = rw (refused-answer (feedPulseOf (readerIn words) T width period .answer) h)
+refused-call-leaves-words words (pulse s T width period) h = rw (refused-answer (feedPulseWords words s T width period .answer) h)
 refused-call-leaves-words words (block ss l) h =
     let a = feedBlockWords words ss l .answer in
     rw (ne-eqb (blockResult a .number) 0 (λ e. h (block-number a ∙ e)))
@@ -60,8 +60,8 @@ left-block r next (BlockAnswer.Refused x) h = rw (refusal-numbered x) (ap wordsF
 left-words : (r : Reader) (c : ReaderCall) → Fits r → wordsAfter (wordsFor r) c ≡ wordsFor (readerOf r c)
 left-words r (symbol s) h = rw (words-back r h) (left-fed r (feedOf r s .reader) (feedOf r s .answer) (refused-feed-same-reader r s))
 left-words r (symbolInPlace s) h = rw (words-back r h) (left-fed r (feedOf r s .reader) (feedOf r s .answer) (refused-feed-same-reader r s))
-left-words r (pulse T width period) h =
-    rw (words-back r h) (left-fed r (feedPulseOf r T width period .reader) (feedPulseOf r T width period .answer) (refused-pulse-same-reader r T width period))
+left-words r (pulse s T width period) h =
+    rw (words-back r h) (left-fed r (feedPulseOf r s T width period .reader) (feedPulseOf r s T width period .answer) (refused-pulse-same-reader r s T width period))
 left-words r (block ss l) h = rw (words-back r h) (left-block r (feedBlockOf r ss l .reader) (feedBlockOf r ss l .answer) (λ x e. refused-block-leaves r ss l x e .0))
 
 fits-kept : (r : Reader) (c : ReaderCall) → Fits r → Fits (readerOf r c)
@@ -72,7 +72,7 @@ fits-kept r c h = subst Fits (sym (call-reader r c)) (after-fits r (symbolsFed (
 result-of-words : (r : Reader) (c : ReaderCall) → Fits r → wordsResult (wordsFor r) c ≡ callResult r c
 result-of-words r (symbol s) h = rw (words-back r h)
 result-of-words r (symbolInPlace s) h = rw (words-back r h)
-result-of-words r (pulse T width period) h = rw (words-back r h)
+result-of-words r (pulse s T width period) h = rw (words-back r h)
 result-of-words r (block ss l) h = rw (words-back r h)
 
 pub results-of-words : (r : Reader) → Fits r → (cs : List ReaderCall) → wordsResults (wordsFor r) cs ≡ callResults r cs

@@ -1,5 +1,9 @@
--- `classify_result` meets its contract: the symbol, or the number.
+-- `classify_result` meets its contract: the symbol and the deviation, or the number.
 use borrow.Author.Needs.{needs}
+use mathlib.Core.Path.{ap}
+use lib.IntN.{ℤ}
+use mir.Syntax.{w32}
+use mir.ValLaws.{toZ-ofZ}
 use Rattle.ffi.proofs.classify_result.Statement.{statement}
 use Rattle.ffi.proofs.classify_result.Tie as tie
 
@@ -13,7 +17,7 @@ number-of-requires : tie.Need-number-of-requires
 number-of-requires c κs = search needs
 
 returns : tie.Need-returns
-returns c = rw (c .before .classified .given .1)
+returns c = rw (c .before .classified .given .1) (ap (λ (z : ℤ). record { number = 0; symbol = c .before .classified .given .0 .0; deviation = z }) (toZ-ofZ w32 (c .before .classified .given .0 .1 .0) (record { sfits = c .known-told .given .1 .0 .1 })))
 
 returns-2 : tie.Need-returns-2
 returns-2 c = rw (c .before .before .classified2 .given .1, c .number-of .ensures)
