@@ -44,14 +44,14 @@ extern "C" {
 
 /* The number of this interface. The archive has it in the name of a function, which every file that includes this header
  * refers to: a program does not link with the archive of another interface. */
-#define DUSKVEYRA_INTERFACE 3
+#define DUSKVEYRA_INTERFACE 4
 
-uint32_t duskveyra_interface_3(void);
+uint32_t duskveyra_interface_4(void);
 
 #if defined(__GNUC__)
 __attribute__((used))
 #endif
-static uint32_t (*const duskveyra_interface_linked)(void) = duskveyra_interface_3;
+static uint32_t (*const duskveyra_interface_linked)(void) = duskveyra_interface_4;
 
 /* The numbers that a call refuses with; 0 is no refusal. */
 enum duskveyra_number {
@@ -111,6 +111,19 @@ typedef struct duskveyra_time {
     uint32_t hundredths;
 } duskveyra_time;
 
+/* How far the widths of zeros, ones and marks may lie from 20, 50 and 80 percent of the nominal element interval, in
+ * percent of it: 1 to 14 each. The usual settings are 5, 5, 5: duskveyra_width_settings s = DUSKVEYRA_USUAL_WIDTHS. A
+ * number above 255 is cut to its lowest byte by C itself, before it gets here. */
+typedef struct duskveyra_width_settings {
+    uint8_t zeros;
+    uint8_t ones;
+    uint8_t marks;
+} duskveyra_width_settings;
+
+#define DUSKVEYRA_USUAL_WIDTH 5
+
+#define DUSKVEYRA_USUAL_WIDTHS { DUSKVEYRA_USUAL_WIDTH, DUSKVEYRA_USUAL_WIDTH, DUSKVEYRA_USUAL_WIDTH }
+
 /* A stream reader: the letter, the expression, the setting and the place; the count of the frame under way, the newest
  * symbols, three words of the frame's symbols and the row; the year, the day, the hundredths and the control word of the
  * row's last frame. It is made by duskveyra_fresh, changed by duskveyra_feed, duskveyra_feed_block and
@@ -151,6 +164,7 @@ typedef struct duskveyra_difference_result {
 typedef struct duskveyra_classify_result {
     uint8_t number;
     uint8_t symbol;
+    int32_t deviation; /* 100 times the width less 20, 50 or 80 times the interval; 0 with a spoiled element */
 } duskveyra_classify_result;
 
 typedef struct duskveyra_scan_result {
@@ -167,6 +181,14 @@ typedef struct duskveyra_feed_result {
     duskveyra_time time;
     uint64_t control;
 } duskveyra_feed_result;
+
+typedef struct duskveyra_feed_pulse_result {
+    uint8_t number;
+    uint8_t reported; /* 1 where the pulse's symbol brought a report; where it is 0, so are the time and the control word */
+    duskveyra_time time;
+    uint64_t control;
+    int32_t deviation; /* the pulse's, as duskveyra_classify gives it, with a report or without */
+} duskveyra_feed_pulse_result;
 
 typedef struct duskveyra_block_result {
     uint8_t number;
@@ -247,20 +269,26 @@ duskveyra_block_result duskveyra_feed_block(duskveyra_reader *reader, const uint
                                             uint32_t *hundredths, size_t hundredths_length, uint64_t *controls,
                                             size_t controls_length);
 
-/* Classifies one pulse and feeds its symbol, as duskveyra_feed does.
- * Refuses with 10; 13; 26; in this order, and then feeds nothing. */
-duskveyra_feed_result duskveyra_feed_pulse(duskveyra_reader *reader, uint32_t interval, uint32_t width,
-                                           uint32_t period);
+/* Classifies one pulse, as duskveyra_classify does, and feeds its symbol, as duskveyra_feed does. The settings may be
+ * others at each call.
+ * Refuses with 10; 16; 13; 26; in this order, and then feeds nothing. */
+duskveyra_feed_pulse_result duskveyra_feed_pulse(duskveyra_reader *reader, duskveyra_width_settings settings,
+                                                 uint32_t interval, uint32_t width, uint32_t period);
 
-/* Classifies one pulse by its width and its period, in the ticks of the nominal element interval.
- * Refuses with 10. */
-duskveyra_classify_result duskveyra_classify(uint32_t interval, uint32_t width, uint32_t period);
+/* Classifies one pulse by its width and its period, in the ticks of the nominal element interval: with a period of 95 to
+ * 105 percent of it a width at most the setting's percentage from 20 percent is 0, from 50 percent 1, from 80 percent 2,
+ * ends included; all else is 3. Its deviation is 100 times the width less 20, 50 or 80 times the interval, from
+ * -140,000,000 to 140,000,000; that of a spoiled element is 0.
+ * Refuses with 10; 16; in this order. */
+duskveyra_classify_result duskveyra_classify(duskveyra_width_settings settings, uint32_t interval, uint32_t width,
+                                             uint32_t period);
 
-/* Classifies a list of pulses: symbol i is that of width i and period i; every symbol is set.
- * Refuses with 10; 3 where the three lengths are not one; in this order. */
-duskveyra_write_result duskveyra_classify_list(uint32_t interval, const uint32_t *widths, size_t widths_length,
-                                               const uint32_t *periods, size_t periods_length, uint8_t *symbols,
-                                               size_t symbols_length);
+/* Classifies a list of pulses: symbol i and deviation i are those of width i and period i; every one is set.
+ * Refuses with 10; 16; 3 where the four lengths are not one; in this order. */
+duskveyra_write_result duskveyra_classify_list(duskveyra_width_settings settings, uint32_t interval,
+                                               const uint32_t *widths, size_t widths_length, const uint32_t *periods,
+                                               size_t periods_length, uint8_t *symbols, size_t symbols_length,
+                                               int32_t *deviations, size_t deviations_length);
 
 /* Looks in a recording of symbols for the first frame that begins at start or later, and at index 1 or later, behind a
  * mark (in X at any index, behind anything or nothing): the index of its first element, with its time and control word as

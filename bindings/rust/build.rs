@@ -4,7 +4,7 @@
 use std::path::{Path, PathBuf};
 use std::{env, process};
 
-const INTERFACE: &[u8] = b"duskveyra_interface_3";
+const INTERFACE: &[u8] = b"duskveyra_interface_4";
 
 fn main() {
     println!("cargo:rerun-if-env-changed=DUSKVEYRA_LIB");

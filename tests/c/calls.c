@@ -1,5 +1,5 @@
 /* Every function of duskveyra.h but duskveyra_feed_block (blocks.c) and the converters (years.c, which has the formats
- * with the year too; X is in tapes.c): its result, each refusal it can give, their order, and the memory it must leave. What is expected
+ * with the year too; X is in tapes.c), the classifier with the usual settings (widths.c has the others): its result, each refusal it can give, their order, and the memory it must leave. What is expected
  * stands in documents 01 and 02: the examples, the table of places, the rules. Also compiles as C++. */
 #include "check.h"
 #include "duskveyra.h"
@@ -21,6 +21,7 @@ struct outs {
     size_t index;
     int64_t difference;
     uint8_t symbol;
+    int32_t deviation;
     uint64_t guard0;
     duskveyra_reader reader;
     uint64_t guard1;
@@ -331,11 +332,14 @@ static uint8_t call_difference(uint16_t first_day, uint32_t first, uint16_t seco
     return result.number;
 }
 
+static const duskveyra_width_settings usual = DUSKVEYRA_USUAL_WIDTHS;
+
 static uint8_t call_classify(uint32_t interval, uint32_t width, uint32_t period)
 {
-    duskveyra_classify_result result = duskveyra_classify(interval, width, period);
+    duskveyra_classify_result result = duskveyra_classify(usual, interval, width, period);
     reset();
     got.symbol = result.symbol;
+    got.deviation = result.deviation;
     return result.number;
 }
 
@@ -368,8 +372,16 @@ static uint8_t call_feed(const duskveyra_reader *reader, uint8_t symbol)
 
 static uint8_t call_feed_pulse(const duskveyra_reader *reader, uint32_t interval, uint32_t width, uint32_t period)
 {
+    duskveyra_feed_pulse_result result;
+    duskveyra_feed_result fed;
     set_reader(reader);
-    return got_fed(duskveyra_feed_pulse(&got.reader, interval, width, period));
+    result = duskveyra_feed_pulse(&got.reader, usual, interval, width, period);
+    got.deviation = result.deviation;
+    fed.number = result.number;
+    fed.reported = result.reported;
+    fed.time = result.time;
+    fed.control = result.control;
+    return got_fed(fed);
 }
 
 static void unknown_formats(void)
@@ -574,8 +586,9 @@ static void orders(void)
         uint8_t number = bad & 1 ? 10 : bad & 2 ? 3 : 0;
         uint32_t *widths = ticks(5, 200), *periods = ticks(bad & 2 ? 4 : 5, 1000);
         uint8_t *symbols = bytes(5, FILL);
-        CHECK(duskveyra_classify_list(bad & 1 ? 99 : 1000, widths, 5, periods, bad & 2 ? 4 : 5, symbols, 5).number == number);
-        CHECK(all_bytes(symbols, 5, number == 0 ? 0 : FILL));
+        int32_t off[5] = {7, 7, 7, 7, 7};
+        CHECK(duskveyra_classify_list(usual, bad & 1 ? 99 : 1000, widths, 5, periods, bad & 2 ? 4 : 5, symbols, 5, off, 5).number == number);
+        CHECK(all_bytes(symbols, 5, number == 0 ? 0 : FILL) && off[0] == (number == 0 ? 0 : 7));
         free(widths);
         free(periods);
         free(symbols);
@@ -925,6 +938,14 @@ static uint8_t symbol_of(uint64_t t, uint64_t w, uint64_t p)
     return 3;
 }
 
+/* The deviation by document 02's sentence. */
+static int32_t deviation_of(uint32_t t, uint32_t w, uint32_t p)
+{
+    static const int64_t centres[] = {20, 50, 80};
+    uint8_t symbol = symbol_of(t, w, p);
+    return symbol == 3 ? 0 : (int32_t)(100 * (int64_t)w - centres[symbol] * (int64_t)t);
+}
+
 static void classifier(void)
 {
     static const uint32_t intervals[] = {100, 101, 137, 1000, 9999999, 10000000};
@@ -944,6 +965,7 @@ static void classifier(void)
                         uint32_t p = (uint32_t)((uint64_t)t * percents[k] / 100 + (uint64_t)(int64_t)also);
                         CHECK(call_classify(t, w, p) == 0);
                         SET(uint8_t, symbol, symbol_of(t, w, p));
+                        SET(int32_t, deviation, deviation_of(t, w, p));
                         CHECK(same());
                     }
     /* Document 01's row: 150 and 250 give 0, 149 and 251 give 3. */
@@ -959,21 +981,24 @@ static void classifier(void)
             for (k = 0; k < 5; k++) {
                 uint32_t *widths = ticks(i, 0), *periods = ticks(j, 0);
                 uint8_t *lent = bytes(16 + k + 16, FILL), *exact = bytes(k, FILL);
+                int32_t off[6] = {7, 7, 7, 7, 7, 7};
                 size_t m;
                 uint8_t number = i == j && j == k ? 0 : 3;
                 for (m = 0; m < i; m++)
                     widths[m] = (uint32_t)below(1000);
                 for (m = 0; m < j; m++)
                     periods[m] = 900 + (uint32_t)below(200);
-                CHECK(duskveyra_classify_list(99, widths, i, periods, j, lent + 16, k).number == 10);
+                CHECK(duskveyra_classify_list(usual, 99, widths, i, periods, j, lent + 16, k, off, k).number == 10);
                 CHECK(all_bytes(lent, 32 + k, FILL));
-                CHECK(duskveyra_classify_list(1000, widths, i, periods, j, lent + 16, k).number == number);
-                CHECK(duskveyra_classify_list(1000, widths, i, periods, j, exact, k).number == number);
+                CHECK(duskveyra_classify_list(usual, 1000, widths, i, periods, j, lent + 16, k, off, k).number == number);
+                CHECK(duskveyra_classify_list(usual, 1000, widths, i, periods, j, exact, k, off, k).number == number);
                 CHECK(all_bytes(lent, 16, FILL) && all_bytes(lent + 16 + k, 16, FILL));
                 for (m = 0; m < k; m++) {
                     uint8_t expected = number == 0 ? symbol_of(1000, widths[m], periods[m]) : FILL;
                     CHECK(lent[16 + m] == expected && exact[m] == expected);
+                    CHECK(off[m] == (number == 0 ? deviation_of(1000, widths[m], periods[m]) : 7));
                 }
+                CHECK(off[k] == 7);
                 free(widths);
                 free(periods);
                 free(lent);
@@ -985,11 +1010,13 @@ static void classifier(void)
  * brought a report. */
 static int feed(duskveyra_reader *reader, uint8_t symbol, int pulse)
 {
-    static const uint32_t widths[] = {200, 500, 800, 350};
+    static const uint32_t widths[] = {200, 501, 790, 350};
+    static const int32_t deviations[] = {0, 100, -1000, 0};
     uint8_t answer = pulse ? call_feed_pulse(reader, 1000, widths[symbol], 1000) : call_feed(reader, symbol);
     CHECK(answer == 0);
     CHECK(got.flag <= 1);
     SET(uint8_t, flag, got.flag);
+    SET(int32_t, deviation, pulse ? deviations[symbol] : 0);
     if (got.flag == 1)
         set_values(got.day, got.hundredths, got.control);
     memcpy(&want.reader, &got.reader, sizeof want.reader);
@@ -1167,11 +1194,13 @@ static void scans(void)
 static void empty(void)
 {
     uint8_t *none = bytes(0, FILL);
+    int32_t off = 7;
     uint32_t *widths = ticks(0, 7), *periods = ticks(0, 7);
     CHECK(call_write('B', 0, 1, 0, 0, none, 0) == 3 && none[0] == FILL);
     CHECK(call_read('B', 0, none, 0) == 3 && same());
-    CHECK(duskveyra_classify_list(1000, widths, 0, periods, 0, none, 0).number == 0 && none[0] == FILL);
-    CHECK(duskveyra_classify_list(99, widths, 0, periods, 0, none, 0).number == 10 && none[0] == FILL);
+    CHECK(duskveyra_classify_list(usual, 1000, widths, 0, periods, 0, none, 0, &off, 0).number == 0 && none[0] == FILL);
+    CHECK(duskveyra_classify_list(usual, 99, widths, 0, periods, 0, none, 0, &off, 0).number == 10 && none[0] == FILL);
+    CHECK(off == 7);
     CHECK(call_scan('B', 0, none, 0, 0) == 0);
     SET(uint8_t, flag, 0);
     CHECK(same());

@@ -81,6 +81,7 @@
 
 mod block;
 mod editions;
+mod pulse;
 mod refusal;
 #[allow(missing_docs)]
 pub mod sys;
@@ -88,6 +89,7 @@ mod time;
 
 pub use block::{Block, Stop};
 pub use editions::{backward, forward};
+pub use pulse::{classify, classify_list, FedPulse, Pulse, WidthSettings};
 pub use refusal::Refusal;
 pub use time::{ParseTimeError, Time};
 
@@ -220,42 +222,6 @@ pub fn difference(first: Time, second: Time) -> Result<i64, Refusal> {
     Ok(result.hundredths)
 }
 
-/// The symbol of one pulse by its width and its period, in the ticks of `interval`, the nominal element interval.
-///
-/// Refuses with 10.
-#[inline]
-pub fn classify(interval: u32, width: u32, period: u32) -> Result<u8, Refusal> {
-    // SAFETY: no pointer is lent.
-    let result = unsafe { sys::duskveyra_classify(interval, width, period) };
-    Refusal::check(result.number, 0)?;
-    Ok(result.symbol)
-}
-
-/// Classifies a list of pulses: symbol i is that of width i and period i; every symbol is set.
-///
-/// Refuses with 10; 3 where the three lengths are not one; in this order. A refusal leaves `symbols` as they were.
-#[inline]
-pub fn classify_list(
-    interval: u32,
-    widths: &[u32],
-    periods: &[u32],
-    symbols: &mut [u8],
-) -> Result<(), Refusal> {
-    // SAFETY: each pointer and length are those of one slice, and nothing else points into the symbols.
-    let result = unsafe {
-        sys::duskveyra_classify_list(
-            interval,
-            widths.as_ptr(),
-            widths.len(),
-            periods.as_ptr(),
-            periods.len(),
-            symbols.as_mut_ptr(),
-            symbols.len(),
-        )
-    };
-    Refusal::check(result.number, 0)
-}
-
 /// Looks in a recording of symbols for the first frame that begins at `start` or later, and at index 1 or later, behind
 /// a mark (in X at any index, behind anything or nothing); `None` where there is none. Bytes above 3 fit nowhere.
 ///
@@ -322,18 +288,28 @@ impl Reader {
         reported(unsafe { sys::duskveyra_feed(&mut self.words, symbol) })
     }
 
-    /// Classifies one pulse, as [`classify`] does, and feeds its symbol.
+    /// Classifies one pulse, as [`classify`] does, and feeds its symbol. The settings may be others at each call.
     ///
-    /// Refuses with 10; 13; 26; in this order, and then feeds nothing and leaves the reader as it was.
+    /// Refuses with 10; 16; 13; 26; in this order, and then feeds nothing and leaves the reader as it was.
     #[inline]
     pub fn feed_pulse(
         &mut self,
+        settings: WidthSettings,
         interval: u32,
         width: u32,
         period: u32,
-    ) -> Result<Option<Report>, Refusal> {
+    ) -> Result<FedPulse, Refusal> {
+        let words = &mut self.words;
         // SAFETY: the reader's words are lent alone.
-        reported(unsafe { sys::duskveyra_feed_pulse(&mut self.words, interval, width, period) })
+        let result = unsafe { sys::duskveyra_feed_pulse(words, settings, interval, width, period) };
+        Refusal::check(result.number, 0)?;
+        Ok(FedPulse {
+            report: (result.reported != 0).then_some(Report {
+                time: result.time,
+                control: result.control,
+            }),
+            deviation: result.deviation,
+        })
     }
 }
 

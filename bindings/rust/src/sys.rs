@@ -4,7 +4,7 @@
 //! index with 5 and 6. No pointer may be null, and no two pointers of one call may point into the same memory; beside
 //! that every value is allowed.
 
-use crate::{Format, Time, READER_WORDS};
+use crate::{Format, Time, WidthSettings, READER_WORDS};
 
 #[repr(C)]
 pub struct WriteResult {
@@ -41,6 +41,7 @@ pub struct DifferenceResult {
 pub struct ClassifyResult {
     pub number: u8,
     pub symbol: u8,
+    pub deviation: i32,
 }
 
 #[repr(C)]
@@ -61,6 +62,15 @@ pub struct FeedResult {
 }
 
 #[repr(C)]
+pub struct FeedPulseResult {
+    pub number: u8,
+    pub reported: u8,
+    pub time: Time,
+    pub control: u64,
+    pub deviation: i32,
+}
+
+#[repr(C)]
 pub struct BlockResult {
     pub number: u8,
     pub stop: u8,
@@ -69,7 +79,7 @@ pub struct BlockResult {
 }
 
 extern "C" {
-    pub fn duskveyra_interface_3() -> u32;
+    pub fn duskveyra_interface_4() -> u32;
 
     pub fn duskveyra_write(
         format: Format,
@@ -135,14 +145,21 @@ extern "C" {
 
     pub fn duskveyra_feed_pulse(
         reader: *mut [u64; READER_WORDS],
+        settings: WidthSettings,
         interval: u32,
         width: u32,
         period: u32,
-    ) -> FeedResult;
+    ) -> FeedPulseResult;
 
-    pub fn duskveyra_classify(interval: u32, width: u32, period: u32) -> ClassifyResult;
+    pub fn duskveyra_classify(
+        settings: WidthSettings,
+        interval: u32,
+        width: u32,
+        period: u32,
+    ) -> ClassifyResult;
 
     pub fn duskveyra_classify_list(
+        settings: WidthSettings,
         interval: u32,
         widths: *const u32,
         widths_length: usize,
@@ -150,6 +167,8 @@ extern "C" {
         periods_length: usize,
         symbols: *mut u8,
         symbols_length: usize,
+        deviations: *mut i32,
+        deviations_length: usize,
     ) -> WriteResult;
 
     pub fn duskveyra_scan(
@@ -162,4 +181,4 @@ extern "C" {
 
 // The number of the interface that this file declares: an archive of another one does not link.
 #[used]
-static INTERFACE: unsafe extern "C" fn() -> u32 = duskveyra_interface_3;
+static INTERFACE: unsafe extern "C" fn() -> u32 = duskveyra_interface_4;

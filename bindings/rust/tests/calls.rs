@@ -1,12 +1,15 @@
 //! Every call through the safe types: document 01's examples, each refusal and the order of refusals, the step back, the
-//! leap second, the year, its text and the converters, format X, lent memory left as it was, and readers stored and made
+//! leap second, the year, its text and the converters, format X, width settings and deviations, lent memory left as it was, and readers stored and made
 //! again.
 
 use duskveyra::{
     backward, classify, classify_list, difference, forward, read, scan, step, step_back, write,
-    Format, Found, ParseTimeError, Reader, Refusal, Report, Time, GREATEST_SETTING, LEAST_SETTING,
-    LONGEST_FRAME, MARK, ONE, READER_WORDS, SECOND_ADDED, SECOND_TAKEN, SPOILED, USUAL_DAY, ZERO,
+    FedPulse, Format, Found, ParseTimeError, Pulse, Reader, Refusal, Report, Time, WidthSettings,
+    GREATEST_SETTING, LEAST_SETTING, LONGEST_FRAME, MARK, ONE, READER_WORDS, SECOND_ADDED,
+    SECOND_TAKEN, SPOILED, USUAL_DAY, ZERO,
 };
+
+const USUAL: WidthSettings = WidthSettings::USUAL;
 
 const FORMATS: [&str; 16] = [
     "A0", "A1", "A2", "A3", "B0", "B1", "B2", "B3", "D1", "D2", "E1", "E2", "G1", "G2", "H1", "H2",
@@ -402,22 +405,107 @@ fn days_of_every_kind_are_reported() {
     }
 }
 
+fn settings(zeros: u8, ones: u8, marks: u8) -> WidthSettings {
+    WidthSettings { zeros, ones, marks }
+}
+
 #[test]
 fn classifier() {
-    for (width, symbol) in [(149, 3), (150, 0), (250, 0), (251, 3), (500, 1), (800, 2)] {
-        assert_eq!(classify(1_000, width, 1_000), Ok(symbol));
-        assert_eq!(classify(1_000, width, 949), Ok(SPOILED));
-        assert_eq!(classify(99, width, 1_000), Err(Refusal::InvalidInterval));
+    assert_eq!(USUAL, settings(5, 5, 5));
+    let pulses = [
+        (149, 3, 0),
+        (150, 0, -5_000),
+        (250, 0, 5_000),
+        (251, 3, 0),
+        (500, 1, 0),
+        (799, 2, -100),
+    ];
+    for (width, symbol, deviation) in pulses {
+        let spoiled = Pulse {
+            symbol: SPOILED,
+            deviation: 0,
+        };
+        assert_eq!(
+            classify(USUAL, 1_000, width, 1_000),
+            Ok(Pulse { symbol, deviation })
+        );
+        assert_eq!(classify(USUAL, 1_000, width, 949), Ok(spoiled));
+        assert_eq!(
+            classify(settings(0, 5, 5), 99, width, 1_000),
+            Err(Refusal::InvalidInterval)
+        );
     }
-    let mut lent = [0xa5; 5];
-    let ok = classify_list(1_000, &[200, 500, 800], &[1_000; 3], &mut lent[1..4]);
-    assert_eq!((ok, lent), (Ok(()), [0xa5, 0, 1, 2, 0xa5]));
-    let refused = classify_list(1_000, &[200, 500], &[1_000; 3], &mut lent);
-    assert_eq!(refused, Err(Refusal::WrongLength));
-    let refused = classify_list(99, &[200, 500], &[1_000; 3], &mut lent);
-    assert_eq!(refused, Err(Refusal::InvalidInterval));
-    assert_eq!(lent, [0xa5, 0, 1, 2, 0xa5]);
-    assert_eq!(classify_list(1_000, &[], &[], &mut []), Ok(()));
+    // every end of every class for every setting, and the greatest deviations
+    for (symbol, centre) in [(ZERO, 20), (ONE, 50), (MARK, 80)] {
+        for percent in WidthSettings::NARROWEST..=WidthSettings::WIDEST {
+            let mut three = [1; 3];
+            three[usize::from(symbol)] = percent;
+            let only = settings(three[0], three[1], three[2]);
+            let ticks = 100_000 * u32::from(percent);
+            for (width, sign) in [
+                (centre * 100_000 - ticks, -1),
+                (centre * 100_000 + ticks, 1),
+            ] {
+                let deviation = sign * i32::from(percent) * 10_000_000;
+                let found = classify(only, 10_000_000, width, 10_000_000);
+                assert_eq!(found, Ok(Pulse { symbol, deviation }));
+                let outside = width.wrapping_add_signed(sign);
+                let found = classify(only, 10_000_000, outside, 10_000_000);
+                assert_eq!(found.map(|pulse| pulse.symbol), Ok(SPOILED));
+            }
+        }
+    }
+    for bad in [0, 15, 255] {
+        for bad in [
+            settings(bad, 5, 5),
+            settings(5, bad, 5),
+            settings(5, 5, bad),
+        ] {
+            assert_eq!(
+                classify(bad, 1_000, 200, 1_000),
+                Err(Refusal::InvalidWidthSetting)
+            );
+        }
+    }
+    assert_eq!(Refusal::InvalidWidthSetting.number(), 16);
+}
+
+#[test]
+fn classifier_over_lists() {
+    let (mut lent, mut off) = ([0xa5; 5], [7; 5]);
+    let widths = [200, 520, 790];
+    let ok = classify_list(
+        USUAL,
+        1_000,
+        &widths,
+        &[1_000; 3],
+        &mut lent[1..4],
+        &mut off[1..4],
+    );
+    assert_eq!(
+        (ok, lent, off),
+        (Ok(()), [0xa5, 0, 1, 2, 0xa5], [7, 0, 2_000, -1_000, 7])
+    );
+    for odd in 0..4 {
+        let n = |list| if list == odd { 2 } else { 3 };
+        let (w, p) = (&widths[..n(0)], &[1_000; 3][..n(1)]);
+        for (interval, by, refusal) in [
+            (1_000, USUAL, Refusal::WrongLength),
+            (1_000, settings(5, 15, 5), Refusal::InvalidWidthSetting),
+            (99, settings(5, 15, 5), Refusal::InvalidInterval),
+        ] {
+            let refused = classify_list(by, interval, w, p, &mut lent[..n(2)], &mut off[..n(3)]);
+            assert_eq!(refused, Err(refusal));
+        }
+    }
+    assert_eq!(
+        (lent, off),
+        ([0xa5, 0, 1, 2, 0xa5], [7, 0, 2_000, -1_000, 7])
+    );
+    assert_eq!(
+        classify_list(USUAL, 1_000, &[], &[], &mut [], &mut []),
+        Ok(())
+    );
 }
 
 #[test]
@@ -449,15 +537,20 @@ fn scan_finds_the_first_frame_behind_a_mark() {
 
 #[test]
 fn the_listing_is_reported_once_at_element_121() {
-    let widths = [200, 500, 800, 300];
+    let widths = [190, 503, 800, 300];
+    let deviations = [-1_000, 300, 0, 0];
     let mut reader = Reader::fresh(format("H1"), 2).unwrap();
     let mut by_pulse = reader.clone();
     for (index, symbol) in symbols(LISTING).into_iter().enumerate() {
         let before = reader.clone();
         assert_eq!(reader.feed(4), Err(Refusal::UnknownSymbol));
         assert_eq!(
-            reader.feed_pulse(99, 200, 1_000),
+            reader.feed_pulse(settings(0, 5, 5), 99, 200, 1_000),
             Err(Refusal::InvalidInterval)
+        );
+        assert_eq!(
+            reader.feed_pulse(settings(5, 5, 15), 1_000, 200, 1_000),
+            Err(Refusal::InvalidWidthSetting)
         );
         assert_eq!(reader, before);
         let expected = (index + 1 == 121).then_some(Report {
@@ -465,8 +558,13 @@ fn the_listing_is_reported_once_at_element_121() {
             control: 0,
         });
         assert_eq!(reader.feed(symbol), Ok(expected));
-        let pulse = by_pulse.feed_pulse(1_000, widths[usize::from(symbol)], 1_000);
-        assert_eq!(pulse, Ok(expected));
+        // the settings are others at each call
+        let percent = 1 + (index % 9) as u8;
+        let width = widths[usize::from(symbol)];
+        let pulse = by_pulse.feed_pulse(settings(percent, percent, percent), 1_000, width, 1_000);
+        let deviation = deviations[usize::from(symbol)];
+        let report = expected;
+        assert_eq!(pulse, Ok(FedPulse { report, deviation }));
         assert_eq!(reader, by_pulse);
         // Stored and made again, it goes on as before.
         reader = Reader::from_words(reader.words());
@@ -519,10 +617,12 @@ fn readers_of_any_words() {
         for symbol in [0, 2, 4, 255] {
             assert_eq!(reader.feed(symbol), Err(Refusal::InvalidReader));
         }
-        let pulse = reader.feed_pulse(1_000, 800, 1_000);
+        let pulse = reader.feed_pulse(USUAL, 1_000, 800, 1_000);
         assert_eq!(pulse, Err(Refusal::InvalidReader));
-        let pulse = reader.feed_pulse(99, 800, 1_000);
+        let pulse = reader.feed_pulse(settings(0, 0, 0), 99, 800, 1_000);
         assert_eq!(pulse, Err(Refusal::InvalidInterval));
+        let pulse = reader.feed_pulse(settings(0, 0, 0), 100, 800, 1_000);
+        assert_eq!(pulse, Err(Refusal::InvalidWidthSetting));
         assert_eq!(reader.words(), words);
     }
     for setting in [0, 1, 6, 255, 256 + 2, u64::MAX] {
@@ -532,10 +632,12 @@ fn readers_of_any_words() {
         for symbol in [0, 2, 4, 255] {
             assert_eq!(reader.feed(symbol), Err(Refusal::InvalidSetting));
         }
-        let pulse = reader.feed_pulse(1_000, 800, 1_000);
+        let pulse = reader.feed_pulse(USUAL, 1_000, 800, 1_000);
         assert_eq!(pulse, Err(Refusal::InvalidSetting));
-        let pulse = reader.feed_pulse(99, 800, 1_000);
+        let pulse = reader.feed_pulse(settings(0, 0, 0), 99, 800, 1_000);
         assert_eq!(pulse, Err(Refusal::InvalidInterval));
+        let pulse = reader.feed_pulse(settings(0, 0, 0), 100, 800, 1_000);
+        assert_eq!(pulse, Err(Refusal::InvalidWidthSetting));
         assert_eq!(reader.words(), words);
         words[3] = 60;
         let mut reader = Reader::from_words(words);

@@ -1,15 +1,15 @@
-// The calls as a C interface: numbers, formats and times by value; frames, lists and a reader of fourteen words lent; and one struct back from each call.
+// The calls as a C interface: numbers, formats, times and width settings by value; frames, lists and a reader of fourteen words lent; and one struct back from each call.
 // Every input is allowed. A struct's number is 0 or document 01's; where it is not 0, every other field is 0 but Read's and the converters' index, and lent memory is as it was.
 ghost use mathlib.Core.Path.{_≡_};
-ghost use Rattle.timecode.specs.Calls.{differenceOf, classifyOf, classifyListOf, classifyListLeaves, scanOf};
+ghost use Rattle.timecode.specs.Calls.{differenceOf, classifyOf, classifyListOf, symbolsLeft, deviationsLeft, scanOf};
 ghost use Rattle.timecode.specs.Editions.{forwardOf, forwardLeaves, backwardOf, backwardLeaves};
 ghost use Rattle.timecode.specs.Frames.{readOf, writeOf, writeLeaves, stepOf, stepBackOf};
 ghost use Rattle.block.specs.Blocks.{lists, listsLeft, blockFor};
 ghost use Rattle.block_words.specs.BlockWords.{blockResultOf, feedBlockWords, blockWordsLeft};
-ghost use Rattle.ffi.specs.Structs.{writeResultOf, convertResultOf, readResultOf, stepResultOf, differenceResultOf, classifyResultOf, scanResultOf, feedResultOf};
+ghost use Rattle.ffi.specs.Structs.{writeResultOf, convertResultOf, readResultOf, stepResultOf, differenceResultOf, classifyResultOf, scanResultOf, feedResultOf, withDeviation};
 ghost use Rattle.stream.specs.Feeding.{madeOf};
 ghost use Rattle.pulse_feed.specs.PulseFeeds.{feedPulseOf};
-ghost use Rattle.reader_words.specs.Words.{readerIn, freshResultOf, freshLeft, feedWords, wordsLeft};
+ghost use Rattle.reader_words.specs.Words.{readerIn, freshResultOf, freshLeft, fedWith, feedWords, wordsLeft};
 use block_feed::feed_block;
 use block_words::BlockResult;
 use block_words::put_block;
@@ -21,6 +21,7 @@ use editions::forward;
 use ffi::ClassifyResult;
 use ffi::ConvertResult;
 use ffi::DifferenceResult;
+use ffi::FeedPulseResult;
 use ffi::FeedResult;
 use ffi::ReadResult;
 use ffi::ScanResult;
@@ -29,6 +30,7 @@ use ffi::WriteResult;
 use ffi::classify_result;
 use ffi::convert_result;
 use ffi::difference_result;
+use ffi::feed_pulse_result;
 use ffi::read_result;
 use ffi::scan_result;
 use ffi::step_result;
@@ -44,6 +46,7 @@ use reader_words::reader_in;
 use scan::scan;
 use timecode::Format;
 use timecode::Time;
+use timecode::WidthSettings;
 use word_feed::feed_words;
 
 // Write: a time and a control word as the bytes of the frame.
@@ -151,21 +154,23 @@ pub extern "C" fn duskveyra_feed(reader: &mut [u64; 14], symbol: u8) -> FeedResu
     feed_words(reader, symbol)
 }
 
-// One Feed of a pulse's symbol.
+// One Feed of a pulse's symbol, with the pulse's deviation.
 #[no_mangle]
 pub extern "C" fn duskveyra_feed_pulse(
     reader: &mut [u64; 14],
+    settings: WidthSettings,
     interval: u32,
     width: u32,
     period: u32,
-) -> FeedResult
-    ensures { λ r. ⌜ r ≡ feedResultOf (feedPulseOf (readerIn (now (reader .entry))) interval width period .answer) ⌝ }
-    ensures { λ _. ⌜ now (reader .exit) ≡ wordsLeft (feedPulseOf (readerIn (now (reader .entry))) interval width period) (now (reader .entry)) ⌝ }
+) -> FeedPulseResult
+    ensures { λ r. ⌜ r ≡ withDeviation (feedResultOf (feedPulseOf (readerIn (now (reader .entry))) settings interval width period .answer)) (feedPulseOf (readerIn (now (reader .entry))) settings interval width period .deviation) ⌝ }
+    ensures { λ _. ⌜ now (reader .exit) ≡ wordsLeft (fedWith (feedPulseOf (readerIn (now (reader .entry))) settings interval width period .reader) (feedPulseOf (readerIn (now (reader .entry))) settings interval width period .answer)) (now (reader .entry)) ⌝ }
 {
-    let fed = feed_pulse(reader_in(*reader), interval, width, period);
+    let fed = feed_pulse(reader_in(*reader), settings, interval, width, period);
     let next = fed.reader;
     let answer = fed.answer;
-    put_fed(next, answer, reader)
+    let deviation = fed.deviation;
+    feed_pulse_result(put_fed(next, answer, reader), deviation)
 }
 
 // A block of symbols, with its reports put into a list for each field: indexes, years, days, hundredths and control words.
@@ -197,26 +202,35 @@ pub extern "C" fn duskveyra_feed_block(
     put_block(next, answer, reader)
 }
 
-// The classifier: the symbol of one pulse.
+// The classifier: the symbol and the deviation of one pulse.
 #[no_mangle]
-pub extern "C" fn duskveyra_classify(interval: u32, width: u32, period: u32) -> ClassifyResult
-    ensures { λ r. ⌜ r ≡ classifyResultOf (classifyOf interval width period) ⌝ }
+pub extern "C" fn duskveyra_classify(
+    settings: WidthSettings,
+    interval: u32,
+    width: u32,
+    period: u32,
+) -> ClassifyResult
+    ensures { λ r. ⌜ r ≡ classifyResultOf (classifyOf settings interval width period) ⌝ }
 {
-    classify_result(classify(interval, width, period))
+    classify_result(classify(settings, interval, width, period))
 }
 
-// The classifier over lists of pulses.
+// The classifier over lists of pulses, with their deviations put into a list of their own.
 #[no_mangle]
 pub extern "C" fn duskveyra_classify_list(
+    settings: WidthSettings,
     interval: u32,
     widths: &[u32],
     periods: &[u32],
     symbols: &mut [u8],
+    deviations: &mut [i32],
 ) -> WriteResult
-    ensures { λ r. ⌜ r ≡ writeResultOf (classifyListOf interval (now (widths .entry)) (now (periods .entry)) (now (symbols .entry))) ⌝ }
-    ensures { λ _. ⌜ now (symbols .exit) ≡ classifyListLeaves interval (now (widths .entry)) (now (periods .entry)) (now (symbols .entry)) ⌝ }
+    ensures { λ r. ⌜ r ≡ writeResultOf (classifyListOf settings interval (now (widths .entry)) (now (periods .entry)) (now (symbols .entry)) (now (deviations .entry))) ⌝ }
+    ensures { λ _. ⌜ now (symbols .exit) ≡ symbolsLeft settings interval (now (widths .entry)) (now (periods .entry)) (now (symbols .entry)) (now (deviations .entry)) ⌝ }
+    ensures { λ _. ⌜ now (deviations .exit) ≡ deviationsLeft settings interval (now (widths .entry)) (now (periods .entry)) (now (symbols .entry)) (now (deviations .entry)) ⌝ }
 {
-    write_result(classify_list(interval, widths, periods, symbols))
+    let written = classify_list(settings, interval, widths, periods, symbols, deviations);
+    write_result(written)
 }
 
 // Scan: where a frame begins, and its time and control word.
@@ -229,8 +243,8 @@ pub extern "C" fn duskveyra_scan(format: Format, recording: &[u8], start: usize)
 
 // The number of this interface. Header and build script refer to the symbol by that number, so that a program made for another interface does not link.
 #[no_mangle]
-pub extern "C" fn duskveyra_interface_3() -> u32
-    ensures { λ r. ⌜ r ≡ 3 ⌝ }
+pub extern "C" fn duskveyra_interface_4() -> u32
+    ensures { λ r. ⌜ r ≡ 4 ⌝ }
 {
-    3
+    4
 }

@@ -1,4 +1,4 @@
--- `duskveyra_classify_list` meets its contract: the struct of the classifier's answer, and the symbols as it leaves them.
+-- `duskveyra_classify_list` meets its contract: the struct of the classifier's answer, and the symbols and deviations as it leaves them.
 use borrow.Author.Needs.{needs}
 use Rattle.recorder.proofs.duskveyra_classify_list.Statement.{statement}
 use Rattle.recorder.proofs.duskveyra_classify_list.Tie as tie
@@ -12,8 +12,13 @@ write-result-requires c κs = search needs
 same-length : tie.Need-same-length
 same-length c = search needs
 
+same-length-2 : tie.Need-same-length-2
+same-length-2 c = search needs
+
 returns : tie.Need-returns
-returns c = rw (← c .before .before .before .classify-list .ensures .0) (c .write-result .ensures, c .before .before .before .classify-list .ensures .1)
+returns c =
+    let list = c .before .before .before .before .classify-list in
+    rw (← list .ensures .0) (c .write-result .ensures, (list .ensures .1, list .ensures .2))
 
 pub duskveyra-classify-list-spec : {M : Type 1} → statement M
 duskveyra-classify-list-spec =
@@ -22,4 +27,5 @@ duskveyra-classify-list-spec =
     classify-list-requires
     write-result-requires
     same-length
+    same-length-2
     returns)
