@@ -24,7 +24,7 @@ pub use clock::{difference, next_after, step, step_back, SECOND_ADDED, SECOND_TA
 pub use editions::{backward, forward};
 pub use formats::{Format, Time, MARK, ONE, SPOILED, ZERO};
 pub use frame::{read, write};
-pub use pulse::{classify, classify_and_feed, classify_list};
+pub use pulse::{classify, classify_and_feed, classify_list, Widths};
 pub use refusal::Refusal;
 pub use scan::scan;
 pub use stream::{Answer, Reader};

@@ -34,6 +34,8 @@ pub enum Refusal {
     AddedSecond,
     /// 15: kind of day above 2, or a time past the end of a day of that kind.
     DayKind,
+    /// 16: a width setting not 1 to 14 percent.
+    Width,
     /// 17: year over 99, or not 0 in a format without one.
     Year,
     /// 18: a one among the control bits whose places the year takes.
@@ -64,6 +66,7 @@ impl Refusal {
             Refusal::Reader => 13,
             Refusal::AddedSecond => 14,
             Refusal::DayKind => 15,
+            Refusal::Width => 16,
             Refusal::Year => 17,
             Refusal::YearPlace => 18,
             Refusal::RecordCut => 19,

@@ -9,7 +9,7 @@ use common::*;
 use reference::{
     backward, classify, classify_and_feed, classify_list, difference, forward, next_after, read,
     scan, step, step_back, timeread, write, Answer, Block, Format, Reader, Refusal, Stop, Time,
-    MARK, SECOND_ADDED, SECOND_TAKEN, USUAL_DAY,
+    Widths, MARK, SECOND_ADDED, SECOND_TAKEN, USUAL_DAY,
 };
 
 const LISTING: &str = "H1\n\
@@ -737,41 +737,69 @@ fn differences() {
     }
 }
 
+fn widths(zeros: u8, ones: u8, marks: u8) -> Widths {
+    Widths { zeros, ones, marks }
+}
+
 #[test]
 fn pulses() {
-    let symbols = [149, 150, 250, 251].map(|width| classify(1_000, width, 1_000));
-    assert_eq!(symbols, [Ok(3), Ok(0), Ok(0), Ok(3)]);
-    assert_eq!(classify(99, 50, 99), Err(Refusal::Interval));
-    assert_eq!(classify(10_000_001, 0, 0), Err(Refusal::Interval));
-    assert_eq!(classify(10_000_000, u32::MAX, u32::MAX), Ok(3));
-
-    let mut lent = [9; 3];
+    let fives = widths(5, 5, 5);
+    let found = [149, 150, 250, 251].map(|width| classify(fives, 1_000, width, 1_000));
     assert_eq!(
-        classify_list(99, &[0; 2], &[0; 3], &mut lent),
+        found,
+        [Ok((3, 0)), Ok((0, -5_000)), Ok((0, 5_000)), Ok((3, 0))]
+    );
+    assert_eq!(
+        classify(widths(0, 5, 5), 99, 50, 99),
         Err(Refusal::Interval)
     );
+    assert_eq!(classify(fives, 10_000_001, 0, 0), Err(Refusal::Interval));
+    for bad in [widths(0, 5, 5), widths(5, 15, 5), widths(5, 5, 255)] {
+        assert_eq!(classify(bad, 100, 20, 100), Err(Refusal::Width));
+    }
+    assert_eq!(classify(fives, 10_000_000, u32::MAX, u32::MAX), Ok((3, 0)));
+    let widest = widths(14, 14, 14);
     assert_eq!(
-        classify_list(100, &[0; 2], &[0; 3], &mut lent),
-        Err(Refusal::Length)
+        classify(widest, 10_000_000, 9_400_000, 10_000_000),
+        Ok((2, 140_000_000))
     );
+    assert_eq!(classify(widest, 1_000, 360, 1_051), Ok((3, 0)));
+    assert_eq!(classify(widest, 1_000, 360, 1_050), Ok((1, -14_000)));
+
+    let (mut lent, mut off) = ([9; 3], [9; 3]);
+    let mut refused = |by, t, w: &[u32], p: &[u32], n: usize| {
+        let answer = classify_list(by, t, w, p, &mut lent, &mut off[..n]);
+        assert_eq!((lent, off), ([9; 3], [9; 3]));
+        answer
+    };
+    let (two, three) = ([0; 2], [0; 3]);
+    let zeros = widths(0, 0, 0);
+    assert_eq!(refused(zeros, 99, &two, &three, 3), Err(Refusal::Interval));
+    assert_eq!(refused(zeros, 100, &two, &three, 3), Err(Refusal::Width));
+    assert_eq!(refused(fives, 100, &two, &three, 3), Err(Refusal::Length));
+    assert_eq!(refused(fives, 100, &three, &two, 3), Err(Refusal::Length));
+    assert_eq!(refused(fives, 100, &three, &three, 2), Err(Refusal::Length));
     assert_eq!(
-        classify_list(100, &[0; 3], &[0; 2], &mut lent),
-        Err(Refusal::Length)
-    );
-    assert_eq!(lent, [9; 3]);
-    assert_eq!(
-        classify_list(100, &[20, 50, 80], &[100; 3], &mut lent),
+        classify_list(fives, 100, &[21, 50, 78], &[100; 3], &mut lent, &mut off),
         Ok(())
     );
-    assert_eq!(lent, [0, 1, 2]);
-    assert_eq!(classify_list(100, &[], &[], &mut []), Ok(()));
+    assert_eq!((lent, off), ([0, 1, 2], [100, 0, -200]));
+    assert_eq!(
+        classify_list(fives, 100, &[], &[], &mut [], &mut []),
+        Ok(())
+    );
 
     let mut reader = Reader::fresh(format("H1"), 2).unwrap();
     let before = reader.clone();
-    let refused = classify_and_feed(&mut reader, 99, 80, 100);
-    assert_eq!(refused, Answer::Refused(Refusal::Interval));
-    assert_eq!(reader, before);
-    assert_eq!(classify_and_feed(&mut reader, 100, 80, 100), Answer::Quiet);
+    for (by, t, refusal) in [(zeros, 99, Refusal::Interval), (zeros, 100, Refusal::Width)] {
+        let refused = classify_and_feed(&mut reader, by, t, 80, 100);
+        assert_eq!(refused, (Answer::Refused(refusal), 0));
+        assert_eq!(reader, before);
+    }
+    assert_eq!(
+        classify_and_feed(&mut reader, fives, 100, 81, 100),
+        (Answer::Quiet, 100)
+    );
     assert_eq!(reader.place(), 1);
 }
 

@@ -140,6 +140,14 @@ impl Line<'_> {
     fn elements(&self, word: usize) -> Vec<u8> {
         elements(self.0[word])
     }
+
+    fn widths(&self, word: usize) -> Widths {
+        Widths {
+            zeros: self.number(word),
+            ones: self.number(word + 1),
+            marks: self.number(word + 2),
+        }
+    }
 }
 
 fn answer(line: &str) -> String {
@@ -157,8 +165,13 @@ fn answer(line: &str) -> String {
         "backward" => lent(line.number(4), |earlier| {
             backward(line.format(), &line.elements(3), earlier)
         }),
-        "classify" => classify(line.number(1), line.number(2), line.number(3))
-            .map(|symbol| symbol.to_string()),
+        "classify" => classify(
+            line.widths(2),
+            line.number(1),
+            line.number(5),
+            line.number(6),
+        )
+        .map(|(symbol, deviation)| format!("{symbol} {deviation}")),
         "scan" => scan(line.format(), &line.elements(3), line.number(4)).map(found),
         "feeds" => Reader::fresh(line.format(), line.number(3))
             .map(|reader| reports(reader, &line.elements(4))),
