@@ -5,7 +5,7 @@ use crate::streams::{control, format_of, frame, random_bits, setting, table, tim
 use crate::{
     agree, plain_refused, refused, Counts, COUNT, DAY, HUNDREDTHS, PLACE, ROW, SETTING, YEAR,
 };
-use reference::{Format, Time};
+use reference::{Format, Time, Widths};
 
 /// How many of each call go with a stream.
 const TURNS: usize = 60;
@@ -448,45 +448,95 @@ fn any_ticks(random: &mut Random, interval: u32, percents: &[u64]) -> u32 {
     }
 }
 
-fn any_pulse(random: &mut Random, interval: u32) -> (u32, u32) {
-    let width = any_ticks(random, interval, &[0, 15, 25, 45, 55, 75, 85, 100]);
+/// Settings of 1 to 14 percent; once in eight times one is out of range.
+fn any_settings(random: &mut Random) -> Widths {
+    let mut percents = [0; 3].map(|_| 1 + random.below(14) as u8);
+    if random.once_in(8) {
+        let any = random.next() as u8;
+        percents[random.index(3)] = random.pick(&[0, 15, 255, any]);
+    }
+    let [zeros, ones, marks] = percents;
+    Widths { zeros, ones, marks }
+}
+
+pub fn library_settings(settings: Widths) -> duskveyra::WidthSettings {
+    duskveyra::WidthSettings {
+        zeros: settings.zeros,
+        ones: settings.ones,
+        marks: settings.marks,
+    }
+}
+
+pub fn plain_pulse(pulse: duskveyra::Pulse) -> (u8, i32) {
+    (pulse.symbol, pulse.deviation)
+}
+
+/// A width about the ends of the classes, and a period about its own.
+fn any_pulse(random: &mut Random, settings: Widths, interval: u32) -> (u32, u32) {
+    let [z, o, m] = [settings.zeros, settings.ones, settings.marks].map(|s| u64::from(s.min(15)));
+    let ends = [0, 20 - z, 20 + z, 50 - o, 50 + o, 80 - m, 80 + m, 100];
+    let width = any_ticks(random, interval, &ends);
     let period = any_ticks(random, interval, &[95, 95, 95, 105, 0]);
     (width, period)
 }
 
 fn classify(random: &mut Random) -> Result<(), String> {
     let interval = any_interval(random);
-    let (width, period) = any_pulse(random, interval);
+    let settings = any_settings(random);
+    let (width, period) = any_pulse(random, settings, interval);
+    let library = duskveyra::classify(library_settings(settings), interval, width, period);
     agree(
-        || format!("classify T {interval} width {width} period {period}"),
-        duskveyra::classify(interval, width, period).map_err(refused),
-        reference::classify(interval, width, period).map_err(plain_refused),
+        || format!("classify {settings:?} T {interval} width {width} period {period}"),
+        library.map(plain_pulse).map_err(refused),
+        reference::classify(settings, interval, width, period).map_err(plain_refused),
     )
 }
 
 fn classify_list(random: &mut Random) -> Result<(), String> {
     let interval = any_interval(random);
+    let settings = any_settings(random);
     let length = random.index(60);
-    let mut lengths = [length; 3];
+    let mut lengths = [length; 4];
     if random.once_in(4) {
-        let which = random.index(3);
+        let which = random.index(4);
         lengths[which] = random.index(60);
     }
-    let pulses: Vec<(u32, u32)> = (0..60).map(|_| any_pulse(random, interval)).collect();
+    let pulses: Vec<(u32, u32)> = (0..60)
+        .map(|_| any_pulse(random, settings, interval))
+        .collect();
     let widths: Vec<u32> = pulses[..lengths[0]].iter().map(|pulse| pulse.0).collect();
     let periods: Vec<u32> = pulses[..lengths[1]].iter().map(|pulse| pulse.1).collect();
     let fill = random.next() as u8;
-    let mut library = vec![fill; lengths[2] + 2 * GUARD];
-    let mut plain = library.clone();
-    let lent = GUARD..GUARD + lengths[2];
-    let answer = duskveyra::classify_list(interval, &widths, &periods, &mut library[lent.clone()]);
-    let expected = reference::classify_list(interval, &widths, &periods, &mut plain[lent]);
+    let mut symbols = vec![fill; lengths[2] + 2 * GUARD];
+    let mut deviations = vec![i32::from(fill); lengths[3] + 2 * GUARD];
+    let (mut plain_symbols, mut plain_deviations) = (symbols.clone(), deviations.clone());
+    let (lent, off) = (GUARD..GUARD + lengths[2], GUARD..GUARD + lengths[3]);
+    let answer = duskveyra::classify_list(
+        library_settings(settings),
+        interval,
+        &widths,
+        &periods,
+        &mut symbols[lent.clone()],
+        &mut deviations[off.clone()],
+    );
+    let expected = reference::classify_list(
+        settings,
+        interval,
+        &widths,
+        &periods,
+        &mut plain_symbols[lent],
+        &mut plain_deviations[off],
+    );
     agree(
         || {
-            format!("classify_list T {interval} widths {widths:?} periods {periods:?} lengths {lengths:?} fill {fill}")
+            format!("classify_list {settings:?} T {interval} widths {widths:?} periods {periods:?} lengths {lengths:?} fill {fill}")
         },
-        (answer.map_err(refused), library),
-        (expected.map_err(plain_refused), plain),
+        (answer.map_err(refused), symbols, deviations),
+        (
+            expected.map_err(plain_refused),
+            plain_symbols,
+            plain_deviations,
+        ),
     )
 }
 
@@ -589,7 +639,7 @@ pub fn refused_reader(words: &Words) -> Option<u8> {
     (!(2..=5).contains(&words[SETTING])).then_some(26)
 }
 
-/// A reader of any words, fed a symbol and a pulse: 13, 26, then 4 for a symbol above 3, the pulse's 10 before them, and
+/// A reader of any words, fed a symbol and a pulse: 13, 26, then 4 for a symbol above 3, the pulse's 10 and 16 before them, and
 /// after a refusal the same words. `reference` cannot make such a reader; the rule is that of documents 01 and 02.
 fn any_reader(random: &mut Random) -> Result<(), String> {
     let format = random.pick(&FORMATS);
@@ -604,24 +654,26 @@ fn any_reader(random: &mut Random) -> Result<(), String> {
     left_alone(what, expected, &reader, &words)?;
 
     let interval = any_interval(random);
-    let (width, period) = any_pulse(random, interval);
-    let classified = reference::classify(interval, width, period);
+    let settings = any_settings(random);
+    let (width, period) = any_pulse(random, settings, interval);
+    let classified = reference::classify(settings, interval, width, period);
     let expected = match classified {
         Ok(_) => refused_reader(&words),
         Err(refusal) => Some(refusal.number()),
     };
     let mut by_pulse = duskveyra::Reader::from_words(words);
-    let answer = by_pulse.feed_pulse(interval, width, period);
-    let what = || format!("pulse T {interval} width {width} period {period} to {words:x?}");
+    let answer = by_pulse.feed_pulse(library_settings(settings), interval, width, period);
+    let what =
+        || format!("pulse {settings:?} T {interval} width {width} period {period} to {words:x?}");
     agree(what, answer.err().map(|refusal| refusal.number()), expected)?;
     left_alone(what, expected, &by_pulse, &words)?;
     let mut by_symbol = duskveyra::Reader::from_words(words);
     match classified {
-        Ok(symbol) => agree(
-            what,
-            (answer, by_pulse),
-            (by_symbol.feed(symbol), by_symbol),
-        ),
+        Ok((symbol, deviation)) => {
+            let fed = by_symbol.feed(symbol);
+            let expected = fed.map(|report| duskveyra::FedPulse { report, deviation });
+            agree(what, (answer, by_pulse), (expected, by_symbol))
+        }
         Err(_) => Ok(()),
     }
 }
@@ -637,27 +689,28 @@ fn left_alone(
     agree(|| format!("words left: {}", what()), left, true)
 }
 
-/// A pulse with any interval to a fresh reader: refused as the classifier refuses it, and the reader left as it was.
+/// A pulse with any interval and any settings to a fresh reader: refused as the classifier refuses it, and the reader left as it was.
 fn refused_pulse(random: &mut Random) -> Result<(), String> {
     let format = format_of(random.pick(&FORMATS));
     let setting = setting(random);
     let interval = any_interval(random);
-    let (width, period) = any_pulse(random, interval);
+    let settings = any_settings(random);
+    let (width, period) = any_pulse(random, settings, interval);
     let mut plain =
         reference::Reader::fresh(format, setting).map_err(|_| "no fresh reader".to_string())?;
     let mut library = duskveyra::Reader::fresh(library_format(format), setting)
         .map_err(|refusal| format!("{format:?}: {refusal}"))?;
     let mut fed = library.clone();
-    let expected = crate::plain_fed(reference::classify_and_feed(
-        &mut plain, interval, width, period,
-    ));
-    if let Ok(symbol) = reference::classify(interval, width, period) {
+    let (answer, deviation) =
+        reference::classify_and_feed(&mut plain, settings, interval, width, period);
+    let expected = crate::plain_fed(answer).map(|report| (report, deviation));
+    if let Ok((symbol, _)) = reference::classify(settings, interval, width, period) {
         let _ = fed.feed(symbol);
     }
-    let answer = crate::fed(library.feed_pulse(interval, width, period));
+    let answer = library.feed_pulse(library_settings(settings), interval, width, period);
     agree(
-        || format!("feed_pulse {format:?} T {interval} width {width} period {period}"),
-        (answer, library.words()),
+        || format!("feed_pulse {format:?} {settings:?} T {interval} width {width} period {period}"),
+        (crate::fed_pulse(answer), library.words()),
         (expected, fed.words()),
     )
 }

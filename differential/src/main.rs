@@ -71,6 +71,16 @@ fn fed(answer: Result<Option<duskveyra::Report>, duskveyra::Refusal>) -> Fed {
     }
 }
 
+/// What a pulse brought, and its deviation.
+fn fed_pulse(
+    answer: Result<duskveyra::FedPulse, duskveyra::Refusal>,
+) -> Result<(Option<(Time, u64)>, i32), Refused> {
+    match answer {
+        Ok(pulse) => Ok((pulse.report.map(calls::values), pulse.deviation)),
+        Err(refusal) => Err(refused(refusal)),
+    }
+}
+
 fn plain_fed(answer: Answer) -> Fed {
     match answer {
         Answer::Quiet => Ok(None),
@@ -126,19 +136,22 @@ fn window(format: reference::Format, setting: u8) -> usize {
     usize::from(setting) * table(format).0 + lead(format)
 }
 
-/// A pulse that the classifier takes for the symbol.
-fn pulse_for(random: &mut Random, symbol: u8) -> (u32, u32, u32) {
+/// Settings, an interval, a width and a period that the classifier takes for the symbol.
+fn pulse_for(random: &mut Random, symbol: u8) -> (reference::Widths, u32, u32, u32) {
     let t = 100 + random.below(9_999_901) as u32;
-    let percent = |ticks: u64| (u64::from(t) * ticks).div_ceil(100) as u32;
+    let percent = |percents: u64| (u64::from(t) * percents).div_ceil(100) as u32;
     let period = percent(95) + random.below(u64::from(t) / 20) as u32;
-    let low = match symbol {
-        0 => 15,
-        1 => 45,
-        2 => 75,
-        _ => 60,
+    let percents = [0; 3].map(|_| 1 + random.below(14));
+    let width = match percents.get(usize::from(symbol)) {
+        Some(&setting) => {
+            let centre = 20 + 30 * u64::from(symbol);
+            percent(centre - setting) + random.below(2 * setting * u64::from(t) / 100) as u32
+        }
+        // between the classes of zeros and ones, however wide they are
+        None => percent(35),
     };
-    let width = percent(low) + random.below(u64::from(t) / 20) as u32;
-    (t, width, period)
+    let [zeros, ones, marks] = percents.map(|setting| setting as u8);
+    (reference::Widths { zeros, ones, marks }, t, width, period)
 }
 
 /// The readers that receive one stream: the library's, fed symbols and fed pulses, that of `reference`, and the plain
@@ -204,15 +217,22 @@ impl Readers {
 
     /// A pulse of the symbol that all others were fed, to the reader that is fed pulses.
     fn feed_pulse(&mut self, random: &mut Random, symbol: u8, expected: Fed) -> Result<(), String> {
-        let (t, width, period) = pulse_for(random, symbol);
-        let pulse = || format!("pulse T {t}, width {width}, period {period}");
-        let classified = duskveyra::classify(t, width, period).map_err(refused);
-        agree(pulse, classified, Ok(symbol))?;
-        let answer = fed(self.by_pulse.feed_pulse(t, width, period));
+        let (widths, t, width, period) = pulse_for(random, symbol);
+        let settings = calls::library_settings(widths);
+        let pulse = || format!("pulse {widths:?} T {t}, width {width}, period {period}");
+        let (_, deviation) = reference::classify(widths, t, width, period)
+            .map_err(|refusal| format!("{}: {refusal:?}", pulse()))?;
+        let classified = duskveyra::classify(settings, t, width, period);
+        let classified = classified.map(calls::plain_pulse).map_err(refused);
+        agree(pulse, classified, Ok((symbol, deviation)))?;
+        let answer = fed_pulse(self.by_pulse.feed_pulse(settings, t, width, period));
         agree(
             || format!("{}, {}", pulse(), self.context(symbol)),
             (answer, self.by_pulse.words()),
-            (expected, self.library.words()),
+            (
+                expected.map(|report| (report, deviation)),
+                self.library.words(),
+            ),
         )
     }
 }
