@@ -1,6 +1,9 @@
 -- The struct of each answer: its number first, with Read's and the converters' the index, then its values; a field for which the answer has no value is 0.
 use Prim.Native.Nat.{ℕ}
 use lib.IntN.{ℤ, pos}
+use Rattle.forecasts.specs.Forecasting.{zeroFloat}
+use Rattle.forecasts.specs.declared.Forecast.{Forecast}
+use Rattle.forecasts.specs.declared.Forecast.the-variants.{Expected}
 use Rattle.timecode.specs.Answers.{refusalNumber}
 use Rattle.timecode.specs.Frames.{noTime}
 use Rattle.timecode.specs.declared.Answer.{Answer}
@@ -50,6 +53,7 @@ use Rattle.ffi.specs.declared.ConvertResult.{ConvertResult}
 use Rattle.ffi.specs.declared.DifferenceResult.{DifferenceResult}
 use Rattle.ffi.specs.declared.FeedPulseResult.{FeedPulseResult}
 use Rattle.ffi.specs.declared.FeedResult.{FeedResult}
+use Rattle.ffi.specs.declared.ForecastResult.{ForecastResult}
 use Rattle.ffi.specs.declared.ReadResult.{ReadResult}
 use Rattle.ffi.specs.declared.ScanResult.{ScanResult}
 use Rattle.ffi.specs.declared.StepResult.{StepResult}
@@ -122,3 +126,7 @@ feedResultOf (Answer.Refused x) = record { number = refusalNumber x; reported = 
 -- a pulse fed: what the Feed brought, and the deviation, which is 0 beside a refusal (pulse_feed.PulseFeeds.refused-pulse-no-deviation)
 abbrev pub withDeviation : FeedResult → ℤ → FeedPulseResult
 withDeviation r d = record { number = r .number; reported = r .reported; time = r .time; control = r .control; deviation = d }
+
+abbrev pub forecastResultOf : Forecast → ForecastResult
+forecastResultOf (Expected x) = record { number = 0; error = x }
+forecastResultOf (Forecast.Refused x) = record { number = refusalNumber x; error = zeroFloat }

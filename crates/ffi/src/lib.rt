@@ -2,7 +2,8 @@
 // A field for which an answer has no value is 0. Which struct belongs to which answer, and that it has the answer's number and values, stands in specs/.
 ghost use mathlib.Core.Path.{_≡_};
 ghost use Rattle.timecode.specs.Frames.{noTime};
-ghost use Rattle.ffi.specs.Structs.{refusalIndex, writeResultOf, convertResultOf, readResultOf, stepResultOf, differenceResultOf, classifyResultOf, scanResultOf, feedResultOf, withDeviation};
+ghost use Rattle.ffi.specs.Structs.{refusalIndex, writeResultOf, convertResultOf, readResultOf, stepResultOf, differenceResultOf, classifyResultOf, scanResultOf, feedResultOf, withDeviation, forecastResultOf};
+use forecasts::Forecast;
 use refusals::number_of;
 use timecode::Answer;
 use timecode::Classified;
@@ -79,6 +80,13 @@ pub struct FeedPulseResult {
     pub time: Time,
     pub control: u64,
     pub deviation: i32,
+}
+
+// The hold-over forecast.
+#[repr(C)]
+pub struct ForecastResult {
+    pub number: u8,
+    pub error: f64,
 }
 
 pub fn zero_time() -> Time
@@ -283,5 +291,20 @@ pub fn feed_pulse_result(fed: FeedResult, deviation: i32) -> FeedPulseResult
         time: time,
         control: fed.control,
         deviation: deviation,
+    }
+}
+
+pub fn forecast_result(forecast: Forecast) -> ForecastResult
+    ensures { λ r. ⌜ r ≡ forecastResultOf forecast ⌝ }
+{
+    match forecast {
+        Forecast::Expected(error) => ForecastResult {
+            number: 0,
+            error: error,
+        },
+        Forecast::Refused(refusal) => ForecastResult {
+            number: number_of(refusal),
+            error: 0.0,
+        },
     }
 }

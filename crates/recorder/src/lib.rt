@@ -6,7 +6,8 @@ ghost use Rattle.timecode.specs.Editions.{forwardOf, forwardLeaves, backwardOf,
 ghost use Rattle.timecode.specs.Frames.{readOf, writeOf, writeLeaves, stepOf, stepBackOf};
 ghost use Rattle.block.specs.Blocks.{lists, listsLeft, blockFor};
 ghost use Rattle.block_words.specs.BlockWords.{blockResultOf, feedBlockWords, blockWordsLeft};
-ghost use Rattle.ffi.specs.Structs.{writeResultOf, convertResultOf, readResultOf, stepResultOf, differenceResultOf, classifyResultOf, scanResultOf, feedResultOf, withDeviation};
+ghost use Rattle.ffi.specs.Structs.{writeResultOf, convertResultOf, readResultOf, stepResultOf, differenceResultOf, classifyResultOf, scanResultOf, feedResultOf, withDeviation, forecastResultOf};
+ghost use Rattle.forecasts.specs.Forecasting.{forecastOf};
 ghost use Rattle.stream.specs.Feeding.{madeOf};
 ghost use Rattle.pulse_feed.specs.PulseFeeds.{feedPulseOf};
 ghost use Rattle.reader_words.specs.Words.{readerIn, freshResultOf, freshLeft, fedWith, feedWords, wordsLeft};
@@ -23,6 +24,7 @@ use ffi::ConvertResult;
 use ffi::DifferenceResult;
 use ffi::FeedPulseResult;
 use ffi::FeedResult;
+use ffi::ForecastResult;
 use ffi::ReadResult;
 use ffi::ScanResult;
 use ffi::StepResult;
@@ -31,12 +33,15 @@ use ffi::classify_result;
 use ffi::convert_result;
 use ffi::difference_result;
 use ffi::feed_pulse_result;
+use ffi::forecast_result;
 use ffi::read_result;
 use ffi::scan_result;
 use ffi::step_result;
 use ffi::write_result;
+use forecasts::Oscillator;
 use frame::read;
 use frame::write;
+use holdover::forecast;
 use pulse::classify;
 use pulse::classify_list;
 use pulse_feed::feed_pulse;
@@ -239,6 +244,14 @@ pub extern "C" fn duskveyra_scan(format: Format, recording: &[u8], start: usize)
     ensures { λ r. ⌜ r ≡ scanResultOf (scanOf format (now (recording .entry)) start) ⌝ }
 {
     scan_result(scan(format, recording, start))
+}
+
+// The hold-over forecast: the error that is expected so many whole seconds after the code is cut.
+#[no_mangle]
+pub extern "C" fn duskveyra_forecast(oscillator: Oscillator, seconds: u32) -> ForecastResult
+    ensures { λ r. ⌜ r ≡ forecastResultOf (forecastOf oscillator seconds) ⌝ }
+{
+    forecast_result(forecast(oscillator, seconds))
 }
 
 // The number of this interface. Header and build script refer to the symbol by that number, so that a program made for another interface does not link.
