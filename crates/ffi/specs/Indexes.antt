@@ -1,11 +1,12 @@
--- Read and the converters alone refuse with 5 or 6: a struct without an index leaves out no value of a refusal.
+-- Read, the converters and decoding alone refuse with 5, 6 or 25: a struct without an index leaves out no value of a refusal.
 use mathlib.Core.Path.{_≡_, refl}
 use mathlib.Core.Bool.{Bool, true, false, _&&_}
 use mathlib.Core.List.{List, []}
-use Prim.Native.Nat.{ℕ, zero, suc, _+_, _-_}
+use Prim.Native.Nat.{ℕ, zero, suc, _+_, _*_, _-_}
 use lib.Dec.{leb, eqb}
 use lib.IntN.{ℤ}
 use lib.ListN.{getD, length}
+use Rattle.cycles.specs.Cycles.{isModulated, isCycleCount, checkFrame, unspoiled, encodeOf}
 use Rattle.timecode.specs.Answers.{Result, writtenResult, steppedResult, subtractedResult, classifiedResult, scannedResult}
 use Rattle.timecode.specs.Calls.{isInterval, areWidthSettings, classifyOf, classifyListOf, differenceOf, found, leadAt, lowestOf, scanOf, partAt, firstPlace}
 use Rattle.timecode.specs.Formats.{known, size, lastDay, yearCarried, inRange, onFormat, secondCarried}
@@ -53,6 +54,10 @@ classify-list-no-index s T widths periods symbols deviations =
     (λ b. rw b (by-test (eqb (length widths) (length symbols) && (eqb (length periods) (length symbols) && eqb (length deviations) (length symbols))) (λ d. rw d) (λ d. rw d)))
     (λ b. rw b)))
     (λ a. rw a)
+
+pub encode-no-index : (f : Format) (M : ℕ) (frame lent : List ℕ) → refusedValues (writtenResult (encodeOf f M frame lent)) ≡ []
+unfolding encodeOf checkFrame
+encode-no-index f M frame lent = by-test (isModulated f) (λ a. rw a (by-test (isCycleCount M) (λ b. rw b (by-test (eqb (length frame) (size f) && eqb (length lent) (size f * M)) (λ d. rw d (by-test (unspoiled frame) (λ e. rw e) (λ e. rw e))) (λ d. rw d))) (λ b. rw b))) (λ a. rw a)
 
 found-no-index : (b : Bool) (r : Reading) (a : ℕ) (after : Scanned) → refusedValues (scannedResult after) ≡ [] → refusedValues (scannedResult (found b r a after)) ≡ []
 found-no-index true (Accepted t w) a after h = refl

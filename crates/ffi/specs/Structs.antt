@@ -1,4 +1,4 @@
--- The struct of each answer: its number first, with Read's and the converters' the index, then its values; a field for which the answer has no value is 0.
+-- The struct of each answer: its number first, with Read's, the converters' and decoding's the index, then its values; a field for which the answer has no value is 0.
 use Prim.Native.Nat.{ℕ}
 use lib.IntN.{ℤ, pos}
 use Rattle.forecasts.specs.Forecasting.{zeroFloat}

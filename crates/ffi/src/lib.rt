@@ -1,4 +1,4 @@
-// The answers as C's structs, by value: the number of the refusal or 0 first, with Read's and the converters' the index, then the values.
+// The answers as C's structs, by value: the number of the refusal or 0 first, with Read's, the converters' and decoding's the index, then the values.
 // A field for which an answer has no value is 0. Which struct belongs to which answer, and that it has the answer's number and values, stands in specs/.
 ghost use mathlib.Core.Path.{_≡_};
 ghost use Rattle.timecode.specs.Frames.{noTime};
@@ -15,13 +15,13 @@ use timecode::Subtracted;
 use timecode::Time;
 use timecode::Written;
 
-// Write, the classifier over lists, and a fresh reader: whether the lent memory was written.
+// Write, the classifier over lists, a fresh reader, and encoding: whether the lent memory was written.
 #[repr(C)]
 pub struct WriteResult {
     pub number: u8,
 }
 
-// The converters between the editions, which refuse as Read does: with 5 and 6 goes the index.
+// The converters between the editions, which refuse as Read does, and decoding: with 5, 6 and 25 goes the index.
 #[repr(C)]
 pub struct ConvertResult {
     pub number: u8,

@@ -1,11 +1,12 @@
 // The calls as a C interface: numbers, formats, times and width settings by value; frames, lists and a reader of fourteen words lent; and one struct back from each call.
-// Every input is allowed. A struct's number is 0 or document 01's; where it is not 0, every other field is 0 but Read's and the converters' index, and lent memory is as it was.
+// Every input is allowed. A struct's number is 0 or that of documents 01 and 02; where it is not 0, every other field is 0 but the index of Read, the converters and decoding, and lent memory is as it was.
 ghost use mathlib.Core.Path.{_≡_};
 ghost use Rattle.timecode.specs.Calls.{differenceOf, classifyOf, classifyListOf, symbolsLeft, deviationsLeft, scanOf};
 ghost use Rattle.timecode.specs.Editions.{forwardOf, forwardLeaves, backwardOf, backwardLeaves};
 ghost use Rattle.timecode.specs.Frames.{readOf, writeOf, writeLeaves, stepOf, stepBackOf};
 ghost use Rattle.block.specs.Blocks.{lists, listsLeft, blockFor};
 ghost use Rattle.block_words.specs.BlockWords.{blockResultOf, feedBlockWords, blockWordsLeft};
+ghost use Rattle.cycles.specs.Cycles.{encodeOf, encodeLeaves, decodeOf, decodeLeaves};
 ghost use Rattle.ffi.specs.Structs.{writeResultOf, convertResultOf, readResultOf, stepResultOf, differenceResultOf, classifyResultOf, scanResultOf, feedResultOf, withDeviation, forecastResultOf};
 ghost use Rattle.forecasts.specs.Forecasting.{forecastOf};
 ghost use Rattle.stream.specs.Feeding.{madeOf};
@@ -42,6 +43,8 @@ use forecasts::Oscillator;
 use frame::read;
 use frame::write;
 use holdover::forecast;
+use manchester_decode::decode;
+use manchester_encode::encode;
 use pulse::classify;
 use pulse::classify_list;
 use pulse_feed::feed_pulse;
@@ -244,6 +247,34 @@ pub extern "C" fn duskveyra_scan(format: Format, recording: &[u8], start: usize)
     ensures { λ r. ⌜ r ≡ scanResultOf (scanOf format (now (recording .entry)) start) ⌝ }
 {
     scan_result(scan(format, recording, start))
+}
+
+// A frame in the modified Manchester form: so many clock cycles for each symbol.
+#[no_mangle]
+pub extern "C" fn duskveyra_encode_cycles(
+    format: Format,
+    count: usize,
+    frame: &[u8],
+    cycles: &mut [u8],
+) -> WriteResult
+    ensures { λ r. ⌜ r ≡ writeResultOf (encodeOf format count (now (frame .entry)) (now (cycles .entry))) ⌝ }
+    ensures { λ _. ⌜ now (cycles .exit) ≡ encodeLeaves format count (now (frame .entry)) (now (cycles .entry)) ⌝ }
+{
+    write_result(encode(format, count, frame, cycles))
+}
+
+// Clock cycles of the modified Manchester form as a frame; with 25 the index of the cycle.
+#[no_mangle]
+pub extern "C" fn duskveyra_decode_cycles(
+    format: Format,
+    count: usize,
+    cycles: &[u8],
+    frame: &mut [u8],
+) -> ConvertResult
+    ensures { λ r. ⌜ r ≡ convertResultOf (decodeOf format count (now (cycles .entry)) (now (frame .entry))) ⌝ }
+    ensures { λ _. ⌜ now (frame .exit) ≡ decodeLeaves format count (now (cycles .entry)) (now (frame .entry)) ⌝ }
+{
+    convert_result(decode(format, count, cycles, frame))
 }
 
 // The hold-over forecast: the error that is expected so many whole seconds after the code is cut.
