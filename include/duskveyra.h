@@ -1,8 +1,8 @@
 /* The time code engine of the crack-test recorder, for C99 and C++: link with librecorder.a.
  *
  * Every function takes numbers, formats and times by value and returns one struct. Its member number is 0, or the number
- * of a refusal; where it is not 0 every other member is 0, but the index with 5 and 6, and all memory of the caller is as
- * it was. Every value of every number is allowed, and every content of lent memory; what is out of range is refused with
+ * of a refusal; where it is not 0 every other member is 0, but the index with 5, 6 and 25, and all memory of the caller
+ * is as it was. Every value of every number is allowed, and every content of lent memory; what is out of range is refused with
  * its number.
  *
  * Pointers go to frames, lists and readers alone. None may be null, also where the length beside it is 0, and no two of
@@ -80,6 +80,10 @@ enum duskveyra_number {
     DUSKVEYRA_YEAR_PLACE_TAKEN = 18,    /* a one among control bits 1 to 9, where the year would stand */
     DUSKVEYRA_RECORD_CUT_SHORT = 19,    /* the log ends within the record */
     DUSKVEYRA_INVALID_RECORD = 20,      /* a map above 15, or a field equal to the one before */
+    DUSKVEYRA_INVALID_FORECAST = 23,    /* a figure not finite, a reference of 0.0 or -0.0, or more than 16,777,216
+                                           seconds */
+    DUSKVEYRA_INVALID_CYCLE_COUNT = 24, /* cycles of an element not a multiple of 10 from 10 to 100 */
+    DUSKVEYRA_UNKNOWN_CYCLE = 25,       /* cycle neither 1 nor 2; with its index */
     DUSKVEYRA_INVALID_SETTING = 26      /* setting not 2 to 5 */
 };
 
@@ -124,6 +128,15 @@ typedef struct duskveyra_width_settings {
 
 #define DUSKVEYRA_USUAL_WIDTHS { DUSKVEYRA_USUAL_WIDTH, DUSKVEYRA_USUAL_WIDTH, DUSKVEYRA_USUAL_WIDTH }
 
+/* An oscillator's figures, in units of one's own choice but for the error: reference and frequency have one unit, and the
+ * ageing is a change of the frequency's ratio for each second. */
+typedef struct duskveyra_oscillator {
+    double error;     /* E0, its starting error in seconds */
+    double frequency; /* f0, its own frequency */
+    double reference; /* fr, the reference frequency */
+    double ageing;    /* a */
+} duskveyra_oscillator;
+
 /* A stream reader: the letter, the expression, the setting and the place; the count of the frame under way, the newest
  * symbols, three words of the frame's symbols and the row; the year, the day, the hundredths and the control word of the
  * row's last frame. It is made by duskveyra_fresh, changed by duskveyra_feed, duskveyra_feed_block and
@@ -141,7 +154,7 @@ typedef struct duskveyra_write_result {
 
 typedef struct duskveyra_convert_result {
     uint8_t number;
-    size_t index; /* with 5 and 6 the lowest index that offends, counted from 0 */
+    size_t index; /* with 5, 6 and 25 the lowest index that offends, counted from 0 */
 } duskveyra_convert_result;
 
 typedef struct duskveyra_read_result {
@@ -196,6 +209,11 @@ typedef struct duskveyra_block_result {
     size_t taken;   /* the number of symbols taken */
     size_t reports; /* the number of reports put in */
 } duskveyra_block_result;
+
+typedef struct duskveyra_forecast_result {
+    uint8_t number;
+    double error; /* in seconds; it may be infinite or no number */
+} duskveyra_forecast_result;
 
 /* Writes a time and a control word as the symbols of one frame; every byte of the frame is set.
  * Refuses with 1; 17; 2; 14; 9; 3 where frame_length is not the format's number of elements; in this order. */
@@ -296,6 +314,31 @@ duskveyra_write_result duskveyra_classify_list(duskveyra_width_settings settings
  * Refuses with 1; 12 where start is above recording_length; in this order. */
 duskveyra_scan_result duskveyra_scan(duskveyra_format format, const uint8_t *recording, size_t recording_length,
                                      size_t start);
+
+/* Encodes a frame of A, B or G in the modified Manchester form: each symbol as an element of count clock cycles, count a
+ * multiple of 10 from 10 to 100; every cycle is set. A cycle is one byte of two half levels, 1 (01, high) or 2 (10, low).
+ * A zero is count / 5 high cycles and then low ones, a one count / 2, a mark 4 * count / 5. The frame need be none that
+ * duskveyra_read takes. The standard's higher carriers, 1,000 and 10,000 cycles an element, are refused with 24.
+ * Refuses with 1, also for D, E and H; 24; 3 where frame_length is not the format's number of elements, or cycles_length
+ * not that number times count; 4 for a symbol above 2; in this order. */
+duskveyra_write_result duskveyra_encode_cycles(duskveyra_format format, size_t count, const uint8_t *frame,
+                                               size_t frame_length, uint8_t *cycles, size_t cycles_length);
+
+/* Decodes what duskveyra_encode_cycles encodes; every symbol of the frame is set. Any other run of high and low cycles in
+ * an element is symbol 3; up to 3 * count / 10 - 1 wrong cycles of an element never make another symbol of it. The cycles
+ * must begin with an element's first one: to find it is the caller's.
+ * Refuses with 1; 24; 3; as duskveyra_encode_cycles does; then 25 for a cycle that is neither 1 nor 2, with the index of
+ * the first; in this order. */
+duskveyra_convert_result duskveyra_decode_cycles(duskveyra_format format, size_t count, const uint8_t *cycles,
+                                                 size_t cycles_length, uint8_t *frame, size_t frame_length);
+
+/* The error that an oscillator is expected to have when it has run alone for that many seconds:
+ * E0 + (f0/fr - 1) t + a t t / 2, worked in this order in binary64, each operation rounded to the nearest: f0/fr, less 1,
+ * times t, added to E0; then t times t, times a, divided by 2, added last. The result has exactly these bits, or both are
+ * no number. That holds in the default floating point environment: a program that sets another rounding, or subnormal
+ * numbers to zero (as linking with -ffast-math does), changes the bits.
+ * Refuses with 23. */
+duskveyra_forecast_result duskveyra_forecast(duskveyra_oscillator oscillator, uint32_t seconds);
 
 #ifdef __cplusplus
 }

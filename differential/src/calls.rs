@@ -62,7 +62,7 @@ pub fn values(report: duskveyra::Report) -> (Time, u64) {
 }
 
 /// Mostly a format, else two bytes near one or any two.
-fn any_format(random: &mut Random) -> Format {
+pub fn any_format(random: &mut Random) -> Format {
     let mut format = format_of(random.pick(&FORMATS));
     match random.below(12) {
         0 => format.expression = random.below(9) as u8,
@@ -125,7 +125,7 @@ fn any_control(random: &mut Random, format: Format) -> u64 {
     }
 }
 
-fn any_length(random: &mut Random, format: Format) -> usize {
+pub fn any_length(random: &mut Random, format: Format) -> usize {
     let n = table(format).0;
     match random.below(8) {
         0 => random.index(130),
@@ -158,7 +158,7 @@ fn write(random: &mut Random) -> Result<(), String> {
 }
 
 /// A frame to read: right, damaged, with random bits or with random symbols.
-fn any_frame(random: &mut Random, format: Format) -> Vec<u8> {
+pub fn any_frame(random: &mut Random, format: Format) -> Vec<u8> {
     let known = reference::Reader::fresh(format, 2).is_ok();
     let mut symbols = match random.below(8) {
         0 | 1 => random_bits(random, format),
@@ -380,7 +380,7 @@ fn converted_back(
 }
 
 /// The converted frame, where both sides give it; the lent memory and what stands beside it are compared too.
-fn converted(
+pub fn converted(
     random: &mut Random,
     length: usize,
     library: impl FnOnce(&mut [u8]) -> Result<(), duskveyra::Refusal>,

@@ -4,6 +4,8 @@
 mod blocks;
 mod calls;
 mod places;
+mod cycles;
+mod forecasts;
 mod random;
 mod streams;
 
@@ -343,6 +345,8 @@ fn main() -> ExitCode {
         let difference = run(|| {
             run_stream(&mut random, &mut counts)?;
             calls::run_calls(&mut random, &mut counts)?;
+            cycles::run_cycles(&mut random, &mut counts)?;
+            forecasts::run_forecasts(&mut random, &mut counts)?;
             blocks::run_blocks(&mut random, &mut counts)
         });
         if let Err(difference) = difference {

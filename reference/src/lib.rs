@@ -1,6 +1,7 @@
 //! Serial time code after IRIG 200-98: formats A, B, D, E, G and H as
 //! pulse-width elements, with days that are a second longer or shorter, A and B
-//! with the year after IRIG 200-04, and the XR3 code as format X.
+//! with the year after IRIG 200-04, and the XR3 code as format X.200-04; A, B and G in the modified
+//! Manchester form too. Beside them the hold-over forecast.
 //!
 //! A symbol is one byte: 0 (zero or index marker), 1 (one), 2 (mark: position
 //! identifier or reference bit), 3 (spoiled, or in X a missing pulse).
@@ -12,7 +13,9 @@ mod clock;
 mod editions;
 mod formats;
 mod frame;
+mod holdover;
 mod layout;
+mod manchester;
 mod pulse;
 mod refusal;
 mod scan;
@@ -24,6 +27,8 @@ pub use clock::{difference, next_after, step, step_back, SECOND_ADDED, SECOND_TA
 pub use editions::{backward, forward};
 pub use formats::{Format, Time, MARK, ONE, SPOILED, ZERO};
 pub use frame::{read, write};
+pub use holdover::{forecast, Oscillator};
+pub use manchester::{decode_cycles, encode_cycles};
 pub use pulse::{classify, classify_and_feed, classify_list, Widths};
 pub use refusal::Refusal;
 pub use scan::scan;

@@ -1,6 +1,7 @@
 //! The numbers a call refuses with.
 
-/// Why a call was refused. Number 5 and 6 carry the index of the element.
+/// Why a call was refused. Number 5 and 6 carry the index of the element, 25
+/// that of the cycle.
 #[derive(Clone, Copy, Debug, PartialEq, Eq)]
 pub enum Refusal {
     /// 1: unknown letter or expression.
@@ -44,6 +45,12 @@ pub enum Refusal {
     RecordCut,
     /// 20: a record's map over 15, or a field equal to the one before.
     Record,
+    /// 23: a figure not finite, a zero reference, or too many seconds.
+    Forecast,
+    /// 24: cycles of an element not a multiple of 10 from 10 to 100.
+    CycleCount,
+    /// 25: cycle neither high nor low.
+    Cycle(usize),
     /// 26: a reader's setting not 2 to 5.
     Setting,
 }
@@ -71,14 +78,17 @@ impl Refusal {
             Refusal::YearPlace => 18,
             Refusal::RecordCut => 19,
             Refusal::Record => 20,
+            Refusal::Forecast => 23,
+            Refusal::CycleCount => 24,
+            Refusal::Cycle(_) => 25,
             Refusal::Setting => 26,
         }
     }
 
-    /// Index of the offending element, for numbers 5 and 6.
+    /// Index of the offending element, for numbers 5 and 6, or cycle, for 25.
     pub fn index(self) -> Option<usize> {
         match self {
-            Refusal::Mark(index) | Refusal::Element(index) => Some(index),
+            Refusal::Mark(index) | Refusal::Element(index) | Refusal::Cycle(index) => Some(index),
             _ => None,
         }
     }

@@ -82,6 +82,8 @@
 mod block;
 mod editions;
 mod pulse;
+mod holdover;
+mod manchester;
 mod refusal;
 #[allow(missing_docs)]
 pub mod sys;
@@ -90,6 +92,8 @@ mod time;
 pub use block::{Block, Stop};
 pub use editions::{backward, forward};
 pub use pulse::{classify, classify_list, FedPulse, Pulse, WidthSettings};
+pub use holdover::{forecast, Oscillator, MOST_SECONDS};
+pub use manchester::{decode_cycles, encode_cycles, HIGH_CYCLE, LOW_CYCLE};
 pub use refusal::Refusal;
 pub use time::{ParseTimeError, Time};
 

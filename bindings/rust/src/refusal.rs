@@ -3,7 +3,7 @@
 use std::error::Error;
 use std::fmt;
 
-/// Why a call was refused. The numbers 5 and 6 carry the index of the element, counted from 0.
+/// Why a call was refused. The numbers 5 and 6 carry the index of the element, 25 that of the cycle, counted from 0.
 #[derive(Clone, Copy, Debug, PartialEq, Eq, Hash)]
 pub enum Refusal {
     /// 1: letter or expression not among the formats.
@@ -49,12 +49,18 @@ pub enum Refusal {
     RecordCutShort,
     /// 20: a record's map above 15, or a field equal to the one before.
     InvalidRecord,
+    /// 23: a figure of the oscillator not finite, its reference 0.0 or -0.0, or more than 16,777,216 seconds.
+    InvalidForecast,
+    /// 24: cycles of an element not a multiple of 10 from 10 to 100.
+    InvalidCycleCount,
+    /// 25: cycle neither 1 nor 2.
+    UnknownCycle(usize),
     /// 26: the reader's setting not 2 to 5.
     InvalidSetting,
 }
 
 impl Refusal {
-    /// The number, 1 to 20 or 23 to 27.
+    /// The number, 1 to 20 or 23 to 27.23 to 26.
     pub fn number(self) -> u8 {
         match self {
             Refusal::UnknownFormat => 1,
@@ -77,19 +83,24 @@ impl Refusal {
             Refusal::YearPlaceTaken => 18,
             Refusal::RecordCutShort => 19,
             Refusal::InvalidRecord => 20,
+            Refusal::InvalidForecast => 23,
+            Refusal::InvalidCycleCount => 24,
+            Refusal::UnknownCycle(_) => 25,
             Refusal::InvalidSetting => 26,
         }
     }
 
-    /// The index of the element that offends, with the numbers 5 and 6.
+    /// The index of the element that offends, with the numbers 5 and 6, or of the cycle, with 25.
     pub fn index(self) -> Option<usize> {
         match self {
-            Refusal::MisplacedMark(index) | Refusal::InvalidElement(index) => Some(index),
+            Refusal::MisplacedMark(index)
+            | Refusal::InvalidElement(index)
+            | Refusal::UnknownCycle(index) => Some(index),
             _ => None,
         }
     }
 
-    /// What the library returned; `index` is used with 5 and 6 alone.
+    /// What the library returned; `index` is used with 5, 6 and 25 alone.
     pub(crate) fn check(number: u8, index: usize) -> Result<(), Refusal> {
         Err(match number {
             0 => return Ok(()),
@@ -113,6 +124,9 @@ impl Refusal {
             18 => Refusal::YearPlaceTaken,
             19 => Refusal::RecordCutShort,
             20 => Refusal::InvalidRecord,
+            23 => Refusal::InvalidForecast,
+            24 => Refusal::InvalidCycleCount,
+            25 => Refusal::UnknownCycle(index),
             26 => Refusal::InvalidSetting,
             _ => unreachable!("the library returned {number}, which is no number of a refusal"),
         })
@@ -146,12 +160,18 @@ impl fmt::Display for Refusal {
             Refusal::YearPlaceTaken => "a one among the control bits whose places the year takes",
             Refusal::RecordCutShort => "record cut short by the log's end",
             Refusal::InvalidRecord => "map above 15, or a field equal to the one before",
+            Refusal::InvalidForecast => "figure not finite, reference zero, or too many seconds",
+            Refusal::InvalidCycleCount => {
+                "cycles of an element not a multiple of 10 from 10 to 100"
+            }
+            Refusal::UnknownCycle(_) => "cycle neither 1 nor 2",
             Refusal::InvalidSetting => "setting not 2 to 5",
         };
         write!(f, "refused {}: {why}", self.number())?;
-        match self.index() {
-            Some(index) => write!(f, ", at element {index}"),
-            None => Ok(()),
+        match (self, self.index()) {
+            (Refusal::UnknownCycle(_), Some(index)) => write!(f, ", at cycle {index}"),
+            (_, Some(index)) => write!(f, ", at element {index}"),
+            (_, None) => Ok(()),
         }
     }
 }

@@ -1,10 +1,10 @@
 //! The library's functions as include/duskveyra.h declares them.
 //!
 //! Each returns a struct: its number is 0 or that of a refusal, and where it is not 0 every other field is 0, but the
-//! index with 5 and 6. No pointer may be null, and no two pointers of one call may point into the same memory; beside
+//! index with 5, 6 and 25. No pointer may be null, and no two pointers of one call may point into the same memory; beside
 //! that every value is allowed.
 
-use crate::{Format, Time, WidthSettings, READER_WORDS};
+use crate::{Format, Oscillator, Time, WidthSettings, READER_WORDS};
 
 #[repr(C)]
 pub struct WriteResult {
@@ -76,6 +76,12 @@ pub struct BlockResult {
     pub stop: u8,
     pub taken: usize,
     pub reports: usize,
+}
+
+#[repr(C)]
+pub struct ForecastResult {
+    pub number: u8,
+    pub error: f64,
 }
 
 extern "C" {
@@ -177,6 +183,26 @@ extern "C" {
         recording_length: usize,
         start: usize,
     ) -> ScanResult;
+
+    pub fn duskveyra_encode_cycles(
+        format: Format,
+        count: usize,
+        frame: *const u8,
+        frame_length: usize,
+        cycles: *mut u8,
+        cycles_length: usize,
+    ) -> WriteResult;
+
+    pub fn duskveyra_decode_cycles(
+        format: Format,
+        count: usize,
+        cycles: *const u8,
+        cycles_length: usize,
+        frame: *mut u8,
+        frame_length: usize,
+    ) -> ConvertResult;
+
+    pub fn duskveyra_forecast(oscillator: Oscillator, seconds: u32) -> ForecastResult;
 }
 
 // The number of the interface that this file declares: an archive of another one does not link.
