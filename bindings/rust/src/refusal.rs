@@ -60,7 +60,7 @@ pub enum Refusal {
 }
 
 impl Refusal {
-    /// The number, 1 to 20 or 23 to 27.23 to 26.
+    /// The number, 1 to 20 or 23 to 27.
     pub fn number(self) -> u8 {
         match self {
             Refusal::UnknownFormat => 1,
