@@ -1,0 +1,2 @@
+-- A record put field by field.
+pub mod Parts
