@@ -137,6 +137,15 @@ typedef struct duskveyra_oscillator {
     double ageing;    /* a */
 } duskveyra_oscillator;
 
+/* What a reader reports. Before the first report of a log, all members count as 0. */
+typedef struct duskveyra_report {
+    duskveyra_time time;
+    uint64_t control;
+} duskveyra_report;
+
+/* The longest record of a log, in bytes. */
+#define DUSKVEYRA_LONGEST_RECORD 13
+
 /* A stream reader: the letter, the expression, the setting and the place; the count of the frame under way, the newest
  * symbols, three words of the frame's symbols and the row; the year, the day, the hundredths and the control word of the
  * row's last frame. It is made by duskveyra_fresh, changed by duskveyra_feed, duskveyra_feed_block and
@@ -214,6 +223,19 @@ typedef struct duskveyra_forecast_result {
     uint8_t number;
     double error; /* in seconds; it may be infinite or no number */
 } duskveyra_forecast_result;
+
+typedef struct duskveyra_log_write_result {
+    uint8_t number;
+    uint8_t put_in; /* 1 where the record was put in, 0 where it does not fit */
+    size_t next;    /* the next place, where the record was put in */
+} duskveyra_log_write_result;
+
+typedef struct duskveyra_log_read_result {
+    uint8_t number;
+    uint8_t found; /* 1 with a report, 0 at the log's end; where it is 0, so are the others */
+    duskveyra_report report;
+    size_t next; /* the next place */
+} duskveyra_log_read_result;
 
 /* Writes a time and a control word as the symbols of one frame; every byte of the frame is set.
  * Refuses with 1; 17; 2; 14; 9; 3 where frame_length is not the format's number of elements; in this order. */
@@ -339,6 +361,34 @@ duskveyra_convert_result duskveyra_decode_cycles(duskveyra_format format, size_t
  * numbers to zero (as linking with -ffast-math does), changes the bits.
  * Refuses with 23. */
 duskveyra_forecast_result duskveyra_forecast(duskveyra_oscillator oscillator, uint32_t seconds);
+
+/* Adds the record of a report to a log, at a place: one byte of map, then the fields that differ from the report before,
+ * lowest byte first: bit 0 the day (2 bytes), bit 1 the hundredths (3), bit 2 the control word (6), bit 3 the year (1).
+ * The report before is the last one put in, or all 0 where the log is empty; it is not checked. A record that does not
+ * fit is left out, and put_in is then 0. Every byte of the log but the record's stays. Nothing in a log marks its end:
+ * it is the place that the last record put in gave, and a log is read from its first log_length bytes.
+ *
+ *     size_t place = 0;
+ *     duskveyra_report last = {{0, 0, 0}, 0};
+ *     ...
+ *     written = duskveyra_log_write(log, sizeof log, place, last, report);
+ *     if (written.put_in) {
+ *         place = written.next;
+ *         last = report;
+ *     }
+ *
+ * Refuses with 12 where place is above log_length; 2 for a day not 1 to 366 or hundredths over 8,640,099; 17 for a year
+ * over 99; 9 for a control word over 48 bits; in this order, and all of them before the fit. */
+duskveyra_log_write_result duskveyra_log_write(uint8_t *log, size_t log_length, size_t place, duskveyra_report before,
+                                               duskveyra_report report);
+
+/* Reads the record at a place of a log, after the report before: its report, and the next place. Nothing is found
+ * exactly where place is log_length. A log that duskveyra_log_write made from place 0 and a report of all 0 is read so as
+ * the reports put in, one after the other, and no other log of as many bytes is.
+ * Refuses with 12 where place is above log_length; 19 where the log ends within the record; 20 for a map above 15 or a
+ * field equal to the one before; then as duskveyra_log_write does, by the whole report, with 2; 17; 9; in this order. */
+duskveyra_log_read_result duskveyra_log_read(const uint8_t *log, size_t log_length, size_t place,
+                                             duskveyra_report before);
 
 #ifdef __cplusplus
 }

@@ -5,6 +5,7 @@ mod before;
 mod commands;
 mod cpu;
 mod frames;
+mod logs;
 mod plain;
 mod streams;
 mod tuned;
@@ -485,6 +486,7 @@ fn call_table() {
     scan_rows();
     row("classify", "pulse", classify());
     row("classify_list, 4,096 pulses", "pulse", classify_list());
+    logs::rows();
 }
 
 fn length_table() {
@@ -520,6 +522,10 @@ fn main() {
         Some("commands") => commands::rows(),
         Some("streams") => stream_tables(),
         Some("frames") => frames::rows(),
+        Some("logs") => {
+            heading("call");
+            logs::rows();
+        }
         _ => {
             call_table();
             frames::rows();

@@ -41,7 +41,7 @@ pub fn library_format(format: Format) -> duskveyra::Format {
     }
 }
 
-fn library_time(time: Time) -> duskveyra::Time {
+pub fn library_time(time: Time) -> duskveyra::Time {
     duskveyra::Time {
         year: time.year,
         day: time.day,
@@ -49,7 +49,7 @@ fn library_time(time: Time) -> duskveyra::Time {
     }
 }
 
-fn plain_time(time: duskveyra::Time) -> Time {
+pub fn plain_time(time: duskveyra::Time) -> Time {
     Time {
         year: time.year,
         day: time.day,

@@ -1,11 +1,12 @@
 //! Runs the library against the plain version in `reference`: random streams in all 25 formats with every setting, symbol by symbol and in
-//! blocks, and random calls with good and bad input. The first difference is printed in full and ends the run.
+//! blocks, random calls with good and bad input, and report logs. The first difference is printed in full and ends the run.
 
 mod blocks;
 mod calls;
 mod places;
 mod cycles;
 mod forecasts;
+mod logs;
 mod random;
 mod streams;
 
@@ -56,6 +57,10 @@ struct Counts {
     before_unknown: u64,
     before_report: u64,
     refused_blocks: u64,
+    /// Records of logs that were read, records refused, and reports left out for want of room.
+    records: u64,
+    refused_records: u64,
+    left_out: u64,
 }
 
 fn refused(refusal: duskveyra::Refusal) -> Refused {
@@ -345,7 +350,8 @@ fn main() -> ExitCode {
         let difference = run(|| {
             run_stream(&mut random, &mut counts)?;
             calls::run_calls(&mut random, &mut counts)?;
-            cycles::run_cycles(&mut random, &mut counts)?;
+            cycles::run_cycles(&mut random, &mut counts)?;?;
+            logs::run_logs(&mut random, &mut counts)
             forecasts::run_forecasts(&mut random, &mut counts)?;
             blocks::run_blocks(&mut random, &mut counts)
         });
@@ -377,6 +383,10 @@ fn main() -> ExitCode {
         counts.before_unknown,
         counts.before_report,
         counts.refused_blocks
+    );
+    println!(
+        "{} records of logs read, {} refused, {} left out",
+        counts.records, counts.refused_records, counts.left_out
     );
     println!(
         "{} symbols, {} calls, 0 differences (seed {seed})",

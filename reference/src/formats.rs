@@ -3,7 +3,7 @@
 /// A year from 2000, a day of year and the hundredths of a second since
 /// midnight; the added second of a day follows its 86,400 usual ones. The year
 /// is 0 where the format carries none, and in X the day is 1.
-#[derive(Clone, Copy, Debug, PartialEq, Eq, Hash)]
+#[derive(Clone, Copy, Debug, Default, PartialEq, Eq, Hash)]
 pub struct Time {
     pub year: u8,
     pub day: u16,

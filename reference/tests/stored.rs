@@ -107,6 +107,40 @@ fn fed(format: Format, setting: u8, place: u64, symbol: u8) -> Result<String, Re
     }
 }
 
+/// Bytes as two hexadecimal digits each.
+fn hexadecimal(bytes: &[u8]) -> String {
+    if bytes.is_empty() {
+        return "(empty)".into();
+    }
+    bytes.iter().map(|byte| format!("{byte:02x}")).collect()
+}
+
+fn bytes(word: &str) -> Vec<u8> {
+    let digits = if word == "(empty)" { "" } else { word };
+    let byte = |i| u8::from_str_radix(&digits[i..i + 2], 16).unwrap();
+    (0..digits.len()).step_by(2).map(byte).collect()
+}
+
+/// The next place or `nofit`, and the log of so many bytes afterwards.
+fn log_written(
+    size: usize,
+    place: usize,
+    before: Report,
+    report: Report,
+) -> Result<String, Refusal> {
+    let mut log = vec![0xaa; size];
+    let next = log_write(&mut log, place, before, report);
+    assert!(next.is_ok() || log.iter().all(|&byte| byte == 0xaa));
+    let next = next?.map_or("nofit".into(), |next| next.to_string());
+    Ok(format!("{next} {}", hexadecimal(&log)))
+}
+
+fn log_told(record: Option<(Report, usize)>) -> String {
+    record.map_or("none".into(), |(report, next)| {
+        format!("{} next {next}", reading((report.time, report.control)))
+    })
+}
+
 /// A call as a line of words.
 struct Line<'a>(Vec<&'a str>);
 
@@ -135,6 +169,14 @@ impl Line<'_> {
 
     fn control(&self, word: usize) -> u64 {
         u64::from_str_radix(self.0[word], 16).unwrap()
+    }
+
+    /// The report of which the year is that word.
+    fn report(&self, word: usize) -> Report {
+        Report {
+            time: self.time(word),
+            control: self.control(word + 3),
+        }
     }
 
     fn elements(&self, word: usize) -> Vec<u8> {
@@ -181,6 +223,13 @@ fn answer(line: &str) -> String {
             line.number(4),
             line.number(5),
         ),
+        "logwrite" => log_written(
+            line.number(1),
+            line.number(2),
+            line.report(3),
+            line.report(7),
+        ),
+        "logread" => log_read(&bytes(line.0[1]), line.number(2), line.report(3)).map(log_told),
         "difference" => difference(line.time(1), line.time(4)).map(|d| d.to_string()),
         _ => Ok("unknown call".into()),
     };

@@ -76,6 +76,23 @@
 //! assert_eq!(write(format, Time { day: 2, ..last }, 0, &mut frame), Err(Refusal::InvalidTime));
 //! # Ok::<(), duskveyra::Refusal>(())
 //! ```
+//!
+//! A [`Log`] keeps reports in few bytes, and [`Reports`] reads them again:
+//!
+//! ```
+//! use duskveyra::{Log, Report, Reports, Time};
+//!
+//! let second = |second: u32| Report { time: Time { year: 24, day: 191, hundredths: 100 * second }, control: 0 };
+//! let mut log = Log::empty([0; 64]);
+//! for report in (50_880..50_890).map(second) {
+//!     assert!(log.add(report)?);
+//! }
+//! // the first has day, hundredths and year; each other the hundredths alone
+//! assert_eq!(log.bytes().len(), 7 + 9 * 4);
+//! let reports: Result<Vec<Report>, _> = Reports::of(log.bytes()).collect();
+//! assert!(reports?.into_iter().eq((50_880..50_890).map(second)));
+//! # Ok::<(), duskveyra::Refusal>(())
+//! ```
 
 #![warn(missing_docs)]
 
@@ -84,6 +101,7 @@ mod editions;
 mod pulse;
 mod holdover;
 mod manchester;
+mod log;
 mod refusal;
 #[allow(missing_docs)]
 pub mod sys;
@@ -94,6 +112,7 @@ pub use editions::{backward, forward};
 pub use pulse::{classify, classify_list, FedPulse, Pulse, WidthSettings};
 pub use holdover::{forecast, Oscillator, MOST_SECONDS};
 pub use manchester::{decode_cycles, encode_cycles, HIGH_CYCLE, LOW_CYCLE};
+pub use log::{log_read, log_write, Log, Reports, LONGEST_RECORD};
 pub use refusal::Refusal;
 pub use time::{ParseTimeError, Time};
 
@@ -144,6 +163,7 @@ pub struct Format {
 
 /// A time and control word that a frame carries.
 #[derive(Clone, Copy, Debug, PartialEq, Eq, Hash)]
+#[repr(C)]
 pub struct Report {
     /// The time at the leading edge of the frame's reference mark.
     pub time: Time,

@@ -4,7 +4,7 @@
 //! index with 5, 6 and 25. No pointer may be null, and no two pointers of one call may point into the same memory; beside
 //! that every value is allowed.
 
-use crate::{Format, Oscillator, Time, WidthSettings, READER_WORDS};
+use crate::{Format, Oscillator, Report, Time, WidthSettings, READER_WORDS};
 
 #[repr(C)]
 pub struct WriteResult {
@@ -82,6 +82,21 @@ pub struct BlockResult {
 pub struct ForecastResult {
     pub number: u8,
     pub error: f64,
+}
+
+#[repr(C)]
+pub struct LogWriteResult {
+    pub number: u8,
+    pub put_in: u8,
+    pub next: usize,
+}
+
+#[repr(C)]
+pub struct LogReadResult {
+    pub number: u8,
+    pub found: u8,
+    pub report: Report,
+    pub next: usize,
 }
 
 extern "C" {
@@ -205,6 +220,18 @@ extern "C" {
     pub fn duskveyra_forecast(oscillator: Oscillator, seconds: u32) -> ForecastResult;
 }
 
-// The number of the interface that this file declares: an archive of another one does not link.
-#[used]
-static INTERFACE: unsafe extern "C" fn() -> u32 = duskveyra_interface_4;
+    pub fn duskveyra_log_write(
+        log: *mut u8,
+        log_length: usize,
+        place: usize,
+        before: Report,
+        report: Report,
+    ) -> LogWriteResult;
+
+    pub fn duskveyra_log_read(
+        log: *const u8,
+        log_length: usize,
+        place: usize,
+        before: Report,
+    ) -> u32 = duskveyra_interface_4LogReadResult;
+}

@@ -9,6 +9,8 @@ ghost use Rattle.block_words.specs.BlockWords.{blockResultOf, feedBlockWords, b
 ghost use Rattle.cycles.specs.Cycles.{encodeOf, encodeLeaves, decodeOf, decodeLeaves};
 ghost use Rattle.ffi.specs.Structs.{writeResultOf, convertResultOf, readResultOf, stepResultOf, differenceResultOf, classifyResultOf, scanResultOf, feedResultOf, withDeviation, forecastResultOf};
 ghost use Rattle.forecasts.specs.Forecasting.{forecastOf};
+ghost use Rattle.log_results.specs.LogStructs.{logWriteResultOf, logReadResultOf};
+ghost use Rattle.report_log.specs.Log.{writeLog, logLeft, readLog};
 ghost use Rattle.stream.specs.Feeding.{madeOf};
 ghost use Rattle.pulse_feed.specs.PulseFeeds.{feedPulseOf};
 ghost use Rattle.reader_words.specs.Words.{readerIn, freshResultOf, freshLeft, fedWith, feedWords, wordsLeft};
@@ -45,12 +47,19 @@ use frame::write;
 use holdover::forecast;
 use manchester_decode::decode;
 use manchester_encode::encode;
+use log_read::read_report;
+use log_results::LogReadResult;
+use log_results::LogWriteResult;
+use log_results::log_read_result;
+use log_results::log_write_result;
+use log_write::write_report;
 use pulse::classify;
 use pulse::classify_list;
 use pulse_feed::feed_pulse;
 use reader_words::put_fed;
 use reader_words::put_fresh;
 use reader_words::reader_in;
+use report_log::Report;
 use scan::scan;
 use timecode::Format;
 use timecode::Time;
@@ -283,6 +292,28 @@ pub extern "C" fn duskveyra_forecast(oscillator: Oscillator, seconds: u32) -> Fo
     ensures { λ r. ⌜ r ≡ forecastResultOf (forecastOf oscillator seconds) ⌝ }
 {
     forecast_result(forecast(oscillator, seconds))
+}
+
+// Adds the record of a report to a lent log, at a place and after the report before.
+#[no_mangle]
+pub extern "C" fn duskveyra_log_write(
+    log: &mut [u8],
+    place: usize,
+    before: Report,
+    report: Report,
+) -> LogWriteResult
+    ensures { λ r. ⌜ r ≡ logWriteResultOf (writeLog (now (log .entry)) place before report) ⌝ }
+    ensures { λ _. ⌜ now (log .exit) ≡ logLeft (now (log .entry)) place before report ⌝ }
+{
+    log_write_result(write_report(log, place, before, report))
+}
+
+// The report of the record at a place of a log, after the report before.
+#[no_mangle]
+pub extern "C" fn duskveyra_log_read(log: &[u8], place: usize, before: Report) -> LogReadResult
+    ensures { λ r. ⌜ r ≡ logReadResultOf (readLog (now (log .entry)) place before) ⌝ }
+{
+    log_read_result(read_report(log, place, before))
 }
 
 // The number of this interface. Header and build script refer to the symbol by that number, so that a program made for another interface does not link.
