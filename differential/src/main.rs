@@ -3,10 +3,10 @@
 
 mod blocks;
 mod calls;
-mod places;
 mod cycles;
 mod forecasts;
 mod logs;
+mod places;
 mod random;
 mod streams;
 
@@ -350,8 +350,8 @@ fn main() -> ExitCode {
         let difference = run(|| {
             run_stream(&mut random, &mut counts)?;
             calls::run_calls(&mut random, &mut counts)?;
-            cycles::run_cycles(&mut random, &mut counts)?;?;
-            logs::run_logs(&mut random, &mut counts)
+            logs::run_logs(&mut random, &mut counts)?;
+            cycles::run_cycles(&mut random, &mut counts)?;
             forecasts::run_forecasts(&mut random, &mut counts)?;
             blocks::run_blocks(&mut random, &mut counts)
         });

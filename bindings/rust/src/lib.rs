@@ -98,10 +98,10 @@
 
 mod block;
 mod editions;
-mod pulse;
 mod holdover;
-mod manchester;
 mod log;
+mod manchester;
+mod pulse;
 mod refusal;
 #[allow(missing_docs)]
 pub mod sys;
@@ -109,10 +109,10 @@ mod time;
 
 pub use block::{Block, Stop};
 pub use editions::{backward, forward};
-pub use pulse::{classify, classify_list, FedPulse, Pulse, WidthSettings};
 pub use holdover::{forecast, Oscillator, MOST_SECONDS};
-pub use manchester::{decode_cycles, encode_cycles, HIGH_CYCLE, LOW_CYCLE};
 pub use log::{log_read, log_write, Log, Reports, LONGEST_RECORD};
+pub use manchester::{decode_cycles, encode_cycles, HIGH_CYCLE, LOW_CYCLE};
+pub use pulse::{classify, classify_list, FedPulse, Pulse, WidthSettings};
 pub use refusal::Refusal;
 pub use time::{ParseTimeError, Time};
 

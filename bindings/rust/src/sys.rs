@@ -218,7 +218,6 @@ extern "C" {
     ) -> ConvertResult;
 
     pub fn duskveyra_forecast(oscillator: Oscillator, seconds: u32) -> ForecastResult;
-}
 
     pub fn duskveyra_log_write(
         log: *mut u8,
@@ -233,5 +232,9 @@ extern "C" {
         log_length: usize,
         place: usize,
         before: Report,
-    ) -> u32 = duskveyra_interface_4LogReadResult;
+    ) -> LogReadResult;
 }
+
+// The number of the interface that this file declares: an archive of another one does not link.
+#[used]
+static INTERFACE: unsafe extern "C" fn() -> u32 = duskveyra_interface_4;

@@ -10,7 +10,7 @@ use borrow.Author.Tests.{eqb-true, eqb-false, eq-eqb, ne-eqb, ltb-true, ltb-fals
 use lib.Dec.{leb, ltb, eqb}
 use lib.ListN.{getD, length, drop, drop-of-length-le}
 use lib.Seq.{drop-cons}
-use Rattle.timecode.specs.Formats.{known, size}
+use Rattle.timecode.specs.Formats.{isX, known, size}
 use Rattle.timecode.specs.Frames.{areSymbols, covered, marksAgree, elementFits, checkElements}
 use Rattle.timecode.specs.Laws.Runs.{getD-encode, getD-tabulate, length-tabulate, Clean, fits-agree, clean-bits, encode-decode, covered-inside, small-decoded}
 use Rattle.timecode.specs.Laws.Table.{size-range}
@@ -85,7 +85,7 @@ offence-some m s i h =
 
 -- ---- the frame written again agrees below the lowest index that offends, and there it does not
 
-module _ (f : Format) (frame : List ℕ) (k : known f ≡ true) (n : length frame ≡ size f) where
+module _ (f : Format) (frame : List ℕ) (k : known f ≡ true) (x : isX f ≡ false) (n : length frame ≡ size f) where
   abbrev again : List ℕ
   again = putIn 100 (decode (codeRuns f) frame)
 
@@ -119,7 +119,7 @@ module _ (f : Format) (frame : List ℕ) (k : known f ≡ true) (n : length fram
       let rs = codeRuns f in
       let clean = cut-clean i h in
       let small = small-decoded (cut i) rs (clean-bits (size f) (filler f) rs (cut i) (code-proper f k) clean) in
-      ap (λ (ss : List ℕ). getD ss j 0) (put-right f k (decode rs (cut i)) small 100 (omega arith))
+      ap (λ (ss : List ℕ). getD ss j 0) (put-right f k x (decode rs (cut i)) small 100 (omega arith))
       ∙ getD-encode 100 (filler f) rs (decode rs (cut i)) j (omega (arith, size-range f))
       ∙ sym (getD-encode (size f) (filler f) rs (decode rs (cut i)) j l)
       ∙ ap (λ (ss : List ℕ). getD ss j 0) (encode-decode (size f) (filler f) rs (cut i) (code-proper f k) (length-tabulate (size f) 0 (cutAt i)) clean)
@@ -130,13 +130,13 @@ module _ (f : Format) (frame : List ℕ) (k : known f ≡ true) (n : length fram
 
   pub again-below : (i : ℕ) → FitBelow i → (j : ℕ) → j < i → j < size f → getD again j 0 ≡ getD frame j 0
   again-below i h j l b =
-      put-low f 100 i frame (cut i) (λ m a y. cut-same i m a (covered-inside (size f) (filler f) (codeRuns f) (code-proper f k) m y .0)) j l (omega (arith, size-range f))
+      put-low f x 100 i frame (cut i) (λ m a y. cut-same i m a (covered-inside (size f) (filler f) (codeRuns f) (code-proper f k) m y .0)) j l (omega (arith, size-range f))
       ∙ cut-again i h j b
       ∙ rw (lt-ltb j i l)
 
   again-free : (i : ℕ) → FitBelow i → i < size f → covered (codeRuns f) i ≡ false → getD again i 0 ≡ filler f i
   again-free i h b m =
-      put-low f 100 (suc i) frame (cut i)
+      put-low f x 100 (suc i) frame (cut i)
       (λ j a y.
       by-test (ltb j i)
       (λ z. cut-same i j (ltb-true j i z) (covered-inside (size f) (filler f) (codeRuns f) (code-proper f k) j y .0))
@@ -150,7 +150,7 @@ module _ (f : Format) (frame : List ℕ) (k : known f ≡ true) (n : length fram
   again-covered i y =
       let inside = covered-inside (size f) (filler f) (codeRuns f) (code-proper f k) i y in
       put-binary 100 (decode (codeRuns f) frame) i (omega (arith, inside .0, size-range f))
-      (by-test (isMark i) (λ z. clash {b = true} refl (rw z at (inside .1))) (λ m. m))
+      (by-test (isMark i) (λ z. clash {b = true} refl (rw (x, z) at (inside .1))) (λ m. m))
 
   fits-where-same : (i : ℕ) → FitBelow i → i < size f → getD frame i 0 ≡ getD again i 0 → elementFits (filler f) (codeRuns f) i (getD frame i 0) ≡ true
   unfolding elementFits

@@ -1,12 +1,12 @@
 // Write and Read: frames of all formats, each call equal to its definition for every input.
-// A call looks up the format's row once. Write splits the time into digits once; the elements come from the digits alone. Read
+// A call looks up the format's row once. Letter X's elements are those of `tape`. Write splits the time into digits once; the elements come from the digits alone. Read
 // writes the digits that it finds again and compares: the lowest index where the two differ is the lowest that offends.
 ghost use mathlib.Core.Path.{_≡_};
-ghost use mathlib.Core.Bool.{true, _&&_};
+ghost use mathlib.Core.Bool.{true, false, _&&_};
 ghost use mathlib.Core.List.{List};
 ghost use Prim.Native.Nat.{ℕ, _≤_, _<_};
 ghost use lib.ListN.{getD, length};
-ghost use Rattle.timecode.specs.Formats.{known, size};
+ghost use Rattle.timecode.specs.Formats.{isX, known, size};
 ghost use Rattle.timecode.specs.Frames.{written, writeOf, writeLeaves, areSymbols, readOf, Valid};
 ghost use Rattle.timecode.specs.declared.Format.{Format};
 ghost use Rattle.layout.specs.Tables.{RowOf, IsRow};
@@ -15,7 +15,9 @@ ghost use Rattle.frame.specs.Offences.{offenceAt, offendedOf, offenceIn}
 ghost use Rattle.frame.specs.Exits.{FrameOf};
 use clock::lies_on;
 use clock::second_allowed;
+use dates::is_x;
 use dates::last_day_in;
+use dates::turn_day;
 use dates::year_carried;
 use digits::control_fits;
 use digits::digits_of;
@@ -29,6 +31,8 @@ use layout::Row;
 use layout::row_of;
 use layout::takes;
 use layout::widths_of;
+use tape::read_tape;
+use tape::write_tape;
 use timecode::Format;
 use timecode::MARK;
 use timecode::Reading;
@@ -43,10 +47,10 @@ enum Offence {
     At(Refusal),
 }
 
-// Write's checks by the format's row, for a frame of that many bytes.
-fn check_write(row: Row, expression: u8, time: Time, control: u64, bytes: usize) -> Written
+// Write's checks by the format's row and whether it is X, for a frame of that many bytes.
+fn check_write(row: Row, x: bool, expression: u8, time: Time, control: u64, bytes: usize) -> Written
     requires { ⌜ IsRow row ⌝ }
-    ensures { λ r. ⌜ ((f : Format) (lent : List ℕ) → RowOf f row → f .expression ≡ expression → bytes ≡ length lent → r ≡ writeOf f time control lent) ⌝ }
+    ensures { λ r. ⌜ ((f : Format) (lent : List ℕ) → RowOf f row → x ≡ isX f → f .expression ≡ expression → bytes ≡ length lent → r ≡ writeOf f time control lent) ⌝ }
 {
     if !takes(row, expression) {
         return Written::Refused(Refusal::UnknownFormat);
@@ -54,7 +58,7 @@ fn check_write(row: Row, expression: u8, time: Time, control: u64, bytes: usize)
     if !year_carried(row.year, time.year) {
         return Written::Refused(Refusal::InvalidYear);
     }
-    let last = last_day_in(row.year, time.year);
+    let last = turn_day(x, last_day_in(row.year, time.year));
     if !lies_on(row.interval, last, time) {
         return Written::Refused(Refusal::InvalidTime);
     }
@@ -73,7 +77,7 @@ fn check_write(row: Row, expression: u8, time: Time, control: u64, bytes: usize)
 
 fn put_frame(row: Row, time: Time, control: u64, frame: &mut [u8])
     requires { ⌜ IsRow row × IsFrame (length (now frame)) ⌝ }
-    ensures { λ _. ⌜ ((f : Format) → RowOf f row → Valid f time control → length (now (frame .entry)) ≡ size f → now (frame .exit) ≡ written f time control) ⌝ }
+    ensures { λ _. ⌜ ((f : Format) → RowOf f row → isX f ≡ false → Valid f time control → length (now (frame .entry)) ≡ size f → now (frame .exit) ≡ written f time control) ⌝ }
 {
     let widths = widths_of(row.runs);
     let digits = digits_of(&widths, time, control);
@@ -86,9 +90,14 @@ pub fn write(format: Format, time: Time, control: u64, frame: &mut [u8]) -> Writ
     ensures { λ r. ⌜ (r ≡ writeOf format time control (now (frame .entry))) × (now (frame .exit) ≡ writeLeaves format time control (now (frame .entry))) ⌝ }
 {
     let row = row_of(format);
-    let answer = check_write(row, format.expression, time, control, frame.len());
+    let x = is_x(format);
+    let answer = check_write(row, x, format.expression, time, control, frame.len());
     match answer {
         Written::Done => {
+            if x {
+                write_tape(time, frame);
+                return Written::Done;
+            }
             put_frame(row, time, control, frame);
             Written::Done
         }
@@ -177,7 +186,7 @@ fn offence_in(again: &[u8], frame: &[u8]) -> Offence
 
 fn read_frame(row: Row, frame: &[u8]) -> Reading
     requires { ⌜ FrameOf row (now frame) ⌝ }
-    ensures { λ r. ⌜ ((f : Format) → known f ≡ true → RowOf f row → length (now (frame .entry)) ≡ size f → r ≡ readOf f (now (frame .entry))) ⌝ }
+    ensures { λ r. ⌜ ((f : Format) → known f ≡ true → isX f ≡ false → RowOf f row → length (now (frame .entry)) ≡ size f → r ≡ readOf f (now (frame .entry))) ⌝ }
 {
     let digits = digits_in(row.runs, frame);
     let mut again = [0u8; 100];
@@ -200,6 +209,9 @@ pub fn read(format: Format, frame: &[u8]) -> Reading
     let row = row_of(format);
     if takes(row, format.expression) {
         if frame.len() == row.elements {
+            if is_x(format) {
+                return read_tape(frame);
+            }
             return read_frame(row, frame);
         }
         return Reading::Refused(Refusal::WrongLength);

@@ -18,7 +18,7 @@ slice-aggregate-digits-of : tie.Need-slice-aggregate-digits-of
 slice-aggregate-digits-of c = search needs
 
 digits-of-requires : tie.Need-digits-of-requires
-digits-of-requires c κs = rw (c .before .widths-of .ensures) (row-widths (c .before .before .before .args .row) (c .before .before .before .pre .0))
+digits-of-requires c κs = rw (c .before .widths-of .ensures) (row-widths (c .before .before .before .args .row .runs))
 
 slice-aggregate-time-bits : tie.Need-slice-aggregate-time-bits
 slice-aggregate-time-bits c = search needs
@@ -52,13 +52,13 @@ returns c =
     let start = c .before .before .before .before .before .before .before .before .before .before .before .before .before .before in
     let digits = c .before .before .before .before .before .before .before .before .before .before .digits-of in
     let long : length (digits .result) ≡ 20 = search needs in
-    λ f o valid n.
-    let same = digits .ensures f (c .before .before .before .before .before .before .before .before .before .before .before .before .widths-of .ensures ∙ o .widths-are) valid in
+    λ f o x valid n.
+    let same = digits .ensures f x (c .before .before .before .before .before .before .before .before .before .before .before .before .widths-of .ensures ∙ o .widths-are) valid in
     let small = code-small f (start .args .time) (start .args .control) valid in
     c .before .before .put-bits .ensures
     ∙ put-parts (length (start .args .frame .now)) (digits .result) (c .before .before .before .before .before .before .before .before .time-bits .result) (c .before .before .before .before .before .before .middle-bits .result) (c .before .before .before .before .tail-bits .result) long (c .before .before .before .before .before .before .before .before .time-bits .ensures .0) (c .before .before .before .before .before .before .middle-bits .ensures .0) (c .before .before .before .before .tail-bits .ensures)
     ∙ ap₂ (λ m xs. putIn m xs) n same
-    ∙ put-right f (valid .format) _ small _ (size-range f .1)
+    ∙ put-right f (valid .format) x _ small _ (size-range f .1)
     ∙ code-written f (start .args .time) (start .args .control)
 
 pub put-frame-spec : {M : Type 1} → statement M
