@@ -31,6 +31,7 @@ use timecode::Scanned;
 use timecode::Stepped;
 use timecode::Subtracted;
 use timecode::Time;
+use timecode::WidthSettings;
 use timecode::Written;
 
 // What the memory that Write is lent holds before the call: no symbol.
@@ -82,6 +83,10 @@ fn put_signed(text: &mut [u8; 4096], at: usize, number: i64) -> usize {
     let at = put(text, at, b'-');
     // with all bits turned a negative number is one less than without its sign
     put_decimal(text, at, wrapping_add_u64(unsigned(!number), 1))
+}
+
+fn wide(number: i32) -> i64 {
+    number as i64
 }
 
 fn put_symbol(text: &mut [u8; 4096], at: usize, symbol: u8) -> usize {
@@ -468,13 +473,26 @@ fn put_difference(line: &[u8], text: &mut [u8; 4096]) -> usize {
     }
 }
 
+// Words 2 to 4: the settings of zeros, ones and marks.
+fn width_settings_in(line: &[u8]) -> WidthSettings {
+    WidthSettings {
+        zeros: (decimal(line, 2) % 256) as u8,
+        ones: (decimal(line, 3) % 256) as u8,
+        marks: (decimal(line, 4) % 256) as u8,
+    }
+}
+
 fn put_classify(line: &[u8], text: &mut [u8; 4096]) -> usize {
     let interval = (decimal(line, 1) % 4_294_967_296) as u32;
-    let width = (decimal(line, 2) % 4_294_967_296) as u32;
-    let period = (decimal(line, 3) % 4_294_967_296) as u32;
-    let classified = classify(interval, width, period);
+    let width = (decimal(line, 5) % 4_294_967_296) as u32;
+    let period = (decimal(line, 6) % 4_294_967_296) as u32;
+    let classified = classify(width_settings_in(line), interval, width, period);
     match classified {
-        Classified::Symbol(symbol) => put_decimal(text, 0, symbol as u64),
+        Classified::Symbol { symbol, deviation } => {
+            let at = put_decimal(text, 0, symbol as u64);
+            let at = put(text, at, b' ');
+            put_signed(text, at, wide(deviation))
+        }
         Classified::Refused(refusal) => put_refusal(text, 0, refusal),
     }
 }
