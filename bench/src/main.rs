@@ -350,19 +350,39 @@ fn pulses() -> (Vec<u32>, Vec<u32>) {
     (widths, periods)
 }
 
+/// Symbols and deviations of every pulse, added up.
 #[inline]
-fn classify_with(widths: &[u32], periods: &[u32], classify: impl Fn(u32, u32) -> u8) -> u64 {
+fn classify_with(widths: &[u32], periods: &[u32], classify: impl Fn(u32, u32) -> (u8, i32)) -> u64 {
     let pulses = widths.iter().zip(periods);
-    pulses.fold(0, |sum, (&width, &period)| {
-        sum + u64::from(classify(width, period))
+    pulses.fold(0, |sum: u64, (&width, &period)| {
+        let (symbol, deviation) = classify(width, period);
+        sum.wrapping_add(u64::from(symbol))
+            .wrapping_add_signed(i64::from(deviation))
     })
 }
 
+/// The usual settings, which neither side may take for a constant.
+fn usual_settings() -> (duskveyra::WidthSettings, plain::Widths) {
+    let plain = plain::Widths {
+        zeros: 5,
+        ones: 5,
+        marks: 5,
+    };
+    (black_box(duskveyra::WidthSettings::USUAL), black_box(plain))
+}
+
+type Classify = fn(plain::Widths, u32, u32, u32) -> Result<(u8, i32), plain::Refusal>;
+
 fn classify() -> Vec<Option<Side>> {
     let (widths, periods) = pulses();
-    let library = |width, period| duskveyra::classify(black_box(1_000), width, period).unwrap_or(9);
-    let classify = black_box(plain::classify as fn(u32, u32, u32) -> Result<u8, plain::Refusal>);
-    let plain = |width, period| classify(black_box(1_000), width, period).unwrap_or(9);
+    let (settings, plain_settings) = usual_settings();
+    let library = |width, period| {
+        let pulse = duskveyra::classify(settings, black_box(1_000), width, period);
+        pulse.map_or((9, 0), |pulse| (pulse.symbol, pulse.deviation))
+    };
+    let classify = black_box(plain::classify as Classify);
+    let plain =
+        |width, period| classify(plain_settings, black_box(1_000), width, period).unwrap_or((9, 0));
     compare(
         widths.len(),
         &[
@@ -374,24 +394,40 @@ fn classify() -> Vec<Option<Side>> {
 
 fn classify_list() -> Vec<Option<Side>> {
     let (widths, periods) = pulses();
-    let (mut one, mut other) = (vec![9; widths.len()], vec![8; widths.len()]);
-    let library = duskveyra::classify_list(1_000, &widths, &periods, &mut one);
-    let plain = plain::classify_list(1_000, &widths, &periods, &mut other);
-    assert!(library.is_ok() && plain.is_ok() && one == other);
-    let lent = RefCell::new(one);
+    let (settings, plain_settings) = usual_settings();
+    let n = widths.len();
+    let (mut one, mut off) = (vec![9; n], vec![9; n]);
+    let (mut other, mut other_off) = (vec![8; n], vec![8; n]);
+    let library = duskveyra::classify_list(settings, 1_000, &widths, &periods, &mut one, &mut off);
+    let plain = plain::classify_list(
+        plain_settings,
+        1_000,
+        &widths,
+        &periods,
+        &mut other,
+        &mut other_off,
+    );
+    assert!(library.is_ok() && plain.is_ok() && one == other && off == other_off);
+    let lent = RefCell::new((one, off));
+    let told = |done: bool, symbols: &[u8], deviations: &[i32]| {
+        u64::from(done) + u64::from(black_box(symbols)[17]) + u64::from(deviations[17] == 0)
+    };
     compare(
-        widths.len(),
+        n,
         &[
             Some(&|| {
-                let mut symbols = lent.borrow_mut();
+                let (symbols, off) = &mut *lent.borrow_mut();
+                let interval = black_box(1_000);
                 let done =
-                    duskveyra::classify_list(black_box(1_000), &widths, &periods, &mut symbols);
-                u64::from(done.is_ok()) + u64::from(black_box(&symbols)[17])
+                    duskveyra::classify_list(settings, interval, &widths, &periods, symbols, off);
+                told(done.is_ok(), symbols, black_box(off))
             }),
             Some(&|| {
-                let mut symbols = lent.borrow_mut();
-                let done = plain::classify_list(black_box(1_000), &widths, &periods, &mut symbols);
-                u64::from(done.is_ok()) + u64::from(black_box(&symbols)[17])
+                let (symbols, off) = &mut *lent.borrow_mut();
+                let interval = black_box(1_000);
+                let done =
+                    plain::classify_list(plain_settings, interval, &widths, &periods, symbols, off);
+                told(done.is_ok(), symbols, black_box(off))
             }),
         ],
     )
