@@ -4,6 +4,7 @@
 mod before;
 mod commands;
 mod cpu;
+mod cycles;
 mod frames;
 mod logs;
 mod plain;
@@ -562,11 +563,13 @@ fn main() {
             heading("call");
             logs::rows();
         }
+        Some("cycles") => cycles::rows(),
         _ => {
             call_table();
             frames::rows();
             length_table();
             stream_tables();
+            cycles::rows();
             commands::rows();
         }
     }
