@@ -24,7 +24,7 @@ isModulated f = known f && member (f .letter) (A ∷ B ∷ G ∷ [])
 unfoldable pub isCycleCount : ℕ → Bool
 isCycleCount M = within 10 100 M && eqb (M % 10) 0
 
--- 1, 24, and 3 for a frame of n symbols and the number of cycles, before an answer
+-- 1, 24, and 3 for a frame of so many symbols and so many cycles, before the answer
 unfoldable pub checkFrame : Format → ℕ → ℕ → ℕ → Written → Written
 checkFrame f M symbols cycles answer =
     check Written.Refused UnknownFormat (isModulated f)  -- 1

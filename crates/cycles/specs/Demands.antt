@@ -16,7 +16,7 @@ use Rattle.timecode.specs.Laws.Marks.{at-written}
 use Rattle.timecode.specs.Laws.Table.{everyFormat, of-every}
 use Rattle.timecode.specs.Laws.Tests.{by-test, and-left, or-other, everyBelow, below-every}
 use Rattle.timecode.specs.Laws.Writing.{length-written, written-is-accepted, taken, leaves}
-use Rattle.timecode.specs.Layout.{Run, fields, runs, numbers, allDigits, inRun, isMark, filler, symbolAt}
+use Rattle.timecode.specs.Layout.{Run, runs, inRun, isMark, filler, symbolAt}
 use Rattle.timecode.specs.declared.Format.{Format}
 use Rattle.timecode.specs.declared.Reading.the-variants.{Accepted}
 use Rattle.timecode.specs.declared.Refusal.{Refusal}
@@ -167,7 +167,7 @@ written-unspoiled f t w m =
     (λ i k.
     let h : i < size f = rw (length-written f t w) at k in
     let e = at-written f t w i h in
-    rw e (symbol-unspoiled f (runs f) (allDigits (fields f) (numbers t w)) i m h))
+    rw e (symbol-unspoiled f (runs f) _ i m h))
 
 pub written-then-read : (f : Format) (M : ℕ) (t : Time) (w : ℕ) (lent cycles symbols : List ℕ) → isModulated f ≡ true → isCycleCount M ≡ true
     → writeOf f t w lent ≡ Done → length cycles ≡ size f * M → length symbols ≡ size f
