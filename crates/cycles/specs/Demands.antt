@@ -10,7 +10,7 @@ use borrow.Author.Tests.{leb-true, le-leb}
 use lib.Dec.{leb}
 use lib.ListN.{length, take, drop, getD, length-drop, take-append-drop}
 use lib.Seq.{drop-drop}
-use Rattle.timecode.specs.Formats.{member, A, B, G, known, table, lookUp, rowOf, size}
+use Rattle.timecode.specs.Formats.{isX, member, A, B, G, known, table, lookUp, rowOf, size}
 use Rattle.timecode.specs.Frames.{written, writeOf, writeLeaves, readOf}
 use Rattle.timecode.specs.Laws.Marks.{at-written}
 use Rattle.timecode.specs.Laws.Table.{everyFormat, of-every}
@@ -141,7 +141,7 @@ improper-at-the-first (c ∷ cs) h =
 -- ---- Write, encode, decode, Read: the time and the control word come back
 
 filled : everyFormat (λ f. not (isModulated f) || everyBelow (size f) (λ i. leb (filler f i) 2)) ≡ true
-unfolding everyFormat isModulated known table size rowOf lookUp filler isMark
+unfolding everyFormat isModulated isX known table size rowOf lookUp filler isMark
 filled = refl
 
 filler-unspoiled : (f : Format) (i : ℕ) → isModulated f ≡ true → i < size f → filler f i ≤ 2
