@@ -141,6 +141,13 @@ fn log_told(record: Option<(Report, usize)>) -> String {
     })
 }
 
+fn bits(error: f64) -> String {
+    if error.is_nan() {
+        return "nan".into();
+    }
+    format!("{:016x}", error.to_bits())
+}
+
 /// A call as a line of words.
 struct Line<'a>(Vec<&'a str>);
 
@@ -190,6 +197,17 @@ impl Line<'_> {
             marks: self.number(word + 2),
         }
     }
+
+    /// Words 1 to 4: the bits of each figure.
+    fn oscillator(&self) -> Oscillator {
+        let figure = |word| f64::from_bits(self.control(word));
+        Oscillator {
+            starting_error: figure(1),
+            own_frequency: figure(2),
+            reference_frequency: figure(3),
+            ageing: figure(4),
+        }
+    }
 }
 
 fn answer(line: &str) -> String {
@@ -231,6 +249,7 @@ fn answer(line: &str) -> String {
         ),
         "logread" => log_read(&bytes(line.0[1]), line.number(2), line.report(3)).map(log_told),
         "difference" => difference(line.time(1), line.time(4)).map(|d| d.to_string()),
+        "holdover" => forecast(line.oscillator(), line.number(5)).map(bits),
         _ => Ok("unknown call".into()),
     };
     said.unwrap_or_else(refused)

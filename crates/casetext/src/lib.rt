@@ -1,5 +1,5 @@
 // A call of the engine as a line of text, `step B 4 24 366 8639900 365 0`, and its answer as text, `25 1 0`: a time is its year, its day and its hundredths.
-// A line `feeds` is a whole stream: format, setting and symbols, and its answer is every report.
+// A line `feeds` is a whole stream: format, setting and symbols, and its answer is every report. A float is the 16 digits of its bits.
 // A refusal is R and its number, with 5 and 6 also @ and the index of the element, with 25 that of the cycle.
 ghost use Prim.Native.Nat.{_≤_};
 use arguments::Number;
@@ -10,9 +10,15 @@ use clock::step;
 use clock::step_back;
 use editions::backward;
 use editions::forward;
+use floats::Pattern;
+use floats::float_of;
+use floats::pattern_of;
+use forecasts::Forecast;
+use forecasts::Oscillator;
 use frame::read;
 use frame::write;
 use frametext::character_of;
+use holdover::forecast;
 use pulse::classify;
 use refusals::number_of;
 use register::Register;
@@ -497,6 +503,36 @@ fn put_classify(line: &[u8], text: &mut [u8; 4096]) -> usize {
     }
 }
 
+// The float whose bits are that word.
+fn float_in(line: &[u8], word: usize) -> f64 {
+    float_of(number(line, word, 16))
+}
+
+// The bits, or `nan` for whatever is no number.
+fn put_float(text: &mut [u8; 4096], float: f64) -> usize {
+    let pattern = pattern_of(float);
+    match pattern {
+        Pattern::Bits(bits) => put_hexadecimal(text, 0, bits, 16),
+        Pattern::NoNumber => put_bytes(text, 0, b"nan"),
+    }
+}
+
+// Words 1 to 4: E0, f0, fr and a; word 5: the seconds.
+fn put_holdover(line: &[u8], text: &mut [u8; 4096]) -> usize {
+    let oscillator = Oscillator {
+        error: float_in(line, 1),
+        frequency: float_in(line, 2),
+        reference: float_in(line, 3),
+        ageing: float_in(line, 4),
+    };
+    let seconds = (decimal(line, 5) % 4_294_967_296) as u32;
+    let expected = forecast(oscillator, seconds);
+    match expected {
+        Forecast::Expected(error) => put_float(text, error),
+        Forecast::Refused(refusal) => put_refusal(text, 0, refusal),
+    }
+}
+
 fn scan_part(format: Format, recording: &[u8], size: usize, start: usize) -> Scanned {
     if size < recording.len() {
         return scan(format, &recording[0..size], start);
@@ -670,6 +706,9 @@ pub fn put_answer(line: &[u8], text: &mut [u8; 4096]) -> usize {
     }
     if is_named(line, b"classify") {
         return put_classify(line, text);
+    }
+    if is_named(line, b"holdover") {
+        return put_holdover(line, text);
     }
     if is_named(line, b"scan") {
         return put_scan(line, text);
