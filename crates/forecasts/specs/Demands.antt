@@ -51,7 +51,7 @@ forecast-taken o t x h e = rw (h, e)
 
 -- ---- operations with a zero
 
--- the sign of a finite value
+-- the sign is minus, that of -0 too
 abbrev pub negative : Float → Bool
 negative nan = false
 negative (inf s) = s
@@ -173,7 +173,7 @@ no-square = refl
 abbrev offset : Oscillator → Float
 offset o = sub binary64 (div binary64 (o .frequency) (o .reference)) one
 
--- With t = 0 the forecast is E0 wherever f0/fr is finite; where E0 is -0 it stays so only if f0/fr - 1 and a are negative too.
+-- With t = 0 the forecast is E0 wherever f0/fr is finite; where E0 is -0 it stays so only if f0/fr - 1 and a have the sign minus too.
 pub at-the-cut : (o : Oscillator) → T (fits binary64 (o .error)) → forecastable o 0 ≡ true → isFinite (div binary64 (o .frequency) (o .reference)) ≡ true
     → forecastOf o 0 ≡ Expected (plusZero (plusZero (o .error) (negative (offset o))) (negative (o .ageing)))
 unfolding expectedError
