@@ -12,8 +12,8 @@ pub fn run_cycles(random: &mut Random, counts: &mut Counts) -> Result<(), String
     for _ in 0..TURNS {
         let format = any_format(random);
         let count = any_count(random);
-        there_and_back(random, format, count)?;
-        damaged(random, format, count)?;
+        counts.encoded += u64::from(there_and_back(random, format, count)?);
+        counts.decoded += u64::from(damaged(random, format, count)?);
         counts.calls += 3;
     }
     Ok(())
@@ -39,8 +39,8 @@ fn cycles_length(random: &mut Random, count: usize) -> usize {
     }
 }
 
-/// A frame, mostly one that encoding takes; decoded again it is the frame.
-fn there_and_back(random: &mut Random, format: Format, count: usize) -> Result<(), String> {
+/// A frame, mostly one that encoding takes; decoded again it is the frame. Whether it was taken.
+fn there_and_back(random: &mut Random, format: Format, count: usize) -> Result<bool, String> {
     let mut symbols = any_frame(random, format);
     if !random.once_in(4) {
         for symbol in &mut symbols {
@@ -56,14 +56,15 @@ fn there_and_back(random: &mut Random, format: Format, count: usize) -> Result<(
         || format!("encode {format:?} M {count} {symbols:?}"),
     )?;
     let Some(cycles) = cycles else {
-        return Ok(());
+        return Ok(false);
     };
     let again = decoded(random, format, count, &cycles, 100)?;
-    agree(|| "encoded and decoded".to_string(), again, Some(symbols))
+    agree(|| "encoded and decoded".to_string(), again, Some(symbols))?;
+    Ok(true)
 }
 
-/// The cycles of elements, some of them turned, and at times one that is no cycle.
-fn damaged(random: &mut Random, format: Format, count: usize) -> Result<(), String> {
+/// The cycles of elements, some of them turned, and at times one that is no cycle. Whether they were taken.
+fn damaged(random: &mut Random, format: Format, count: usize) -> Result<bool, String> {
     let mut cycles = vec![1; cycles_length(random, count)];
     let tenths = random.pick(&[2, 5, 8, 7]);
     for (index, cycle) in cycles.iter_mut().enumerate() {
@@ -87,7 +88,7 @@ fn damaged(random: &mut Random, format: Format, count: usize) -> Result<(), Stri
         }
     }
     let length = any_length(random, format);
-    decoded(random, format, count, &cycles, length).map(|_| ())
+    Ok(decoded(random, format, count, &cycles, length)?.is_some())
 }
 
 fn decoded(

@@ -8,13 +8,20 @@ const TURNS: usize = 500;
 
 pub fn run_forecasts(random: &mut Random, counts: &mut Counts) -> Result<(), String> {
     for _ in 0..TURNS {
-        forecast(random)?;
+        match forecast(random)? {
+            Err(_) => counts.refused_forecasts += 1,
+            Ok(error) if error.is_infinite() => counts.infinite += 1,
+            Ok(error) if error.is_nan() => counts.no_number += 1,
+            Ok(_) => {}
+        }
+        counts.forecasts += 1;
         counts.calls += 1;
     }
     Ok(())
 }
 
-fn forecast(random: &mut Random) -> Result<(), String> {
+/// What the library answers, once `reference` has agreed.
+fn forecast(random: &mut Random) -> Result<Result<f64, duskveyra::Refusal>, String> {
     let figures = figures(random);
     let seconds = any_seconds(random);
     let [error, frequency, reference, ageing] = figures;
@@ -40,7 +47,8 @@ fn forecast(random: &mut Random) -> Result<(), String> {
         || format!("forecast {:016x?} t {seconds}", figures.map(f64::to_bits)),
         library.map(bits).map_err(refused),
         plain.map(bits).map_err(plain_refused),
-    )
+    )?;
+    Ok(library)
 }
 
 /// None for no number.

@@ -61,6 +61,14 @@ struct Counts {
     records: u64,
     refused_records: u64,
     left_out: u64,
+    /// Forecasts, those that were refused, infinite and no number.
+    forecasts: u64,
+    refused_forecasts: u64,
+    infinite: u64,
+    no_number: u64,
+    /// Frames that were encoded, and decoded.
+    encoded: u64,
+    decoded: u64,
 }
 
 fn refused(refusal: duskveyra::Refusal) -> Refused {
@@ -387,6 +395,15 @@ fn main() -> ExitCode {
     println!(
         "{} records of logs read, {} refused, {} left out",
         counts.records, counts.refused_records, counts.left_out
+    );
+    println!(
+        "{} forecasts, {} refused, {} infinite, {} no number; {} frames encoded as cycles, {} decoded",
+        counts.forecasts,
+        counts.refused_forecasts,
+        counts.infinite,
+        counts.no_number,
+        counts.encoded,
+        counts.decoded
     );
     println!(
         "{} symbols, {} calls, 0 differences (seed {seed})",
