@@ -17,7 +17,7 @@ fn write_first(text: &[u8; 4096], used: usize) {
 fn answer(line: &[u8]) {
     let mut text = io::buffer();
     let used = casetext::put_answer(line, &mut text);
-    let used = casetext::put(&mut text, used, b'\n');
+    let used = answertext::put(&mut text, used, b'\n');
     write_first(&text, used);
 }
 
@@ -42,7 +42,7 @@ fn take_bytes(bytes: &[u8], line: &mut [u8; 4096], used: usize) -> usize {
             answer_first(line, used);
             used = 0;
         } else {
-            used = casetext::put(line, used, bytes[i]);
+            used = answertext::put(line, used, bytes[i]);
         }
         i += 1;
     }

@@ -1,10 +1,21 @@
 // A call of the engine as a line of text, `step B 4 24 366 8639900 365 0`, and its answer as text, `25 1 0`: a time is its year, its day and its hundredths.
 // A line `feeds` is a whole stream: format, setting and symbols, and its answer is every report. A float is the 16 digits of its bits.
-// A refusal is R and its number, with 5 and 6 also @ and the index of the element, with 25 that of the cycle.
-ghost use Prim.Native.Nat.{_≤_};
-use arguments::Number;
-use arguments::decimal_in;
-use arguments::hexadecimal_in;
+use answertext::put;
+use answertext::put_bytes;
+use answertext::put_decimal;
+use answertext::put_frame;
+use answertext::put_hexadecimal;
+use answertext::put_reading;
+use answertext::put_refusal;
+use answertext::put_signed;
+use answertext::put_time;
+use answertext::wide;
+use casewords::decimal;
+use casewords::elements_in;
+use casewords::format_in;
+use casewords::is_named;
+use casewords::number;
+use casewords::time_in;
 use clock::difference;
 use clock::step;
 use clock::step_back;
@@ -17,10 +28,8 @@ use forecasts::Forecast;
 use forecasts::Oscillator;
 use frame::read;
 use frame::write;
-use frametext::character_of;
 use holdover::forecast;
 use pulse::classify;
-use refusals::number_of;
 use register::Register;
 use scan::scan;
 use std::num::wrapping_add_u64;
@@ -32,7 +41,6 @@ use timecode::Answer;
 use timecode::Classified;
 use timecode::Format;
 use timecode::Reading;
-use timecode::Refusal;
 use timecode::Scanned;
 use timecode::Stepped;
 use timecode::Subtracted;
@@ -42,249 +50,6 @@ use timecode::Written;
 
 // What the memory that Write is lent holds before the call: no symbol.
 const LENT: u8 = 7;
-
-// One byte, and the next place; nothing where the text is full.
-pub fn put(text: &mut [u8; 4096], at: usize, byte: u8) -> usize {
-    if at < 4096 {
-        text[at] = byte;
-        return at + 1;
-    }
-    at
-}
-
-fn put_bytes(text: &mut [u8; 4096], at: usize, bytes: &[u8]) -> usize {
-    let mut at = at;
-    let mut i = 0;
-    while i < bytes.len() {
-        at = put(text, at, bytes[i]);
-        i += 1;
-    }
-    at
-}
-
-fn put_decimal(text: &mut [u8; 4096], at: usize, number: u64) -> usize {
-    let mut digits = [0u8; 20];
-    let n = io::decimal(number, &mut digits);
-    put_bytes(text, at, &digits[..n])
-}
-
-fn put_hexadecimal(text: &mut [u8; 4096], at: usize, number: u64, width: usize) -> usize {
-    let mut digits = [0u8; 16];
-    let n = io::hex(number, width, &mut digits);
-    put_bytes(text, at, &digits[..n])
-}
-
-// 0 for a negative number.
-fn unsigned(number: i64) -> u64 {
-    if 0 <= number {
-        return number as u64;
-    }
-    0
-}
-
-fn put_signed(text: &mut [u8; 4096], at: usize, number: i64) -> usize {
-    if 0 <= number {
-        return put_decimal(text, at, unsigned(number));
-    }
-    let at = put(text, at, b'-');
-    // with all bits turned a negative number is one less than without its sign
-    put_decimal(text, at, wrapping_add_u64(unsigned(!number), 1))
-}
-
-fn wide(number: i32) -> i64 {
-    number as i64
-}
-
-fn put_symbol(text: &mut [u8; 4096], at: usize, symbol: u8) -> usize {
-    if symbol <= 3 {
-        return put(text, at, character_of(symbol));
-    }
-    let at = put(text, at, b'?');
-    put_hexadecimal(text, at, symbol as u64, 2)
-}
-
-fn put_frame(text: &mut [u8; 4096], frame: &[u8; 1024], size: usize) -> usize {
-    let mut at = 0;
-    let mut i = 0;
-    while i < 1024 {
-        if i < size {
-            at = put_symbol(text, at, frame[i]);
-        }
-        i += 1;
-    }
-    at
-}
-
-fn put_time(text: &mut [u8; 4096], at: usize, time: Time) -> usize {
-    let at = put_decimal(text, at, time.year as u64);
-    let at = put(text, at, b' ');
-    let at = put_decimal(text, at, time.day as u64);
-    let at = put(text, at, b' ');
-    put_decimal(text, at, time.hundredths as u64)
-}
-
-fn put_reading(text: &mut [u8; 4096], at: usize, time: Time, control: u64) -> usize {
-    let at = put_time(text, at, time);
-    let at = put(text, at, b' ');
-    put_hexadecimal(text, at, control, 1)
-}
-
-fn put_index(text: &mut [u8; 4096], at: usize, index: usize) -> usize {
-    let at = put(text, at, b'@');
-    put_decimal(text, at, index as u64)
-}
-
-fn put_refusal(text: &mut [u8; 4096], at: usize, refusal: Refusal) -> usize {
-    let at = put(text, at, b'R');
-    let at = put_decimal(text, at, number_of(refusal) as u64);
-    match refusal {
-        Refusal::MisplacedMark(index) => put_index(text, at, index),
-        Refusal::InvalidElement(index) => put_index(text, at, index),
-        Refusal::UnknownCycle(index) => put_index(text, at, index),
-        _ => at,
-    }
-}
-
-// The byte at that place; a space past the line's end.
-fn byte_at(line: &[u8], at: usize) -> u8 {
-    if at < line.len() {
-        return line[at];
-    }
-    b' '
-}
-
-// Where the word of that number begins, from 0; the line's end, where it has fewer words.
-fn start_of(line: &[u8], word: usize) -> usize {
-    let mut left = word;
-    let mut i = 0;
-    while i < line.len() {
-        if left == 0 {
-            return i;
-        }
-        if line[i] == b' ' {
-            left -= 1;
-        }
-        i += 1;
-    }
-    i
-}
-
-fn is_named(line: &[u8], name: &[u8]) -> bool {
-    let mut i = 0;
-    while i < name.len() {
-        if byte_at(line, i) != name[i] {
-            return false;
-        }
-        i += 1;
-    }
-    byte_at(line, i) == b' '
-}
-
-// Where the word that begins there ends.
-fn end_of(line: &[u8], start: usize) -> usize {
-    let mut i = start;
-    while i < line.len() {
-        if line[i] == b' ' {
-            return i;
-        }
-        i += 1;
-    }
-    i
-}
-
-// 0 for what is no number.
-fn value_of(number: Number) -> u64 {
-    match number {
-        Number::Value(value) => value,
-        Number::Malformed => 0,
-    }
-}
-
-// The number that a word is in base 10 or 16; 0 where there is no such word.
-fn number(line: &[u8], word: usize, base: u64) -> u64 {
-    let start = start_of(line, word);
-    let end = end_of(line, start);
-    if start <= end {
-        if end <= line.len() {
-            if base == 16 {
-                return value_of(hexadecimal_in(&line[start..end]));
-            }
-            return value_of(decimal_in(&line[start..end]));
-        }
-    }
-    0
-}
-
-fn decimal(line: &[u8], word: usize) -> u64 {
-    number(line, word, 10)
-}
-
-// Words 1 and 2 of a call with a format.
-fn format_in(line: &[u8]) -> Format {
-    let letter = byte_at(line, start_of(line, 1));
-    let expression = (decimal(line, 2) % 256) as u8;
-    Format {
-        letter: letter,
-        expression: expression,
-    }
-}
-
-// The time of which the year is that word.
-fn time_in(line: &[u8], word: usize) -> Time
-    requires { ⌜ word ≤ 8 ⌝ }
-{
-    let year = (decimal(line, word) % 256) as u8;
-    let day = (decimal(line, word + 1) % 65_536) as u16;
-    let hundredths = (decimal(line, word + 2) % 4_294_967_296) as u32;
-    Time {
-        year: year,
-        day: day,
-        hundredths: hundredths,
-    }
-}
-
-// A byte that is no symbol, for a character that stands for none.
-fn symbol(character: u8) -> u8 {
-    match character {
-        b'0' => 0,
-        b'1' => 1,
-        b'P' => 2,
-        b'-' => 3,
-        _ => 255,
-    }
-}
-
-fn put_element(frame: &mut [u8; 1024], at: usize, element: u8) -> usize {
-    if at < 1024 {
-        frame[at] = element;
-        return at + 1;
-    }
-    at
-}
-
-// A word's elements, as many as there is room for; the answer is their number.
-fn elements_in(line: &[u8], word: usize, frame: &mut [u8; 1024]) -> usize {
-    let mut n = 0;
-    let mut i = start_of(line, word);
-    while i < line.len() {
-        // `(empty)` has none
-        if line[i] == b' ' || line[i] == b'(' {
-            return n;
-        }
-        if line[i] == b'?' {
-            if line.len() - i < 3 {
-                return n;
-            }
-            let byte = value_of(hexadecimal_in(&line[i + 1..i + 3]));
-            n = put_element(frame, n, (byte % 256) as u8);
-            i += 3;
-        } else {
-            n = put_element(frame, n, symbol(line[i]));
-            i += 1;
-        }
-    }
-    n
-}
 
 fn put_stepped(text: &mut [u8; 4096], stepped: Stepped) -> usize {
     match stepped {

@@ -5,8 +5,8 @@ use lib.IntN.{ℤ, pos, negsuc, natAbs}
 use lib.Signed.{yes-nonNeg}
 use mir.Syntax.{w64}
 use mir.Val.{Fits, SFits}
-use Rattle.casetext.proofs.unsigned.Statement.{statement}
-use Rattle.casetext.proofs.unsigned.Tie as tie
+use Rattle.answertext.proofs.unsigned.Statement.{statement}
+use Rattle.answertext.proofs.unsigned.Tie as tie
 
 magnitude-fits : (z : ℤ) → SFits w64 z → Fits w64 (natAbs z)
 magnitude-fits (pos n) f = let h = f .sfits in record { fits = omega arith }

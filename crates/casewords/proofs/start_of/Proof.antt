@@ -1,27 +1,27 @@
--- `is_named` is safe and ends.
+-- `start_of` is safe and ends.
 use borrow.Author.Needs.{needs}
 use lib.ListN.{length}
 use Prim.Native.Nat.{_-_, _≤_}
-use Rattle.casetext.proofs.is_named.Statement.{statement}
-use Rattle.casetext.proofs.is_named.Tie as tie
+use Rattle.casewords.proofs.start_of.Statement.{statement}
+use Rattle.casewords.proofs.start_of.Tie as tie
 
 abbrev Inv-loop : tie.InvT-loop
-Inv-loop line name i₀ i = (i ≤ length name)
+Inv-loop line word left₀ i₀ left i = (i ≤ length line)
 
 abbrev μ-loop : tie.MeasureT-loop
-μ-loop line name i₀ i = length name - i
+μ-loop line word left₀ i₀ left i = length line - i
 
 loop-holds : tie.Need-loop-holds Inv-loop μ-loop
 loop-holds c = search needs
 
-byte-at-requires : tie.Need-byte-at-requires Inv-loop μ-loop
-byte-at-requires c κs = search needs
-
-shared-slice-read-if1 : tie.Need-shared-slice-read-if1 Inv-loop μ-loop
-shared-slice-read-if1 c = search needs
-
 returns : tie.Need-returns Inv-loop μ-loop
 returns c = search needs
+
+shared-slice-read-if2 : tie.Need-shared-slice-read-if2 Inv-loop μ-loop
+shared-slice-read-if2 c = search needs
+
+sub-left : tie.Need-sub-left Inv-loop μ-loop
+sub-left c = search needs
 
 add-i : tie.Need-add-i Inv-loop μ-loop
 add-i c = search needs
@@ -32,24 +32,20 @@ loop-less c = search needs
 loop-again : tie.Need-loop-again Inv-loop μ-loop
 loop-again c = search needs
 
-byte-at-requires-2 : tie.Need-byte-at-requires-2 Inv-loop μ-loop
-byte-at-requires-2 c κs = search needs
-
 returns-2 : tie.Need-returns-2 Inv-loop μ-loop
 returns-2 c = search needs
 
-pub is-named-spec : {M : Type 1} → statement M
-is-named-spec =
+pub start-of-spec : {M : Type 1} → statement M
+start-of-spec =
     tie.close
     (tie.spec
     Inv-loop
     μ-loop
     loop-holds
-    byte-at-requires
-    shared-slice-read-if1
     returns
+    shared-slice-read-if2
+    sub-left
     add-i
     loop-less
     loop-again
-    byte-at-requires-2
     returns-2)

@@ -3,8 +3,8 @@ use borrow.Author.Needs.{needs}
 use native.Mathlib.Omega.{arith}
 use mir.Syntax.{w32}
 use mir.ValLaws.{toZ-ofZ}
-use Rattle.casetext.proofs.wide.Statement.{statement}
-use Rattle.casetext.proofs.wide.Tie as tie
+use Rattle.answertext.proofs.wide.Statement.{statement}
+use Rattle.answertext.proofs.wide.Tie as tie
 
 cast-result : tie.Need-cast-result
 cast-result c = rw (toZ-ofZ w32 (c .args .number) (c .fits .number)) (record { sfits = omega (arith, c .fits .number .sfits) })

@@ -2,8 +2,8 @@
 use borrow.Author.Needs.{needs}
 use lib.ListN.{length}
 use Prim.Native.Nat.{_-_, _≤_}
-use Rattle.casetext.proofs.put_bytes.Statement.{statement}
-use Rattle.casetext.proofs.put_bytes.Tie as tie
+use Rattle.answertext.proofs.put_bytes.Statement.{statement}
+use Rattle.answertext.proofs.put_bytes.Tie as tie
 
 abbrev Inv-loop : tie.InvT-loop
 Inv-loop text₀ at bytes at₀ i₀ text at' i = (i ≤ length bytes)

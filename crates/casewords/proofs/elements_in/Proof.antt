@@ -2,8 +2,8 @@
 use borrow.Author.Needs.{needs}
 use lib.ListN.{length}
 use Prim.Native.Nat.{_-_}
-use Rattle.casetext.proofs.elements_in.Statement.{statement}
-use Rattle.casetext.proofs.elements_in.Tie as tie
+use Rattle.casewords.proofs.elements_in.Statement.{statement}
+use Rattle.casewords.proofs.elements_in.Tie as tie
 
 abbrev Inv-loop : tie.InvT-loop
 Inv-loop line word frame₀ n₀ i₀ frame n i = Unit {0}

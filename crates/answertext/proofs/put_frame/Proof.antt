@@ -1,8 +1,8 @@
 -- `put_frame` is safe and ends.
 use borrow.Author.Needs.{needs}
 use Prim.Native.Nat.{_-_, _≤_}
-use Rattle.casetext.proofs.put_frame.Statement.{statement}
-use Rattle.casetext.proofs.put_frame.Tie as tie
+use Rattle.answertext.proofs.put_frame.Statement.{statement}
+use Rattle.answertext.proofs.put_frame.Tie as tie
 
 abbrev Inv-loop : tie.InvT-loop
 Inv-loop text₀ frame size at₀ i₀ text at i = (i ≤ 1024)
