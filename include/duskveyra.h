@@ -2,13 +2,13 @@
  *
  * Every function takes numbers, formats and times by value and returns one struct. Its member number is 0, or the number
  * of a refusal; where it is not 0 every other member is 0, but the index with 5, 6 and 25, and all memory of the caller
- * is as it was. Every value of every number is allowed, and every content of lent memory; what is out of range is refused with
- * its number.
+ * is as it was. Every value of every number is allowed, and every content of lent memory; what is out of range is refused
+ * with its number.
  *
- * Pointers go to frames, lists and readers alone. None may be null, also where the length beside it is 0, and no two of
- * one call may point into the same memory, but where both are const. A list goes as two arguments, the pointer and the
- * number of its elements. Every function returns, keeps no pointer after that, and uses no memory but its own and what is
- * lent to it.
+ * Pointers go to frames, cycles, lists, logs and readers alone. None may be null, also where the length beside it is 0,
+ * and no two of one call may point into the same memory, but where both are const. A list goes as two arguments, the
+ * pointer and the number of its elements. Every function returns, keeps no pointer after that, and uses no memory but its
+ * own and what is lent to it.
  *
  * A symbol is one byte: 0 (zero or index marker), 1 (one), 2 (mark: position identifier or reference bit) or
  * 3 (spoiled, or a missing pulse of X). A format is a rate letter, in capital ASCII ('A', 'B', 'D', 'E', 'G', 'H', 'X'),
@@ -341,8 +341,8 @@ duskveyra_scan_result duskveyra_scan(duskveyra_format format, const uint8_t *rec
  * multiple of 10 from 10 to 100; every cycle is set. A cycle is one byte of two half levels, 1 (01, high) or 2 (10, low).
  * A zero is count / 5 high cycles and then low ones, a one count / 2, a mark 4 * count / 5. The frame need be none that
  * duskveyra_read takes. The standard's higher carriers, 1,000 and 10,000 cycles an element, are refused with 24.
- * Refuses with 1, also for D, E and H; 24; 3 where frame_length is not the format's number of elements, or cycles_length
- * not that number times count; 4 for a symbol above 2; in this order. */
+ * Refuses with 1, also for D, E, H and X; 24; 3 where frame_length is not the format's number of elements, or
+ * cycles_length not that number times count; 4 for a symbol above 2; in this order. */
 duskveyra_write_result duskveyra_encode_cycles(duskveyra_format format, size_t count, const uint8_t *frame,
                                                size_t frame_length, uint8_t *cycles, size_t cycles_length);
 

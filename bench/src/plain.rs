@@ -2,8 +2,7 @@
 
 pub use reference::{
     classify, classify_list, log_read, log_write, next_after, read, scan, step, write, Format,
-    Refusal, Report, Time, Widths,
-    USUAL_DAY,
+    Refusal, Report, Time, Widths, USUAL_DAY,
 };
 
 /// A report of a block: the index of the symbol that brought it, the time and the control word.

@@ -1,5 +1,6 @@
-//! Runs the library against the plain version in `reference`: random streams in all 25 formats with every setting, symbol by symbol and in
-//! blocks, random calls with good and bad input, and report logs. The first difference is printed in full and ends the run.
+//! Runs the library against the plain version in `reference`: one element lost or put in at every place, random streams in
+//! all 25 formats with every setting, symbol by symbol and in blocks, random calls with good and bad input, report logs,
+//! clock cycles and forecasts. The first difference is printed in full and ends the run.
 
 mod blocks;
 mod calls;

@@ -1,7 +1,8 @@
 //! Serial time code after IRIG 200-98: formats A, B, D, E, G and H as
 //! pulse-width elements, with days that are a second longer or shorter, A and B
-//! with the year after IRIG 200-04, and the XR3 code as format X; A, B and G in the
-//! modified Manchester form too. Beside them the hold-over forecast.
+//! with the year after IRIG 200-04, and the XR3 code as format X; A, B and G in
+//! the modified Manchester form too. Beside them the report log and the
+//! hold-over forecast.
 //!
 //! A symbol is one byte: 0 (zero or index marker), 1 (one), 2 (mark: position
 //! identifier or reference bit), 3 (spoiled, or in X a missing pulse).

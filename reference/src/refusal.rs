@@ -14,7 +14,8 @@ pub enum Refusal {
     Symbol,
     /// 5: mark missing, or a mark where none belongs.
     Mark(usize),
-    /// 6: index marker not zero, or a spoiled digit, SBS or control bit.
+    /// 6: index marker not zero, a spoiled digit, SBS or control bit, or a pulse
+    /// where X misses one.
     Element(usize),
     /// 7: digit over 9, or a clock field or day of year out of range.
     Digit,

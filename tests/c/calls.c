@@ -1,6 +1,8 @@
-/* Every function of duskveyra.h but duskveyra_feed_block (blocks.c) and the converters (years.c, which has the formats
- * with the year too; X is in tapes.c), the classifier with the usual settings (widths.c has the others): its result, each refusal it can give, their order, and the memory it must leave. What is expected
- * stands in documents 01 and 02: the examples, the table of places, the rules. Also compiles as C++. */
+/* Every function of duskveyra.h but duskveyra_feed_block (blocks.c), the converters (years.c, which has the formats with
+ * the year too), the Manchester form (cycles.c), the forecast (holdover.c) and the report log (logs.c); X is in tapes.c,
+ * and the classifier has the usual settings (widths.c has the others): its result, each refusal it can give, their order,
+ * and the memory it must leave. What is expected stands in documents 01 and 02: the examples, the table of places, the
+ * rules. Also compiles as C++. */
 #include "check.h"
 #include "duskveyra.h"
 
@@ -587,7 +589,8 @@ static void orders(void)
         uint32_t *widths = ticks(5, 200), *periods = ticks(bad & 2 ? 4 : 5, 1000);
         uint8_t *symbols = bytes(5, FILL);
         int32_t off[5] = {7, 7, 7, 7, 7};
-        CHECK(duskveyra_classify_list(usual, bad & 1 ? 99 : 1000, widths, 5, periods, bad & 2 ? 4 : 5, symbols, 5, off, 5).number == number);
+        CHECK(duskveyra_classify_list(usual, bad & 1 ? 99 : 1000, widths, 5, periods, bad & 2 ? 4 : 5, symbols, 5, off, 5)
+                  .number == number);
         CHECK(all_bytes(symbols, 5, number == 0 ? 0 : FILL) && off[0] == (number == 0 ? 0 : 7));
         free(widths);
         free(periods);

@@ -2,6 +2,7 @@
  * input in its order, and the memory that a refused call must leave. Also compiles as C++. */
 #include "check.h"
 #include "duskveyra.h"
+#include "times.h"
 
 #include <stdio.h>
 #include <string.h>
@@ -9,33 +10,6 @@
 #define N DUSKVEYRA_LONGEST_FRAME
 #define MOST_CYCLES (N * 100)
 #define GUARD 8
-
-static uint64_t random_state = UINT64_C(0x9e3779b97f4a7c15);
-
-static uint64_t below(uint64_t limit)
-{
-    random_state ^= random_state << 13;
-    random_state ^= random_state >> 7;
-    random_state ^= random_state << 17;
-    return (random_state * UINT64_C(0x2545f4914f6cdd1d) >> 11) % limit;
-}
-
-static duskveyra_format format_of(char letter, unsigned expression)
-{
-    duskveyra_format format;
-    format.letter = (uint8_t)letter;
-    format.expression = (uint8_t)expression;
-    return format;
-}
-
-static int is_filled(const uint8_t *bytes, size_t length)
-{
-    size_t i;
-    for (i = 0; i < length; i++)
-        if (bytes[i] != FILL)
-            return 0;
-    return 1;
-}
 
 /* Encodes into guarded memory of that length, and says the number. */
 static unsigned encode(duskveyra_format format, size_t count, const uint8_t *frame, size_t frame_length, uint8_t *cycles,
@@ -45,8 +19,8 @@ static unsigned encode(duskveyra_format format, size_t count, const uint8_t *fra
     unsigned number;
     memset(lent, FILL, sizeof lent);
     number = duskveyra_encode_cycles(format, count, frame, frame_length, lent + GUARD, length).number;
-    CHECK(is_filled(lent, GUARD) && is_filled(lent + GUARD + length, sizeof lent - GUARD - length));
-    CHECK(number == 0 || is_filled(lent, sizeof lent));
+    CHECK(untouched(lent, GUARD) && untouched(lent + GUARD + length, sizeof lent - GUARD - length));
+    CHECK(number == 0 || untouched(lent, sizeof lent));
     memcpy(cycles, lent + GUARD, length);
     return number;
 }
@@ -59,8 +33,8 @@ static unsigned decode(duskveyra_format format, size_t count, const uint8_t *cyc
     duskveyra_convert_result result;
     memset(lent, FILL, sizeof lent);
     result = duskveyra_decode_cycles(format, count, cycles, cycles_length, lent + GUARD, length);
-    CHECK(is_filled(lent, GUARD) && is_filled(lent + GUARD + length, sizeof lent - GUARD - length));
-    CHECK(result.number == 0 || is_filled(lent, sizeof lent));
+    CHECK(untouched(lent, GUARD) && untouched(lent + GUARD + length, sizeof lent - GUARD - length));
+    CHECK(result.number == 0 || untouched(lent, sizeof lent));
     CHECK(result.index == index);
     memcpy(frame, lent + GUARD, length);
     return result.number;

@@ -9,16 +9,6 @@
 
 #define MOST_SECONDS UINT32_C(16777216)
 
-static uint64_t random_state = UINT64_C(0x9e3779b97f4a7c15);
-
-static uint64_t random_bits(void)
-{
-    random_state ^= random_state << 13;
-    random_state ^= random_state >> 7;
-    random_state ^= random_state << 17;
-    return random_state * UINT64_C(0x2545f4914f6cdd1d);
-}
-
 static double float_of(uint64_t bits)
 {
     double x;
@@ -123,8 +113,8 @@ static int is_finite(double x)
 
 static double any_figure(void)
 {
-    uint64_t bits = random_bits();
-    switch (random_bits() >> 32 & 3) {
+    uint64_t bits = random64();
+    switch (random64() >> 32 & 3) {
     case 0: /* near one */
         bits = UINT64_C(0x3ff0000000000000) + (bits & 15) - 8;
         break;
@@ -142,7 +132,7 @@ static void random_figures(void)
     int i;
     for (i = 0; i < 200000; i++) {
         duskveyra_oscillator o = oscillator_of(any_figure(), any_figure(), any_figure(), any_figure());
-        uint32_t seconds = (uint32_t)(random_bits() >> 39);
+        uint32_t seconds = (uint32_t)(random64() >> 39);
         if (is_finite(o.error) && is_finite(o.frequency) && is_finite(o.reference) && o.reference != 0.0 &&
             is_finite(o.ageing) && seconds <= MOST_SECONDS)
             is_expected(o, seconds, plain(o, seconds));

@@ -11,16 +11,6 @@
 #define REPORTS 200
 #define LONGEST (REPORTS * DUSKVEYRA_LONGEST_RECORD)
 
-static uint64_t random_state = UINT64_C(0x9e3779b97f4a7c15);
-
-static uint64_t below(uint64_t limit)
-{
-    random_state ^= random_state << 13;
-    random_state ^= random_state >> 7;
-    random_state ^= random_state << 17;
-    return (random_state * UINT64_C(0x2545f4914f6cdd1d) >> 11) % limit;
-}
-
 static duskveyra_report report_of(unsigned year, unsigned day, uint32_t hundredths, uint64_t control)
 {
     duskveyra_report report;

@@ -5,7 +5,7 @@
 #include "check.h"
 #include "duskveyra.h"
 
-static duskveyra_format format_of(char letter, unsigned expression)
+static inline duskveyra_format format_of(char letter, unsigned expression)
 {
     duskveyra_format format;
     format.letter = (uint8_t)letter;
@@ -13,7 +13,7 @@ static duskveyra_format format_of(char letter, unsigned expression)
     return format;
 }
 
-static duskveyra_time time_of(unsigned year, unsigned day, uint32_t hundredths)
+static inline duskveyra_time time_of(unsigned year, unsigned day, uint32_t hundredths)
 {
     duskveyra_time time;
     memset(&time, FILL, sizeof time);
@@ -23,25 +23,25 @@ static duskveyra_time time_of(unsigned year, unsigned day, uint32_t hundredths)
     return time;
 }
 
-static int is_time(duskveyra_time time, unsigned year, unsigned day, uint32_t hundredths)
+static inline int is_time(duskveyra_time time, unsigned year, unsigned day, uint32_t hundredths)
 {
     return time.year == year && time.day == day && time.hundredths == hundredths;
 }
 
 /* Both steps, for what holds of either. */
-static duskveyra_step_result step_either(int back, duskveyra_format format, duskveyra_time time, uint16_t year_length,
-                                         uint8_t kind)
+static inline duskveyra_step_result step_either(int back, duskveyra_format format, duskveyra_time time,
+                                                uint16_t year_length, uint8_t kind)
 {
     return back ? duskveyra_step_back(format, time, year_length, kind)
                 : duskveyra_step(format, time, year_length, kind);
 }
 
-static uint8_t *lent_bytes(size_t length)
+static inline uint8_t *lent_bytes(size_t length)
 {
     return (uint8_t *)lent_memory(length);
 }
 
-static int untouched(const uint8_t *memory, size_t length)
+static inline int untouched(const uint8_t *memory, size_t length)
 {
     size_t i;
     for (i = 0; i < length; i++)

@@ -1,4 +1,4 @@
-//! The twenty-five numbers that a call refuses with.
+//! The twenty-four numbers that a call refuses with.
 
 use std::error::Error;
 use std::fmt;
@@ -60,7 +60,7 @@ pub enum Refusal {
 }
 
 impl Refusal {
-    /// The number, 1 to 20 or 23 to 27.
+    /// The number, 1 to 20 or 23 to 26.
     pub fn number(self) -> u8 {
         match self {
             Refusal::UnknownFormat => 1,
