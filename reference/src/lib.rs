@@ -36,4 +36,4 @@ pub use pulse::{classify, classify_and_feed, classify_list, Widths};
 pub use refusal::Refusal;
 pub use scan::scan;
 pub use stream::{Answer, Reader};
-pub use timeread::timeread;
+pub use timeread::{timelog, timeread};

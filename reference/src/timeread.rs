@@ -1,9 +1,10 @@
-//! The text program: a format line and a stream of element characters in, a
-//! line for each report out.
+//! The text programs: a format line and a stream of element characters in, or a
+//! log, and a line for each report out.
 
 use std::io::Write;
 
 use crate::formats::{Format, Time, MARK, ONE, SPOILED, ZERO};
+use crate::log::{log_read, Report};
 use crate::refusal::Refusal;
 use crate::stream::{Answer, Reader};
 
@@ -51,6 +52,25 @@ fn listen(input: &[u8], out: &mut Vec<u8>) -> Result<(u64, u64), Refusal> {
         }
     }
     Ok((elements, reports))
+}
+
+/// Appends to `out` what `timelog` prints for a log: the year where `timeread`
+/// has the number of the element.
+pub fn timelog(log: &[u8], out: &mut Vec<u8>) {
+    let (mut place, mut last, mut reports) = (0, Report::default(), 0);
+    let last_line = loop {
+        match log_read(log, place, last) {
+            Ok(Some((report, next))) => {
+                let year = report.time.year.into();
+                print_report(out, year, report.time, report.control);
+                reports += 1;
+                (place, last) = (next, report);
+            }
+            Ok(None) => break format!("bytes {place} reports {reports}\n"),
+            Err(refusal) => break format!("refused {} at {place}\n", refusal.number()),
+        }
+    };
+    out.extend_from_slice(last_line.as_bytes());
 }
 
 fn print_report(out: &mut Vec<u8>, element: u64, time: Time, control: u64) {
