@@ -5,10 +5,10 @@ use Rattle.stress.proofs.receive_symbols.Statement.{statement}
 use Rattle.stress.proofs.receive_symbols.Tie as tie
 
 abbrev Inv-loop : tie.InvT-loop
-Inv-loop case setting count n tally₀ i₀ tally i = Unit {0}
+Inv-loop case format setting count n tally₀ i₀ tally i = Unit {0}
 
 abbrev μ-loop : tie.MeasureT-loop
-μ-loop case setting count n tally₀ i₀ tally i = count - i
+μ-loop case format setting count n tally₀ i₀ tally i = count - i
 
 frame-size-requires : tie.Need-frame-size-requires Inv-loop μ-loop
 frame-size-requires c κs = search needs
