@@ -28,7 +28,7 @@ pub record Listens (l : Listening) (frame : List ℕ) (n past : ℕ) (numbers sy
   pub left : l .next ≤ to
   pub numbered : to ≤ length numbers
   pub symboled : to ≤ length symbols
-  pub small : (i : ℕ) → i < to → getD symbols i 0 ≤ 3
+  pub small : (i : ℕ) → l .next ≤ i → i < to → getD symbols i 0 ≤ 3
 
 -- the damages up to the new next one are put in; those lie not behind the frame, and the next one does
 pub record HearsFrame (l : Listening) (frame : List ℕ) (n past : ℕ) (sent : Time) (numbers symbols : List ℕ) (to : ℕ) (r : Listening) : Type 0 where

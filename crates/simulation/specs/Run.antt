@@ -22,18 +22,18 @@ module _ (f : Format) (given : ℕ) where
   length-run zero t u h = refl
   length-run (suc n) t u h = rw h (ap suc (length-run n u (following f u (lengthFor f u given) usual) (step-again f t u given usual h)))
 
-  first-time : (n : ℕ) (t : Time) → 0 < n → sentAt (runOf f given n t) 0 .time ≡ t
+  pub first-time : (n : ℕ) (t : Time) → 0 < n → sentAt (runOf f given n t) 0 .time ≡ t
   unfolding runOf
   first-time zero t h = absurd (not-suc-le-zero h)
   first-time (suc n) t h = refl
 
-  control-none : (n : ℕ) (t u : Time) → stepOf f t given usual ≡ To u → (j : ℕ) → sentAt (runOf f given n t) j .control ≡ 0
+  pub control-none : (n : ℕ) (t u : Time) → stepOf f t given usual ≡ To u → (j : ℕ) → sentAt (runOf f given n t) j .control ≡ 0
   unfolding runOf
   control-none zero t u h j = refl
   control-none (suc n) t u h zero = refl
   control-none (suc n) t u h (suc j) = rw h (control-none n u (following f u (lengthFor f u given) usual) (step-again f t u given usual h) j)
 
-  steps-at : (n : ℕ) (t u : Time) → stepOf f t given usual ≡ To u → (j : ℕ) → suc j < n → stepOf f (sentAt (runOf f given n t) j .time) given usual ≡ To (sentAt (runOf f given n t) (suc j) .time)
+  pub steps-at : (n : ℕ) (t u : Time) → stepOf f t given usual ≡ To u → (j : ℕ) → suc j < n → stepOf f (sentAt (runOf f given n t) j .time) given usual ≡ To (sentAt (runOf f given n t) (suc j) .time)
   unfolding runOf
   steps-at zero t u h j b = absurd (not-suc-le-zero b)
   steps-at (suc n) t u h zero b = rw h (ap To (sym (first-time n u (omega arith))))
