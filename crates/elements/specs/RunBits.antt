@@ -253,12 +253,12 @@ unfolding putIn
 length-put n xs = length-tabulate n 0 _
 
 -- the elements of the digits' bits, of which those below 60 come in two parts
-pub put-parts : (n : ℕ) (xs : List ℕ) (time middle tail : ℕ) → length xs ≡ 20 → time ≡ packedRuns 0 xs 0 11 → middle ≡ packedRuns 0 xs 13 1 + packedYear xs → tail ≡ packed 60 100 runStarts xs
-    → tabulate n 0 (elementAt (time + middle) tail) ≡ putIn n xs
+pub put-parts : (n : ℕ) (xs : List ℕ) (time middle : ℕ) → length xs ≡ 20 → time ≡ packedRuns 0 xs 0 11 → middle ≡ packedRuns 0 xs 13 1 + packedYear xs
+    → tabulate n 0 (elementAt (time + middle) (packed 60 100 runStarts xs)) ≡ putIn n xs
 unfolding putIn
-put-parts n xs time middle tail l p q r =
+put-parts n xs time middle l p q =
     let head : time + middle ≡ packed 0 60 runStarts xs = omega (arith, p, q, head-packed xs l) in
-    rw (head, r)
+    rw head
 
 -- any digits give zeros, ones and marks
 module _ (n : ℕ) (xs : List ℕ) (i : ℕ) (h : i < n) where

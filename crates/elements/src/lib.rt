@@ -119,10 +119,10 @@ fn put_tens(fours: &[u32], places: &[u8], frame: &mut [u8], from: usize, to: usi
     }
 }
 
-// The elements of a frame from their bits: those below 60 as one number, those from 60 on as another.
+// The elements of a frame from their bits: those below 60 as one number, those from 60 on as another, which a frame of 60 leaves out.
 pub fn put_bits(head: u64, tail: u64, frame: &mut [u8])
     requires { ⌜ IsFrame (length (now frame)) ⌝ }
-    ensures { λ _. ⌜ now (frame .exit) ≡ tabulate (length (now (frame .entry))) 0 (elementAt head tail) ⌝ }
+    ensures { λ _. ⌜ ((t : ℕ) → (length (now (frame .entry)) ≡ 100 → tail ≡ t) → now (frame .exit) ≡ tabulate (length (now (frame .entry))) 0 (elementAt head t)) ⌝ }
 {
     let fours = FOURS;
     let marks = mark_places();
@@ -150,11 +150,14 @@ pub fn middle_bits(digits: &[u64]) -> u64
     bits_from(&starts, digits, CONTROL_1, CONTROL_2, 0) + year_bits(&starts, digits)
 }
 
-// The bits of straight binary seconds and the other control ranges, which stand from 60 on.
-pub fn tail_bits(digits: &[u64]) -> u64
+// The bits of straight binary seconds and the other control ranges, which stand from 60 on in a frame of 100 elements.
+pub fn tail_bits(digits: &[u64], elements: usize) -> u64
     requires { ⌜ length (now digits) ≡ 20 ⌝ }
-    ensures { λ r. ⌜ r ≡ packed 60 100 runStarts (now (digits .entry)) ⌝ }
+    ensures { λ r. ⌜ (elements ≡ 100 → r ≡ packed 60 100 runStarts (now (digits .entry))) ⌝ }
 {
+    if elements != 100 {
+        return 0;
+    }
     let starts = run_starts();
     bits_from(&starts, digits, STRAIGHT_LOW, CONTROL_1, 60)
         + bits_from(&starts, digits, CONTROL_2, YEAR_UNITS, 60)

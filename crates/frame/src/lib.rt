@@ -82,7 +82,8 @@ fn put_frame(row: Row, time: Time, control: u64, frame: &mut [u8])
     let widths = widths_of(row.runs);
     let digits = digits_of(&widths, time, control);
     let head = time_bits(&digits) + middle_bits(&digits);
-    put_bits(head, tail_bits(&digits), frame);
+    let tail = tail_bits(&digits, frame.len());
+    put_bits(head, tail, frame);
 }
 
 // Writes a time and a control word; every byte is set, or, where it refuses, none.
@@ -191,7 +192,7 @@ fn read_frame(row: Row, frame: &[u8]) -> Reading
     let digits = digits_in(row.runs, frame);
     let mut again = [0u8; 100];
     let head = time_bits(&digits) + middle_bits(&digits);
-    put_bits(head, tail_bits(&digits), &mut again);
+    put_bits(head, tail_bits(&digits, 100), &mut again);
     let offence = offence_in(&again, frame);
     match offence {
         Offence::At(refusal) => Reading::Refused(refusal),

@@ -3,6 +3,8 @@ use borrow.Author.Needs.{needs}
 use native.Mathlib.Omega.{arith}
 use mathlib.Core.Path.{refl, sym, ap, _∙_}
 use lib.ListN.{length}
+use Rattle.timecode.specs.Layout.{tabulate}
+use Rattle.elements.specs.RunBits.{elementAt}
 use Rattle.elements.specs.Tens.{frame-range, not-100, tens, length-tens, frame-of-60, frame-of-100}
 use Rattle.elements.proofs.put_bits.Statement.{statement}
 use Rattle.elements.proofs.put_bits.Tie as tie
@@ -39,7 +41,11 @@ returns c =
     let start = c .before .before .before .before .before .before .before .before .before .before .before .before .before .before .before in
     let put = c .before .before .before .before .before .before .before .before .before .put-tens .ensures in
     let n = sym (ap length put ∙ length-tens _ _ _ _) ∙ c .before .before .before .before .before .before .if1 .taken in
-    c .before .before .put-tens2 .ensures ∙ ap (λ ss. tens ss 6 10 (start .args .tail)) put ∙ frame-of-100 (start .args .frame .now) (start .args .head) (start .args .tail) n
+    λ t e.
+    c .before .before .put-tens2 .ensures
+    ∙ ap (λ ss. tens ss 6 10 (start .args .tail)) put
+    ∙ frame-of-100 (start .args .frame .now) (start .args .head) (start .args .tail) n
+    ∙ ap (λ a. tabulate (length (start .args .frame .now)) 0 (elementAt (start .args .head) a)) (e n)
 
 same-length-2 : tie.Need-same-length-2
 same-length-2 c = search needs
@@ -49,7 +55,7 @@ returns-2 c =
     let start = c .before .before .before .before .before .before .before .before .before in
     let put = c .before .before .before .put-tens .ensures in
     let n = not-100 (length (start .args .frame .now)) (start .pre) (λ q. c .if1 .left (ap length put ∙ length-tens _ _ _ _ ∙ q)) in
-    put ∙ frame-of-60 (start .args .frame .now) (start .args .head) (start .args .tail) n
+    λ t e. put ∙ frame-of-60 (start .args .frame .now) (start .args .head) t n
 
 pub put-bits-spec : {M : Type 1} → statement M
 put-bits-spec =

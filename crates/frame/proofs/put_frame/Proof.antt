@@ -45,7 +45,7 @@ put-bits-requires : tie.Need-put-bits-requires
 put-bits-requires c κs = c .before .before .before .before .before .before .before .before .before .before .before .pre .1
 
 same-length : tie.Need-same-length
-same-length c = ap length (c .before .before .put-bits .ensures) ∙ length-tabulate _ 0 _
+same-length c = ap length (c .before .before .put-bits .ensures _ (c .before .before .before .before .tail-bits .ensures)) ∙ length-tabulate _ 0 _
 
 returns : tie.Need-returns
 returns c =
@@ -55,8 +55,8 @@ returns c =
     λ f o x valid n.
     let same = digits .ensures f x (c .before .before .before .before .before .before .before .before .before .before .before .before .widths-of .ensures ∙ o .widths-are) valid in
     let small = code-small f (start .args .time) (start .args .control) valid in
-    c .before .before .put-bits .ensures
-    ∙ put-parts (length (start .args .frame .now)) (digits .result) (c .before .before .before .before .before .before .before .before .time-bits .result) (c .before .before .before .before .before .before .middle-bits .result) (c .before .before .before .before .tail-bits .result) long (c .before .before .before .before .before .before .before .before .time-bits .ensures .0) (c .before .before .before .before .before .before .middle-bits .ensures .0) (c .before .before .before .before .tail-bits .ensures)
+    c .before .before .put-bits .ensures _ (c .before .before .before .before .tail-bits .ensures)
+    ∙ put-parts (length (start .args .frame .now)) (digits .result) (c .before .before .before .before .before .before .before .before .time-bits .result) (c .before .before .before .before .before .before .middle-bits .result) long (c .before .before .before .before .before .before .before .before .time-bits .ensures .0) (c .before .before .before .before .before .before .middle-bits .ensures .0)
     ∙ ap₂ (λ m xs. putIn m xs) n same
     ∙ put-right f (valid .format) x _ small _ (size-range f .1)
     ∙ code-written f (start .args .time) (start .args .control)

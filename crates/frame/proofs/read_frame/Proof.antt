@@ -55,7 +55,7 @@ offence-in-requires c κs =
     let start = c .before .before .before .before .before .before .before .before .before .before .before .before in
     let digits = c .before .before .before .before .before .before .before .before .before .before .digits-in .result in
     let long = digits-long _ _ _ (c .before .before .before .before .before .before .before .before .before .before .digits-in .ensures) in
-    let put = c .before .before .put-bits .ensures ∙ put-parts 100 (c .before .before .before .before .before .before .before .before .before .before .digits-in .result) (c .before .before .before .before .before .before .before .before .time-bits .result) (c .before .before .before .before .before .before .middle-bits .result) (c .before .before .before .before .tail-bits .result) long (c .before .before .before .before .before .before .before .before .time-bits .ensures .0) (c .before .before .before .before .before .before .middle-bits .ensures .0) (c .before .before .before .before .tail-bits .ensures) in
+    let put = c .before .before .put-bits .ensures _ (λ e. c .before .before .before .before .tail-bits .ensures refl) ∙ put-parts 100 (c .before .before .before .before .before .before .before .before .before .before .digits-in .result) (c .before .before .before .before .before .before .before .before .time-bits .result) (c .before .before .before .before .before .before .middle-bits .result) long (c .before .before .before .before .before .before .before .before .time-bits .ensures .0) (c .before .before .before .before .before .before .middle-bits .ensures .0) in
     let range = size-range (start .pre .format) in
     (omega (arith, ap length put ∙ length-put 100 digits, start .pre .long, range), λ k h. rw put (put-symbol 100 digits k (omega (arith, h, start .pre .long, range))))
 
@@ -81,7 +81,7 @@ meaning-requires c κs =
     let frame = start .args .frame .now in
     let long = digits-long _ _ _ (c .before .before .before .before .before .before .before .before .before .before .before .before .before .before .before .before .digits-in .ensures) in
     let same = c .before .before .before .before .before .before .before .before .before .before .before .before .before .before .before .before .digits-in .ensures ∙ row-digits f (start .args .row) frame (start .pre .not-x) (start .pre .row-of) in
-    let again = c .before .before .before .before .before .before .before .before .put-bits .ensures ∙ put-parts 100 (c .before .before .before .before .before .before .before .before .before .before .before .before .before .before .before .before .digits-in .result) (c .before .before .before .before .before .before .before .before .before .before .before .before .before .before .time-bits .result) (c .before .before .before .before .before .before .before .before .before .before .before .before .middle-bits .result) (c .before .before .before .before .before .before .before .before .before .before .tail-bits .result) long (c .before .before .before .before .before .before .before .before .before .before .before .before .before .before .time-bits .ensures .0) (c .before .before .before .before .before .before .before .before .before .before .before .before .middle-bits .ensures .0) (c .before .before .before .before .before .before .before .before .before .before .tail-bits .ensures) ∙ ap (putIn 100) same in
+    let again = c .before .before .before .before .before .before .before .before .put-bits .ensures _ (λ e. c .before .before .before .before .before .before .before .before .before .before .tail-bits .ensures refl) ∙ put-parts 100 (c .before .before .before .before .before .before .before .before .before .before .before .before .before .before .before .before .digits-in .result) (c .before .before .before .before .before .before .before .before .before .before .before .before .before .before .time-bits .result) (c .before .before .before .before .before .before .before .before .before .before .before .before .middle-bits .result) long (c .before .before .before .before .before .before .before .before .before .before .before .before .before .before .time-bits .ensures .0) (c .before .before .before .before .before .before .before .before .before .before .before .before .middle-bits .ensures .0) ∙ ap (putIn 100) same in
     let clean = finds-nothing f frame (start .pre .is-known) (start .pre .not-x) (start .pre .long) (ap (λ ss. offenceIn ss frame) (sym again) ∙ sym (c .before .before .before .before .before .offence-in .ensures) ∙ c .before .before .before .enum-told .given .1) in
     (rw (c .before .before .widths-of .ensures) (row-widths (start .args .row .runs)), subst Digits (sym same) (are-digits f frame (start .pre .is-known) (start .pre .not-x) (start .pre .long) clean))
 
@@ -91,7 +91,7 @@ returns c =
     let frame = start .args .frame .now in
     let long = digits-long _ _ _ (c .before .before .before .before .before .before .before .before .before .before .before .before .before .before .digits-in .ensures) in
     λ f k x o n.
-    let again = c .before .before .before .before .before .before .put-bits .ensures ∙ put-parts 100 (c .before .before .before .before .before .before .before .before .before .before .before .before .before .before .digits-in .result) (c .before .before .before .before .before .before .before .before .before .before .before .before .time-bits .result) (c .before .before .before .before .before .before .before .before .before .before .middle-bits .result) (c .before .before .before .before .before .before .before .before .tail-bits .result) long (c .before .before .before .before .before .before .before .before .before .before .before .before .time-bits .ensures .0) (c .before .before .before .before .before .before .before .before .before .before .middle-bits .ensures .0) (c .before .before .before .before .before .before .before .before .tail-bits .ensures) ∙ ap (putIn 100) (c .before .before .before .before .before .before .before .before .before .before .before .before .before .before .digits-in .ensures ∙ row-digits f (start .args .row) frame x o) in
+    let again = c .before .before .before .before .before .before .put-bits .ensures _ (λ e. c .before .before .before .before .before .before .before .before .tail-bits .ensures refl) ∙ put-parts 100 (c .before .before .before .before .before .before .before .before .before .before .before .before .before .before .digits-in .result) (c .before .before .before .before .before .before .before .before .before .before .before .before .time-bits .result) (c .before .before .before .before .before .before .before .before .before .before .middle-bits .result) long (c .before .before .before .before .before .before .before .before .before .before .before .before .time-bits .ensures .0) (c .before .before .before .before .before .before .before .before .before .before .middle-bits .ensures .0) ∙ ap (putIn 100) (c .before .before .before .before .before .before .before .before .before .before .before .before .before .before .digits-in .ensures ∙ row-digits f (start .args .row) frame x o) in
     sym (read-refused-or f frame k x n
     ∙ ap (λ a. refusedOr a (meaningOf (carriesLeap f) (carriesYear f) (widthsOf f) (decode (codeRuns f) frame))) (ap (λ ss. offenceIn ss frame) (sym again) ∙ sym (c .before .before .before .offence-in .ensures) ∙ c .before .offence .given .1))
 
@@ -102,7 +102,7 @@ returns-2 c =
     let long = digits-long _ _ _ (c .before .before .before .before .before .before .before .before .before .before .before .before .before .before .before .before .before .digits-in .ensures) in
     λ f k x o n.
     let same = c .before .before .before .before .before .before .before .before .before .before .before .before .before .before .before .before .before .digits-in .ensures ∙ row-digits f (start .args .row) frame x o in
-    let again = c .before .before .before .before .before .before .before .before .before .put-bits .ensures ∙ put-parts 100 (c .before .before .before .before .before .before .before .before .before .before .before .before .before .before .before .before .before .digits-in .result) (c .before .before .before .before .before .before .before .before .before .before .before .before .before .before .before .time-bits .result) (c .before .before .before .before .before .before .before .before .before .before .before .before .before .middle-bits .result) (c .before .before .before .before .before .before .before .before .before .before .before .tail-bits .result) long (c .before .before .before .before .before .before .before .before .before .before .before .before .before .before .before .time-bits .ensures .0) (c .before .before .before .before .before .before .before .before .before .before .before .before .before .middle-bits .ensures .0) (c .before .before .before .before .before .before .before .before .before .before .before .tail-bits .ensures) ∙ ap (putIn 100) same in
+    let again = c .before .before .before .before .before .before .before .before .before .put-bits .ensures _ (λ e. c .before .before .before .before .before .before .before .before .before .before .before .tail-bits .ensures refl) ∙ put-parts 100 (c .before .before .before .before .before .before .before .before .before .before .before .before .before .before .before .before .before .digits-in .result) (c .before .before .before .before .before .before .before .before .before .before .before .before .before .before .before .time-bits .result) (c .before .before .before .before .before .before .before .before .before .before .before .before .before .middle-bits .result) long (c .before .before .before .before .before .before .before .before .before .before .before .before .before .before .before .time-bits .ensures .0) (c .before .before .before .before .before .before .before .before .before .before .before .before .before .middle-bits .ensures .0) ∙ ap (putIn 100) same in
     let widths = c .before .before .before .widths-of .ensures ∙ o .widths-are in
     c .meaning .ensures
     ∙ (λ i. meaningOf (o .leap-is i) (o .year-is i) (widths i) (same i))
