@@ -167,10 +167,13 @@ lines =
     ∷ (classify fivePercent 10000001 2000000 10000000 refused 10)
     ∷ (classify (settings 0 5 5) 99 20 99 refused 10)
     ∷ (classify (settings 0 5 5) 100 20 100 refused 16)
+    ∷ (classify (settings 5 0 5) 100 20 100 refused 16)
     ∷ (classify (settings 5 15 5) 100 20 100 refused 16)
     ∷ (classify (settings 5 5 255) 100 20 100 refused 16)
     ∷ (list (settings 15 5 5) 99 (20 ∷ []) [] 1 1 refused 10)
     ∷ (list (settings 5 5 0) 100 (20 ∷ []) [] 1 1 refused 16)
+    ∷ (list fivePercent 100 [] (100 ∷ []) 1 1 refused 3)
+    ∷ (list fivePercent 100 (20 ∷ []) [] 1 1 refused 3)
     ∷ (list fivePercent 100 (20 ∷ []) (100 ∷ []) 2 1 refused 3)
     ∷ (list fivePercent 100 (20 ∷ []) (100 ∷ []) 1 0 refused 3)
     -- Difference asks both times
