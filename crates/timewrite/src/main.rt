@@ -5,8 +5,14 @@ ghost use mathlib.Core.Path.{_≡_};
 ghost use Prim.Native.Nat.{_-_, _≤_};
 ghost use Rattle.generator.specs.Sending.{startOf};
 use arguments::Number;
-use arguments::decimal_in;
-use arguments::hexadecimal_in;
+use command_line::Named;
+use command_line::format_argument;
+use command_line::hexadecimal_argument;
+use command_line::limited_8;
+use command_line::limited_16;
+use command_line::limited_32;
+use command_line::number_argument;
+use command_line::number_or_0;
 use frametext::first_line;
 use generator::Generated;
 use generator::Start;
@@ -31,107 +37,17 @@ enum Asked {
     Malformed,
 }
 
-enum Named {
-    Known(Format),
-    Malformed,
-}
-
 enum Started {
     At(Start),
     Malformed,
 }
 
-fn is_letter(byte: u8) -> bool {
-    if byte < b'A' {
-        return false;
-    }
-    if byte <= b'Z' {
-        return true;
-    }
-    if byte < b'a' {
-        return false;
-    }
-    byte <= b'z'
-}
-
-fn format_in(text: &[u8]) -> Named {
-    if text.len() == 2 {
-        if is_letter(text[0]) {
-            if let Number::Value(expression) = decimal_in(&text[1..2]) {
-                return Named::Known(Format {
-                    letter: text[0],
-                    expression: (expression % 10) as u8,
-                });
-            }
-        }
-    }
-    Named::Malformed
-}
-
-fn format_argument() -> Named {
-    let mut text = io::buffer();
-    let n = os::arg(1, &mut text);
-    if os::errno() != 0 {
-        return Named::Malformed;
-    }
-    format_in(&text[..n])
-}
-
-fn number_argument(i: usize) -> Number {
-    let mut text = io::buffer();
-    let n = os::arg(i, &mut text);
-    if os::errno() != 0 {
-        return Number::Malformed;
-    }
-    decimal_in(&text[..n])
-}
-
+// The control word, 0 where none is given.
 fn control_argument(count: usize) -> Number {
     if count < 7 {
         return Number::Value(0);
     }
-    let mut text = io::buffer();
-    let n = os::arg(6, &mut text);
-    if os::errno() != 0 {
-        return Number::Malformed;
-    }
-    hexadecimal_in(&text[..n])
-}
-
-fn kind_argument(count: usize) -> Number {
-    if count < 8 {
-        return Number::Value(0);
-    }
-    number_argument(7)
-}
-
-fn year_argument(count: usize) -> Number {
-    if count < 9 {
-        return Number::Value(0);
-    }
-    number_argument(8)
-}
-
-// A number past the end of its type becomes the type's last, which is no kind, no year, no day, no year length and no time either.
-fn limited_8(number: u64) -> u8 {
-    if number <= 255 {
-        return (number % 256) as u8;
-    }
-    255
-}
-
-fn limited_16(number: u64) -> u16 {
-    if number <= 65_535 {
-        return (number % 65_536) as u16;
-    }
-    65_535
-}
-
-fn limited_32(number: u64) -> u32 {
-    if number <= 4_294_967_295 {
-        return (number % 4_294_967_296) as u32;
-    }
-    4_294_967_295
+    hexadecimal_argument(6)
 }
 
 fn start_argument(count: usize) -> Started {
@@ -141,10 +57,10 @@ fn start_argument(count: usize) -> Started {
     let Number::Value(hundredths) = number_argument(3) else {
         return Started::Malformed;
     };
-    let Number::Value(kind) = kind_argument(count) else {
+    let Number::Value(kind) = number_or_0(count, 7) else {
         return Started::Malformed;
     };
-    let Number::Value(year) = year_argument(count) else {
+    let Number::Value(year) = number_or_0(count, 8) else {
         return Started::Malformed;
     };
     Started::At(Start {
@@ -162,7 +78,7 @@ fn asked_for() -> Asked {
     if 9 < count {
         return Asked::Malformed;
     }
-    let Named::Known(format) = format_argument() else {
+    let Named::Known(format) = format_argument(1) else {
         return Asked::Malformed;
     };
     let Started::At(start) = start_argument(count) else {
