@@ -1,4 +1,4 @@
-// Answers as text: numbers, symbols, frames, times and refusals, put into a text of at most 4,096 bytes; what finds no room is left out.
+// Answers as text: numbers, symbols, frames, logs, times and refusals, put into a text of at most 4,096 bytes; what finds no room is left out.
 // A refusal is R and its number, with 5 and 6 also @ and the index of the element, with 25 that of the cycle.
 use frametext::character_of;
 use refusals::number_of;
@@ -72,6 +72,26 @@ pub fn put_frame(text: &mut [u8; 4096], frame: &[u8; 1024], size: usize) -> usiz
     while i < 1024 {
         if i < size {
             at = put_symbol(text, at, frame[i]);
+        }
+        i += 1;
+    }
+    at
+}
+
+fn put_byte(text: &mut [u8; 4096], at: usize, byte: u8) -> usize {
+    put_hexadecimal(text, at, byte as u64, 2)
+}
+
+// A log's bytes behind a space, two hexadecimal digits each.
+pub fn put_log(text: &mut [u8; 4096], at: usize, log: &[u8; 1024], size: usize) -> usize {
+    let mut at = put(text, at, b' ');
+    if size == 0 {
+        at = put_bytes(text, at, b"(empty)");
+    }
+    let mut i = 0;
+    while i < 1024 {
+        if i < size {
+            at = put_byte(text, at, log[i]);
         }
         i += 1;
     }

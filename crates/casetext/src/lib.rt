@@ -1,15 +1,18 @@
 // A call of the engine as a line of text, `step B 4 24 366 8639900 365 0`, and its answer as text, `25 1 0`: a time is its year, its day and its hundredths.
-// A line `feeds` is a whole stream: format, setting and symbols, and its answer is every report. A float is the 16 digits of its bits.
+// A line `feeds` is a whole stream: format, setting and symbols, and its answer is every report. A float is the 16 digits of its bits, a byte of a log two digits.
+ghost use Prim.Native.Nat.{_≤_};
 use answertext::put;
 use answertext::put_bytes;
 use answertext::put_decimal;
 use answertext::put_frame;
 use answertext::put_hexadecimal;
+use answertext::put_log;
 use answertext::put_reading;
 use answertext::put_refusal;
 use answertext::put_signed;
 use answertext::put_time;
 use answertext::wide;
+use casewords::bytes_in;
 use casewords::decimal;
 use casewords::elements_in;
 use casewords::format_in;
@@ -29,8 +32,13 @@ use forecasts::Oscillator;
 use frame::read;
 use frame::write;
 use holdover::forecast;
+use log_read::read_report;
+use log_write::write_report;
 use pulse::classify;
 use register::Register;
+use report_log::LogReading;
+use report_log::LogWritten;
+use report_log::Report;
 use scan::scan;
 use std::num::wrapping_add_u64;
 use stream::Made;
@@ -41,6 +49,7 @@ use timecode::Answer;
 use timecode::Classified;
 use timecode::Format;
 use timecode::Reading;
+use timecode::Refusal;
 use timecode::Scanned;
 use timecode::Stepped;
 use timecode::Subtracted;
@@ -48,8 +57,8 @@ use timecode::Time;
 use timecode::WidthSettings;
 use timecode::Written;
 
-// What the memory that Write is lent holds before the call: no symbol.
-const LENT: u8 = 7;
+// What the memory that a call is lent holds before it: no symbol.
+const LENT: u8 = 170;
 
 fn put_stepped(text: &mut [u8; 4096], stepped: Stepped) -> usize {
     match stepped {
@@ -119,17 +128,20 @@ fn is_changed(lent: &[u8; 1024]) -> bool {
     false
 }
 
-// The frame that was written, or the refusal, which leaves the lent memory as it was.
+// A refusal, which leaves the lent memory as it was.
+fn put_left(text: &mut [u8; 4096], refusal: Refusal, lent: &[u8; 1024]) -> usize {
+    let at = put_refusal(text, 0, refusal);
+    if is_changed(lent) {
+        return put_bytes(text, at, b" CHANGED");
+    }
+    at
+}
+
+// The frame that was written, or the refusal.
 fn put_written(text: &mut [u8; 4096], written: Written, lent: &[u8; 1024], size: usize) -> usize {
     match written {
         Written::Done => put_frame(text, lent, size),
-        Written::Refused(refusal) => {
-            let at = put_refusal(text, 0, refusal);
-            if is_changed(lent) {
-                return put_bytes(text, at, b" CHANGED");
-            }
-            at
-        }
+        Written::Refused(refusal) => put_left(text, refusal, lent),
     }
 }
 
@@ -446,6 +458,114 @@ fn put_feed(line: &[u8], text: &mut [u8; 4096]) -> usize {
     }
 }
 
+// The report of which the year is that word.
+fn report_in(line: &[u8], word: usize) -> Report
+    requires { ⌜ word ≤ 8 ⌝ }
+{
+    let time = time_in(line, word);
+    Report {
+        time: time,
+        control: number(line, word + 3, 16),
+    }
+}
+
+// The log writer, lent the first bytes of the slice: all of it, where more are asked for.
+fn write_log_part(
+    log: &mut [u8],
+    size: usize,
+    place: usize,
+    before: Report,
+    report: Report,
+) -> LogWritten {
+    if size < log.len() {
+        return write_report(&mut log[0..size], place, before, report);
+    }
+    write_report(log, place, before, report)
+}
+
+fn write_log_first(
+    log: &mut [u8; 1024],
+    size: usize,
+    place: usize,
+    before: Report,
+    report: Report,
+) -> LogWritten {
+    write_log_part(log, size, place, before, report)
+}
+
+// Words 1 and 2, the length of the log and the place; then the report before and the report.
+fn put_log_write(line: &[u8], text: &mut [u8; 4096]) -> usize {
+    let size = decimal(line, 1) as usize;
+    let place = decimal(line, 2) as usize;
+    let mut log = [LENT; 1024];
+    let written = write_log_first(
+        &mut log,
+        size,
+        place,
+        report_in(line, 3),
+        report_in(line, 7),
+    );
+    match written {
+        LogWritten::Next(next) => {
+            let at = put_decimal(text, 0, next as u64);
+            put_log(text, at, &log, size)
+        }
+        LogWritten::LeftOut => {
+            let at = put_bytes(text, 0, b"nofit");
+            put_log(text, at, &log, size)
+        }
+        LogWritten::Refused(refusal) => put_left(text, refusal, &log),
+    }
+}
+
+fn read_log_part(log: &[u8], size: usize, place: usize, before: Report) -> LogReading {
+    if size < log.len() {
+        return read_report(&log[0..size], place, before);
+    }
+    read_report(log, place, before)
+}
+
+fn read_log_first(log: &[u8; 1024], size: usize, place: usize, before: Report) -> LogReading {
+    read_log_part(log, size, place, before)
+}
+
+// Words 1 and 2, the log and the place; then the report before.
+fn put_log_read(line: &[u8], text: &mut [u8; 4096]) -> usize {
+    let mut log = [0u8; 1024];
+    let size = bytes_in(line, 1, &mut log);
+    let place = decimal(line, 2) as usize;
+    let reading = read_log_first(&log, size, place, report_in(line, 3));
+    match reading {
+        LogReading::Record { report, next } => {
+            let at = put_reading(text, 0, report.time, report.control);
+            let at = put_bytes(text, at, b" next ");
+            put_decimal(text, at, next as u64)
+        }
+        LogReading::None => put_bytes(text, 0, b"none"),
+        LogReading::Refused(refusal) => put_refusal(text, 0, refusal),
+    }
+}
+
+// The calls on recordings, streams and logs.
+fn put_stream_answer(line: &[u8], text: &mut [u8; 4096]) -> usize {
+    if is_named(line, b"scan") {
+        return put_scan(line, text);
+    }
+    if is_named(line, b"feeds") {
+        return put_feeds(line, text);
+    }
+    if is_named(line, b"feed") {
+        return put_feed(line, text);
+    }
+    if is_named(line, b"logwrite") {
+        return put_log_write(line, text);
+    }
+    if is_named(line, b"logread") {
+        return put_log_read(line, text);
+    }
+    put_bytes(text, 0, b"unknown call")
+}
+
 // Makes the call on the line and puts its answer into the text; how long the text is.
 pub fn put_answer(line: &[u8], text: &mut [u8; 4096]) -> usize {
     if is_named(line, b"step") {
@@ -475,14 +595,5 @@ pub fn put_answer(line: &[u8], text: &mut [u8; 4096]) -> usize {
     if is_named(line, b"holdover") {
         return put_holdover(line, text);
     }
-    if is_named(line, b"scan") {
-        return put_scan(line, text);
-    }
-    if is_named(line, b"feeds") {
-        return put_feeds(line, text);
-    }
-    if is_named(line, b"feed") {
-        return put_feed(line, text);
-    }
-    put_bytes(text, 0, b"unknown call")
+    put_stream_answer(line, text)
 }

@@ -1,4 +1,4 @@
-// The words of a line that is a call, such as `step B 4 24 366 8639900 365 0`: its name, numbers, format, times and elements.
+// The words of a line that is a call, such as `step B 4 24 366 8639900 365 0`: its name, numbers, format, times, elements and bytes.
 // A word that is no number, or is not there, is 0.
 ghost use Prim.Native.Nat.{_≤_};
 use arguments::Number;
@@ -144,6 +144,25 @@ pub fn elements_in(line: &[u8], word: usize, frame: &mut [u8; 1024]) -> usize {
             n = put_element(frame, n, symbol(line[i]));
             i += 1;
         }
+    }
+    n
+}
+
+// A word's bytes, two hexadecimal digits each, as many as there is room for; the answer is their number.
+pub fn bytes_in(line: &[u8], word: usize, bytes: &mut [u8; 1024]) -> usize {
+    let mut n = 0;
+    let mut i = start_of(line, word);
+    while i < line.len() {
+        // `(empty)` has none
+        if line[i] == b' ' || line[i] == b'(' {
+            return n;
+        }
+        if line.len() - i < 2 {
+            return n;
+        }
+        let byte = value_of(hexadecimal_in(&line[i..i + 2]));
+        n = put_element(bytes, n, (byte % 256) as u8);
+        i += 2;
     }
     n
 }
