@@ -11,6 +11,8 @@ ghost use Rattle.ffi.specs.Structs.{writeResultOf, convertResultOf, readResultO
 ghost use Rattle.forecasts.specs.Forecasting.{forecastOf};
 ghost use Rattle.log_results.specs.LogStructs.{logWriteResultOf, logReadResultOf};
 ghost use Rattle.report_log.specs.Log.{writeLog, logLeft, readLog};
+ghost use Rattle.simulate_results.specs.SimulateStructs.{simulateResultOf};
+ghost use Rattle.simulation.specs.Lent.{simulateLent};
 ghost use Rattle.stream.specs.Feeding.{madeOf};
 ghost use Rattle.pulse_feed.specs.PulseFeeds.{feedPulseOf};
 ghost use Rattle.reader_words.specs.Words.{readerIn, freshResultOf, freshLeft, fedWith, feedWords, wordsLeft};
@@ -61,6 +63,9 @@ use reader_words::put_fresh;
 use reader_words::reader_in;
 use report_log::Report;
 use scan::scan;
+use simulate::simulate;
+use simulate_results::SimulateResult;
+use simulate_results::simulate_result;
 use timecode::Format;
 use timecode::Time;
 use timecode::WidthSettings;
@@ -314,6 +319,33 @@ pub extern "C" fn duskveyra_log_read(log: &[u8], place: usize, before: Report) -
     ensures { λ r. ⌜ r ≡ logReadResultOf (readLog (now (log .entry)) place before) ⌝ }
 {
     log_read_result(read_report(log, place, before))
+}
+
+// The simulation: what each listener counts that hears a generator from the start on, with its own setting and its own damages. There is a listener for each setting;
+// its damages are the entries of numbers and symbols from the end of the one before up to its own end.
+#[no_mangle]
+pub extern "C" fn duskveyra_simulate(
+    format: Format,
+    start: Time,
+    frames: u32,
+    year_length: u16,
+    settings: &[u8],
+    ends: &[usize],
+    numbers: &[u64],
+    symbols: &[u8],
+) -> SimulateResult
+    ensures { λ r. ⌜ r ≡ simulateResultOf (simulateLent format start frames «year_length» (now (settings .entry)) (now (ends .entry)) (now (numbers .entry)) (now (symbols .entry))) ⌝ }
+{
+    simulate_result(simulate(
+        format,
+        start,
+        frames,
+        year_length,
+        settings,
+        ends,
+        numbers,
+        symbols,
+    ))
 }
 
 // The number of this interface. Header and build script refer to the symbol by that number, so that a program made for another interface does not link.
