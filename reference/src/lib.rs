@@ -1,8 +1,8 @@
 //! Serial time code after IRIG 200-98: formats A, B, D, E, G and H as
 //! pulse-width elements, with days that are a second longer or shorter, A and B
 //! with the year after IRIG 200-04, and the XR3 code as format X; A, B and G in
-//! the modified Manchester form too. Beside them the report log and the
-//! hold-over forecast.
+//! the modified Manchester form too. Beside them the report log, the
+//! hold-over forecast and the simulation.
 //!
 //! A symbol is one byte: 0 (zero or index marker), 1 (one), 2 (mark: position
 //! identifier or reference bit), 3 (spoiled, or in X a missing pulse).
@@ -21,6 +21,7 @@ mod manchester;
 mod pulse;
 mod refusal;
 mod scan;
+mod simulation;
 mod stream;
 mod timeread;
 
@@ -35,5 +36,6 @@ pub use manchester::{decode_cycles, encode_cycles};
 pub use pulse::{classify, classify_and_feed, classify_list, Widths};
 pub use refusal::Refusal;
 pub use scan::scan;
+pub use simulation::{simulate, Counts, Listener};
 pub use stream::{Answer, Reader};
 pub use timeread::{timelog, timeread};

@@ -54,6 +54,9 @@ pub enum Refusal {
     Cycle(usize),
     /// 26: a reader's setting not 2 to 5.
     Setting,
+    /// 27: damages not in strictly rising order or with a symbol above 3, or a
+    /// ninth listener.
+    Listener,
 }
 
 impl Refusal {
@@ -83,6 +86,7 @@ impl Refusal {
             Refusal::CycleCount => 24,
             Refusal::Cycle(_) => 25,
             Refusal::Setting => 26,
+            Refusal::Listener => 27,
         }
     }
 

@@ -141,6 +141,17 @@ fn log_told(record: Option<(Report, usize)>) -> String {
     })
 }
 
+/// What each listener counted: its first report or `none`, its reports, and the wrong ones.
+fn counted(counts: Vec<Counts>) -> String {
+    let told = |counts: &Counts| {
+        let first = counts
+            .first
+            .map_or("none".into(), |first| first.to_string());
+        format!("{first} {} {}", counts.reports, counts.wrong)
+    };
+    counts.iter().map(told).collect::<Vec<_>>().join("; ")
+}
+
 fn bits(error: f64) -> String {
     if error.is_nan() {
         return "nan".into();
@@ -188,6 +199,23 @@ impl Line<'_> {
 
     fn elements(&self, word: usize) -> Vec<u8> {
         elements(self.0[word])
+    }
+
+    /// Listeners apart by `;`, each a setting, `:` and damages apart by `,`, each a number, `/` and a symbol.
+    fn listeners(&self, word: usize) -> Vec<Listener> {
+        let damage = |damage: &str| {
+            let (number, symbol) = damage.split_once('/').unwrap();
+            (number.parse().unwrap(), symbol.parse().unwrap())
+        };
+        let listener = |listener: &str| {
+            let (setting, damages) = listener.split_once(':').unwrap();
+            let damages = damages.split(',').filter(|damage| !damage.is_empty());
+            Listener {
+                setting: setting.parse().unwrap(),
+                damages: damages.map(damage).collect(),
+            }
+        };
+        self.0[word].split(';').map(listener).collect()
     }
 
     fn widths(&self, word: usize) -> Widths {
@@ -250,6 +278,14 @@ fn answer(line: &str) -> String {
         "logread" => log_read(&bytes(line.0[1]), line.number(2), line.report(3)).map(log_told),
         "difference" => difference(line.time(1), line.time(4)).map(|d| d.to_string()),
         "holdover" => forecast(line.oscillator(), line.number(5)).map(bits),
+        "simulate" => simulate(
+            line.format(),
+            line.time(3),
+            line.number(6),
+            line.number(7),
+            &line.listeners(8),
+        )
+        .map(counted),
         _ => Ok("unknown call".into()),
     };
     said.unwrap_or_else(refused)
