@@ -59,7 +59,8 @@ enum duskveyra_number {
     DUSKVEYRA_UNKNOWN_FORMAT = 1,       /* letter or expression not among the formats */
     DUSKVEYRA_INVALID_TIME = 2,         /* day or hundredths out of range, or not on the format; day 366 of a carried
                                            year that has none; in X another day than 1 */
-    DUSKVEYRA_WRONG_LENGTH = 3,         /* frame not of the format's length, or lists of different lengths */
+    DUSKVEYRA_WRONG_LENGTH = 3,         /* frame not of the format's length, lists of different lengths, or listeners' ends
+                                           that do not part their damages */
     DUSKVEYRA_UNKNOWN_SYMBOL = 4,       /* symbol above 3 */
     DUSKVEYRA_MISPLACED_MARK = 5,       /* mark missing, or where none belongs; with its index */
     DUSKVEYRA_INVALID_ELEMENT = 6,      /* 1 or 3 as index marker, or 3 in the place of a digit or bit; 0 or 1 where X
@@ -84,7 +85,9 @@ enum duskveyra_number {
                                            seconds */
     DUSKVEYRA_INVALID_CYCLE_COUNT = 24, /* cycles of an element not a multiple of 10 from 10 to 100 */
     DUSKVEYRA_UNKNOWN_CYCLE = 25,       /* cycle neither 1 nor 2; with its index */
-    DUSKVEYRA_INVALID_SETTING = 26      /* setting not 2 to 5 */
+    DUSKVEYRA_INVALID_SETTING = 26,     /* setting not 2 to 5 */
+    DUSKVEYRA_INVALID_LISTENER = 27     /* a listener's damages not in strictly rising order or with a symbol above 3, or
+                                           a ninth listener */
 };
 
 /* The kinds of a day. In D, E, H and X the frames go on as usual on a day of every kind. */
@@ -145,6 +148,16 @@ typedef struct duskveyra_report {
 
 /* The longest record of a log, in bytes. */
 #define DUSKVEYRA_LONGEST_RECORD 13
+
+/* The most listeners of a simulation. */
+#define DUSKVEYRA_MOST_LISTENERS 8
+
+/* What a listener of a simulation counted. */
+typedef struct duskveyra_counts {
+    uint64_t first;   /* the number of the element that brought its first report, counted from 1; 0 where there is none */
+    uint64_t reports; /* the number of its reports */
+    uint64_t wrong;   /* the number of those that do not give the time of a generator frame that ends there */
+} duskveyra_counts;
 
 /* A stream reader: the letter, the expression, the setting and the place; the count of the frame under way, the newest
  * symbols, three words of the frame's symbols and the row; the year, the day, the hundredths and the control word of the
@@ -236,6 +249,11 @@ typedef struct duskveyra_log_read_result {
     duskveyra_report report;
     size_t next; /* the next place */
 } duskveyra_log_read_result;
+
+typedef struct duskveyra_simulate_result {
+    uint8_t number;
+    duskveyra_counts counts[DUSKVEYRA_MOST_LISTENERS]; /* of each listener; past the last all 0 */
+} duskveyra_simulate_result;
 
 /* Writes a time and a control word as the symbols of one frame; every byte of the frame is set.
  * Refuses with 1; 17; 2; 14; 9; 3 where frame_length is not the format's number of elements; in this order. */
@@ -389,6 +407,32 @@ duskveyra_log_write_result duskveyra_log_write(uint8_t *log, size_t log_length, 
  * field equal to the one before; then as duskveyra_log_write does, by the whole report, with 2; 17; 9; in this order. */
 duskveyra_log_read_result duskveyra_log_read(const uint8_t *log, size_t log_length, size_t place,
                                              duskveyra_report before);
+
+/* Simulates a generator that up to 8 listeners hear, each with its own setting and its own damages. The generator sends
+ * so many frames from the start on, each time next after the one before in years of year_length days and days of kind 0,
+ * with control word 0. A damage is an element that comes to the listener as another symbol: the number of the element in
+ * the whole run, counted from 1, and that symbol. What a listener counts is what a fresh reader with its setting reports
+ * when it is fed the damaged elements one by one. A number of 0, or past the last element, damages nothing.
+ *
+ * There is a listener for each entry of settings. The damages of all stand one listener's after the other's in numbers and
+ * symbols, and ends says where: those of listener j, counted from 0, are the entries from ends[j - 1] on, for the first
+ * from 0 on, and before ends[j]. A listener without damages ends where the one before does. With one damage to the first
+ * of two listeners and two to the second:
+ *
+ *     const uint8_t settings[] = {2, 5};
+ *     const size_t ends[] = {1, 3};
+ *     const uint64_t numbers[] = {40, 7, 140};
+ *     const uint8_t symbols[] = {3, 1, 0};
+ *
+ * All four lists are the caller's and are only read. It needs no more memory for more frames, but more time: 4,294,967,295
+ * frames to eight listeners take more than an hour.
+ * Refuses as duskveyra_step does for the start with 1; 17; 2; 14; 11; 15; then 26 for any listener's setting; 3 where ends
+ * and settings, or numbers and symbols, differ in length, or ends falls, or its last entry (without one, 0) is not
+ * numbers_length; 27; in this order. */
+duskveyra_simulate_result duskveyra_simulate(duskveyra_format format, duskveyra_time start, uint32_t frames,
+                                             uint16_t year_length, const uint8_t *settings, size_t settings_length,
+                                             const size_t *ends, size_t ends_length, const uint64_t *numbers,
+                                             size_t numbers_length, const uint8_t *symbols, size_t symbols_length);
 
 #ifdef __cplusplus
 }

@@ -103,6 +103,7 @@ mod log;
 mod manchester;
 mod pulse;
 mod refusal;
+mod simulation;
 #[allow(missing_docs)]
 pub mod sys;
 mod time;
@@ -114,6 +115,7 @@ pub use log::{log_read, log_write, Log, Reports, LONGEST_RECORD};
 pub use manchester::{decode_cycles, encode_cycles, HIGH_CYCLE, LOW_CYCLE};
 pub use pulse::{classify, classify_list, FedPulse, Pulse, WidthSettings};
 pub use refusal::Refusal;
+pub use simulation::{simulate, Counts, Damage, Listener, MOST_LISTENERS};
 pub use time::{ParseTimeError, Time};
 
 /// Symbol of a zero or an index marker.

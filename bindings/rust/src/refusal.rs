@@ -1,4 +1,4 @@
-//! The twenty-four numbers that a call refuses with.
+//! The twenty-five numbers that a call refuses with.
 
 use std::error::Error;
 use std::fmt;
@@ -57,10 +57,12 @@ pub enum Refusal {
     UnknownCycle(usize),
     /// 26: the reader's setting not 2 to 5.
     InvalidSetting,
+    /// 27: a listener's damages not in strictly rising order or with a symbol above 3, or a ninth listener.
+    InvalidListener,
 }
 
 impl Refusal {
-    /// The number, 1 to 20 or 23 to 26.
+    /// The number, 1 to 20 or 23 to 27.
     pub fn number(self) -> u8 {
         match self {
             Refusal::UnknownFormat => 1,
@@ -87,6 +89,7 @@ impl Refusal {
             Refusal::InvalidCycleCount => 24,
             Refusal::UnknownCycle(_) => 25,
             Refusal::InvalidSetting => 26,
+            Refusal::InvalidListener => 27,
         }
     }
 
@@ -128,6 +131,7 @@ impl Refusal {
             24 => Refusal::InvalidCycleCount,
             25 => Refusal::UnknownCycle(index),
             26 => Refusal::InvalidSetting,
+            27 => Refusal::InvalidListener,
             _ => unreachable!("the library returned {number}, which is no number of a refusal"),
         })
     }
@@ -166,6 +170,9 @@ impl fmt::Display for Refusal {
             }
             Refusal::UnknownCycle(_) => "cycle neither 1 nor 2",
             Refusal::InvalidSetting => "setting not 2 to 5",
+            Refusal::InvalidListener => {
+                "damages not rising or with a symbol above 3, or a ninth listener"
+            }
         };
         write!(f, "refused {}: {why}", self.number())?;
         match (self, self.index()) {

@@ -4,7 +4,7 @@
 //! index with 5, 6 and 25. No pointer may be null, and no two pointers of one call may point into the same memory; beside
 //! that every value is allowed.
 
-use crate::{Format, Oscillator, Report, Time, WidthSettings, READER_WORDS};
+use crate::{Format, Oscillator, Report, Time, WidthSettings, MOST_LISTENERS, READER_WORDS};
 
 #[repr(C)]
 pub struct WriteResult {
@@ -97,6 +97,20 @@ pub struct LogReadResult {
     pub found: u8,
     pub report: Report,
     pub next: usize,
+}
+
+#[derive(Clone, Copy)]
+#[repr(C)]
+pub struct Counts {
+    pub first: u64,
+    pub reports: u64,
+    pub wrong: u64,
+}
+
+#[repr(C)]
+pub struct SimulateResult {
+    pub number: u8,
+    pub counts: [Counts; MOST_LISTENERS],
 }
 
 extern "C" {
@@ -233,6 +247,21 @@ extern "C" {
         place: usize,
         before: Report,
     ) -> LogReadResult;
+
+    pub fn duskveyra_simulate(
+        format: Format,
+        start: Time,
+        frames: u32,
+        year_length: u16,
+        settings: *const u8,
+        settings_length: usize,
+        ends: *const usize,
+        ends_length: usize,
+        numbers: *const u64,
+        numbers_length: usize,
+        symbols: *const u8,
+        symbols_length: usize,
+    ) -> SimulateResult;
 }
 
 // The number of the interface that this file declares: an archive of another one does not link.
