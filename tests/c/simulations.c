@@ -178,17 +178,16 @@ static duskveyra_counts by_feeds(duskveyra_format format, duskveyra_time start, 
     return counts;
 }
 
-/* Up to 7 damages, a few or the same element of frames in succession, which can bring false times. */
+/* Up to 7 damages: any, or one bit of frames in succession, which can bring false times. */
 static void add_any_damages(lists *l, uint64_t elements, uint64_t n)
 {
-    uint64_t number = below(3) == 0 ? below(2) : 1 + below(elements + 1);
-    const uint64_t step = below(2) == 0 ? n : 0;
+    const int same = below(2) == 0;
+    const unsigned bit = (unsigned)below(2);
+    uint64_t number = same ? 1 + below(n) : below(elements + 2);
     size_t damages;
-    if (step != 0)
-        number = 1 + below(n);
     for (damages = below(8); damages > 0; damages--) {
-        add_damage(l, number, (unsigned)below(4));
-        number += step != 0 ? step : 1 + below(2 * n);
+        add_damage(l, number, same ? bit : (unsigned)below(4));
+        number += same ? n : 1 + below(2 * n);
     }
 }
 
