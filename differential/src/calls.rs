@@ -75,7 +75,7 @@ pub fn any_format(random: &mut Random) -> Format {
 }
 
 /// Mostly a time on the format, else one near the borders, beside the grid or anywhere.
-fn any_time(random: &mut Random, format: Format) -> Time {
+pub fn any_time(random: &mut Random, format: Format) -> Time {
     let mut at = time(random, format);
     match random.below(13) {
         0 => at.day = random.pick(&[0, 1, 365, 366, 367, 511, 512, 65535]),

@@ -1,6 +1,6 @@
 //! Runs the library against the plain version in `reference`: one element lost or put in at every place, random streams in
 //! all 25 formats with every setting, symbol by symbol and in blocks, random calls with good and bad input, report logs,
-//! clock cycles and forecasts. The first difference is printed in full and ends the run.
+//! clock cycles, forecasts and simulations. The first difference is printed in full and ends the run.
 
 mod blocks;
 mod calls;
@@ -9,6 +9,7 @@ mod forecasts;
 mod logs;
 mod places;
 mod random;
+mod simulations;
 mod streams;
 
 use random::Random;
@@ -70,6 +71,11 @@ struct Counts {
     /// Frames that were encoded, and decoded.
     encoded: u64,
     decoded: u64,
+    /// Simulations, those that were refused, the reports of their listeners, and the wrong ones among these.
+    simulations: u64,
+    refused_simulations: u64,
+    simulated_reports: u64,
+    wrong_reports: u64,
 }
 
 fn refused(refusal: duskveyra::Refusal) -> Refused {
@@ -362,6 +368,7 @@ fn main() -> ExitCode {
             logs::run_logs(&mut random, &mut counts)?;
             cycles::run_cycles(&mut random, &mut counts)?;
             forecasts::run_forecasts(&mut random, &mut counts)?;
+            simulations::run_simulations(&mut random, &mut counts)?;
             blocks::run_blocks(&mut random, &mut counts)
         });
         if let Err(difference) = difference {
@@ -405,6 +412,13 @@ fn main() -> ExitCode {
         counts.no_number,
         counts.encoded,
         counts.decoded
+    );
+    println!(
+        "{} simulations, {} refused, {} reports of their listeners, {} of these wrong",
+        counts.simulations,
+        counts.refused_simulations,
+        counts.simulated_reports,
+        counts.wrong_reports
     );
     println!(
         "{} symbols, {} calls, 0 differences (seed {seed})",
