@@ -8,6 +8,7 @@ mod cycles;
 mod frames;
 mod logs;
 mod plain;
+mod simulations;
 mod streams;
 mod tuned;
 
@@ -564,12 +565,14 @@ fn main() {
             logs::rows();
         }
         Some("cycles") => cycles::rows(),
+        Some("simulations") => simulations::rows(),
         _ => {
             call_table();
             frames::rows();
             length_table();
             stream_tables();
             cycles::rows();
+            simulations::rows();
             commands::rows();
         }
     }
