@@ -1,5 +1,5 @@
-/* The simulation: undamaged, damaged and false runs by hand, every count against single feeds of a damaged run, each kind of
- * bad input in its order, and lists that do not fit together. What is expected stands in document 02, "Trying the
+/* The simulation: undamaged, damaged and false runs by hand, every count against single feeds of a damaged run, each kind
+ * of bad input in its order, and lists that do not fit together. What is expected stands in document 02, "Trying the
  * confirmation setting". Also compiles as C++. */
 #include "check.h"
 #include "duskveyra.h"
@@ -224,7 +224,8 @@ static void test_against_feeds(void)
     CHECK(wrong > 20 && reports > 10 * wrong);
 }
 
-static void refused(duskveyra_format format, duskveyra_time start, unsigned year_length, const lists *l, unsigned number)
+static void refused(duskveyra_format format, duskveyra_time start, unsigned year_length, const lists *l,
+                    unsigned number)
 {
     uint32_t frames;
     for (frames = 0; frames <= 3; frames += 3) {
@@ -342,8 +343,20 @@ static void test_listeners(void)
     refused(format, start, 365, &l, DUSKVEYRA_INVALID_LISTENER);
 }
 
-int main(void)
+/* The longest run, which takes more than an hour: tests/c/run ends it after two seconds. */
+static int run_longest(void)
 {
+    lists l = no_listeners();
+    unsigned j;
+    for (j = 0; j < MOST; j++)
+        add_listener(&l, 2 + j % 4);
+    return simulate(format_of('G', 1), time_of(0, 190, 0), UINT32_MAX, 365, &l).number;
+}
+
+int main(int argc, char **argv)
+{
+    if (argc > 1 && strcmp(argv[1], "longest") == 0)
+        return run_longest();
     test_undamaged();
     test_damaged();
     test_against_feeds();
