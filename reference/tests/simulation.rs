@@ -141,6 +141,25 @@ fn false_times() {
     );
 }
 
+/// On one damaged list a higher setting reports a part of what a lower one reports.
+#[test]
+fn higher_settings() {
+    let mut random = Random(77);
+    for _ in 0..400 {
+        let format = format(FORMATS[random.below(25) as usize]);
+        let start = time(1, 0);
+        let (elements, _) = run(format, start, 12, 365);
+        let damages = any_damages(&mut random, format, &elements);
+        let listeners = SETTINGS.map(|setting| listener(setting, &damages));
+        let told = simulate(format, start, 12, 365, &listeners).unwrap();
+        for pair in told.windows(2) {
+            assert!(pair[0].reports >= pair[1].reports && pair[0].wrong >= pair[1].wrong);
+            let (lower, higher) = (pair[0].first, pair[1].first);
+            assert!(higher.is_none() || lower.is_some_and(|lower| Some(lower) <= higher));
+        }
+    }
+}
+
 #[test]
 fn undamaged_and_none() {
     for (name, setting) in formats_and_settings() {
