@@ -40,6 +40,7 @@ use report_log::LogReading;
 use report_log::LogWritten;
 use report_log::Report;
 use scan::scan;
+use simulatetext::put_simulate;
 use std::num::wrapping_add_u64;
 use stream::Made;
 use stream::Reader;
@@ -546,7 +547,7 @@ fn put_log_read(line: &[u8], text: &mut [u8; 4096]) -> usize {
     }
 }
 
-// The calls on recordings, streams and logs.
+// The calls on recordings, streams and logs, and the simulation.
 fn put_stream_answer(line: &[u8], text: &mut [u8; 4096]) -> usize {
     if is_named(line, b"scan") {
         return put_scan(line, text);
@@ -562,6 +563,9 @@ fn put_stream_answer(line: &[u8], text: &mut [u8; 4096]) -> usize {
     }
     if is_named(line, b"logread") {
         return put_log_read(line, text);
+    }
+    if is_named(line, b"simulate") {
+        return put_simulate(line, text);
     }
     put_bytes(text, 0, b"unknown call")
 }

@@ -1,6 +1,7 @@
-// The words of a line that is a call, such as `step B 4 24 366 8639900 365 0`: its name, numbers, format, times, elements and bytes.
+// The words of a line that is a call, such as `step B 4 24 366 8639900 365 0`: its name, numbers, format, times, elements, bytes and listeners.
 // A word that is no number, or is not there, is 0.
 ghost use Prim.Native.Nat.{_≤_};
+ghost use lib.ListN.{length};
 use arguments::Number;
 use arguments::decimal_in;
 use arguments::hexadecimal_in;
@@ -165,4 +166,72 @@ pub fn bytes_in(line: &[u8], word: usize, bytes: &mut [u8; 1024]) -> usize {
         i += 2;
     }
     n
+}
+
+// Where the digits that begin there end.
+fn digits_end(line: &[u8], start: usize) -> usize
+    requires { ⌜ start ≤ length (now line) ⌝ }
+    ensures { λ r. ⌜ (start ≤ r) × (r ≤ length (now (line .entry))) ⌝ }
+{
+    let mut i = start;
+    while i < line.len() {
+        if line[i] < b'0' || b'9' < line[i] {
+            return i;
+        }
+        i += 1;
+    }
+    i
+}
+
+fn put_number(numbers: &mut [u64; 1024], at: usize, number: u64) {
+    if at < 1024 {
+        numbers[at] = number;
+    }
+}
+
+// The end of the last of so many listeners.
+fn put_end(ends: &mut [usize; 1024], listeners: usize, end: usize) {
+    if 0 < listeners {
+        if listeners <= 1024 {
+            ends[listeners - 1] = end;
+        }
+    }
+}
+
+// How many listeners a word has, and how many damages they have together.
+pub struct Listed {
+    pub listeners: usize,
+    pub damages: usize,
+}
+
+// A word's listeners, such as `2:88/0,188/1;3:`, as many as there is room for: each setting before a colon, each damage's number before a slash, and its symbol behind.
+pub fn listeners_in(
+    line: &[u8],
+    word: usize,
+    settings: &mut [u8; 1024],
+    ends: &mut [usize; 1024],
+    numbers: &mut [u64; 1024],
+    symbols: &mut [u8; 1024],
+) -> Listed {
+    let mut listeners = 0;
+    let mut damages = 0;
+    let mut i = start_of(line, word);
+    while i < line.len() {
+        let end = digits_end(line, i);
+        let value = value_of(decimal_in(&line[i..end]));
+        let mark = byte_at(line, end);
+        if mark == b':' {
+            listeners = put_element(settings, listeners, (value % 256) as u8);
+        } else if mark == b'/' {
+            put_number(numbers, damages, value);
+        } else if i < end {
+            damages = put_element(symbols, damages, (value % 256) as u8);
+        }
+        put_end(ends, listeners, damages);
+        i = end + 1;
+    }
+    Listed {
+        listeners: listeners,
+        damages: damages,
+    }
 }
