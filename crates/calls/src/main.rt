@@ -1,6 +1,6 @@
 // For each file that an argument names: its name, and the answer of the call on each of its lines.
 // The expected answers are not this program's: base.txt, leap.txt, back.txt, feeds.txt, year.txt, feeds_year.txt, tapes.txt,
-// feeds_tapes.txt, widths.txt, holdover.txt and log.txt came with their own; those of rows.txt are worked rows that were proved
+// feeds_tapes.txt, widths.txt, holdover.txt, log.txt and simulate.txt came with their own; those of rows.txt are worked rows that were proved
 // of the definitions; those of hostile.txt, settings.txt, hostile_year.txt and hostile_tapes.txt, and those of base.txt that the
 // leap second, the year, letter X or the deviation changed, are from an independent plain version of the rules in another language.
 fn write_part(text: &[u8], used: usize) {
