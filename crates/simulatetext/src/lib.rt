@@ -1,5 +1,6 @@
 // A line `simulate` as a call, and its answer as text: for each listener the number of the element that brought its first report, or `none`; its reports; and the false ones.
 // Listeners stand apart by `;`, in the line and in the answer.
+ghost use Prim.Native.Nat.{_≤_};
 use answertext::put;
 use answertext::put_bytes;
 use answertext::put_decimal;
@@ -24,41 +25,16 @@ struct Run {
     given: u16,
 }
 
-// The simulation, lent the first of the damages: all of them, where more are asked for.
-fn simulate_damages(
-    run: Run,
-    settings: &[u8],
-    ends: &[usize],
-    numbers: &[u64],
-    symbols: &[u8],
-    damages: usize,
-) -> Simulation {
-    if damages < numbers.len() {
-        if damages < symbols.len() {
-            return simulate(
-                run.format,
-                run.start,
-                run.frames,
-                run.given,
-                settings,
-                ends,
-                &numbers[0..damages],
-                &symbols[0..damages],
-            );
-        }
+fn at_most(count: usize, most: usize) -> usize
+    ensures { λ r. ⌜ r ≤ most ⌝ }
+{
+    if count < most {
+        return count;
     }
-    simulate(
-        run.format,
-        run.start,
-        run.frames,
-        run.given,
-        settings,
-        ends,
-        numbers,
-        symbols,
-    )
+    most
 }
 
+// The simulation, lent the first of each list: all of it, where more are asked for.
 fn simulate_part(
     run: Run,
     settings: &[u8],
@@ -67,21 +43,20 @@ fn simulate_part(
     symbols: &[u8],
     listed: Listed,
 ) -> Simulation {
-    let listeners = listed.listeners;
-    let damages = listed.damages;
-    if listeners < settings.len() {
-        if listeners < ends.len() {
-            return simulate_damages(
-                run,
-                &settings[0..listeners],
-                &ends[0..listeners],
-                numbers,
-                symbols,
-                damages,
-            );
-        }
-    }
-    simulate_damages(run, settings, ends, numbers, symbols, damages)
+    let set = at_most(listed.listeners, settings.len());
+    let ended = at_most(listed.listeners, ends.len());
+    let numbered = at_most(listed.damages, numbers.len());
+    let damaged = at_most(listed.damages, symbols.len());
+    simulate(
+        run.format,
+        run.start,
+        run.frames,
+        run.given,
+        &settings[0..set],
+        &ends[0..ended],
+        &numbers[0..numbered],
+        &symbols[0..damaged],
+    )
 }
 
 // The arrays keep their lengths where a caller changed them, so that the caller proves nothing.
