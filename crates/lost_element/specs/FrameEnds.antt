@@ -63,7 +63,7 @@ module _ (f : Format) (t : Time) (w : ℕ) (v : Valid f t w) where
   last-mark : isX f ≡ false → getD (written f t w) (size f - 1) 0 ≡ 2
   last-mark n = last-element f t w v ∙ ends-marked f n
 
-  -- the last but one, but in X, is no mark
+  -- the last but one is, except in X, no mark
   next-to-last : isX f ≡ false → getD (written f t w) (size f - 2) 0 ≡ 2 → ⊥
   next-to-last n h = out (mark-index f (size f - 2) n (mark-only f t w v (size f - 2) (omega (arith, size-large f)) h))
     where

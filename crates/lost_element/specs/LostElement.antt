@@ -34,7 +34,7 @@ pub record FillsLast (f : Format) (sent : List Sent) (received : List ℕ) (fram
   pub control : w ≡ sentAt sent frame .control
 
 -- Of e symbols received, the generator's elements after its first `start` with the one after d of them left out, the last brings a report: which frame is reported, and where the lost element can have lain.
--- The frame ended with element number start + e, and what was lost is a later one or, but in X, its last mark, in whose place the next frame's first mark stands; or it ended with number start + e + 1, and what was lost came before the window. So of the window itself nothing but its last mark can be lost.
+-- The frame ended with element number start + e, and what was lost is a later one or, except in X, its last mark, in whose place the next frame's first mark stands; or it ended with number start + e + 1, and what was lost came before the window. So of the window itself nothing but its last mark can be lost.
 abbrev pub PlaceOfLoss : Format → ℕ → ℕ → ℕ → ℕ → ℕ → Type 0
 PlaceOfLoss f k start d e frame = ((e ≤ d + lead f) × (start + e ≡ size f * suc frame)) ⊎ ((d + windowLength f k ≤ e) × (start + e + 1 ≡ size f * suc frame))
 

@@ -76,7 +76,7 @@ module _ (f : Format) (sent : List Sent) (gen : Generator f sent) where
           let u : size f * suc q - lead f ≡ size f * q + (size f - 1) = omega (arith, lead-one f n, size-positive f) in
           rw u (element-at f sent q (size f - 1) b (omega (arith, size-positive f)) ∙ last-element f (sentAt sent q .time) (sentAt sent q .control) (sent-valid f sent gen q b) ∙ ends-marked f n)
 
-  -- no mark stands two places before a frame, but in X
+  -- no mark stands two places before a frame, except in X
   no-mark-there : (k : ℕ) → isX f ≡ false → (k + 2) % size f ≡ 0 → getD (elements f sent) k 0 ≡ 2 → ⊥
   no-mark-there k n h x = out (marks f sent gen k x n) h
     where
