@@ -81,6 +81,8 @@ enum duskveyra_number {
     DUSKVEYRA_YEAR_PLACE_TAKEN = 18,    /* a one among control bits 1 to 9, where the year would stand */
     DUSKVEYRA_RECORD_CUT_SHORT = 19,    /* the log ends within the record */
     DUSKVEYRA_INVALID_RECORD = 20,      /* a map above 15, or a field equal to the one before */
+    DUSKVEYRA_INVALID_WINDOW = 21,      /* a 33rd window, or one that does not end after it starts */
+    DUSKVEYRA_INVALID_DATE = 22,        /* a month, day or day of year that the year lacks */
     DUSKVEYRA_INVALID_FORECAST = 23,    /* a figure not finite, a reference of 0.0 or -0.0, or more than 16,777,216
                                            seconds */
     DUSKVEYRA_INVALID_CYCLE_COUNT = 24, /* cycles of an element not a multiple of 10 from 10 to 100 */

@@ -1,4 +1,4 @@
-//! The twenty-five numbers that a call refuses with.
+//! The twenty-seven numbers that a call refuses with.
 
 use std::error::Error;
 use std::fmt;
@@ -49,6 +49,10 @@ pub enum Refusal {
     RecordCutShort,
     /// 20: a record's map above 15, or a field equal to the one before.
     InvalidRecord,
+    /// 21: a 33rd window, or one that does not end after it starts.
+    InvalidWindow,
+    /// 22: a month, day or day of year that the year lacks.
+    InvalidDate,
     /// 23: a figure of the oscillator not finite, its reference 0.0 or -0.0, or more than 16,777,216 seconds.
     InvalidForecast,
     /// 24: cycles of an element not a multiple of 10 from 10 to 100.
@@ -62,7 +66,7 @@ pub enum Refusal {
 }
 
 impl Refusal {
-    /// The number, 1 to 20 or 23 to 27.
+    /// The number, 1 to 27.
     pub fn number(self) -> u8 {
         match self {
             Refusal::UnknownFormat => 1,
@@ -85,6 +89,8 @@ impl Refusal {
             Refusal::YearPlaceTaken => 18,
             Refusal::RecordCutShort => 19,
             Refusal::InvalidRecord => 20,
+            Refusal::InvalidWindow => 21,
+            Refusal::InvalidDate => 22,
             Refusal::InvalidForecast => 23,
             Refusal::InvalidCycleCount => 24,
             Refusal::UnknownCycle(_) => 25,
@@ -127,6 +133,8 @@ impl Refusal {
             18 => Refusal::YearPlaceTaken,
             19 => Refusal::RecordCutShort,
             20 => Refusal::InvalidRecord,
+            21 => Refusal::InvalidWindow,
+            22 => Refusal::InvalidDate,
             23 => Refusal::InvalidForecast,
             24 => Refusal::InvalidCycleCount,
             25 => Refusal::UnknownCycle(index),
@@ -164,6 +172,8 @@ impl fmt::Display for Refusal {
             Refusal::YearPlaceTaken => "a one among the control bits whose places the year takes",
             Refusal::RecordCutShort => "record cut short by the log's end",
             Refusal::InvalidRecord => "map above 15, or a field equal to the one before",
+            Refusal::InvalidWindow => "33rd window, or one that does not end after it starts",
+            Refusal::InvalidDate => "month, day or day of year that the year lacks",
             Refusal::InvalidForecast => "figure not finite, reference zero, or too many seconds",
             Refusal::InvalidCycleCount => {
                 "cycles of an element not a multiple of 10 from 10 to 100"

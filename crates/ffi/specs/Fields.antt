@@ -35,6 +35,8 @@ use Rattle.timecode.specs.declared.Refusal.the-variants.{
   YearPlaceTaken,
   RecordCutShort,
   InvalidRecord,
+  InvalidWindow,
+  InvalidDate,
   InvalidForecast,
   InvalidCycleCount,
   UnknownCycle,
@@ -99,6 +101,8 @@ refusal-numbered InvalidYear = refl
 refusal-numbered YearPlaceTaken = refl
 refusal-numbered RecordCutShort = refl
 refusal-numbered InvalidRecord = refl
+refusal-numbered InvalidWindow = refl
+refusal-numbered InvalidDate = refl
 refusal-numbered InvalidForecast = refl
 refusal-numbered InvalidCycleCount = refl
 refusal-numbered (UnknownCycle i) = refl
@@ -126,6 +130,8 @@ index-value InvalidYear = refl
 index-value YearPlaceTaken = refl
 index-value RecordCutShort = refl
 index-value InvalidRecord = refl
+index-value InvalidWindow = refl
+index-value InvalidDate = refl
 index-value InvalidForecast = refl
 index-value InvalidCycleCount = refl
 index-value (UnknownCycle i) = refl

@@ -34,6 +34,8 @@ use Rattle.timecode.specs.declared.Refusal.the-variants.{
   YearPlaceTaken,
   RecordCutShort,
   InvalidRecord,
+  InvalidWindow,
+  InvalidDate,
   InvalidForecast,
   InvalidCycleCount,
   UnknownCycle,
@@ -81,6 +83,8 @@ refusalIndex InvalidYear = 0
 refusalIndex YearPlaceTaken = 0
 refusalIndex RecordCutShort = 0
 refusalIndex InvalidRecord = 0
+refusalIndex InvalidWindow = 0
+refusalIndex InvalidDate = 0
 refusalIndex InvalidForecast = 0
 refusalIndex InvalidCycleCount = 0
 refusalIndex (UnknownCycle i) = i

@@ -124,6 +124,8 @@ pub fn index_of(refusal: Refusal) -> usize
         Refusal::YearPlaceTaken => 0,
         Refusal::RecordCutShort => 0,
         Refusal::InvalidRecord => 0,
+        Refusal::InvalidWindow => 0,
+        Refusal::InvalidDate => 0,
         Refusal::InvalidForecast => 0,
         Refusal::InvalidCycleCount => 0,
         Refusal::UnknownCycle(cycle) => cycle,

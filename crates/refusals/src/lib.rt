@@ -27,6 +27,8 @@ pub fn number_of(refusal: Refusal) -> u8
         Refusal::YearPlaceTaken => 18,
         Refusal::RecordCutShort => 19,
         Refusal::InvalidRecord => 20,
+        Refusal::InvalidWindow => 21,
+        Refusal::InvalidDate => 22,
         Refusal::InvalidForecast => 23,
         Refusal::InvalidCycleCount => 24,
         Refusal::UnknownCycle(_) => 25,

@@ -31,6 +31,8 @@ use Rattle.timecode.specs.declared.Refusal.the-variants.{
   YearPlaceTaken,
   RecordCutShort,
   InvalidRecord,
+  InvalidWindow,
+  InvalidDate,
   InvalidForecast,
   InvalidCycleCount,
   UnknownCycle,
@@ -69,6 +71,8 @@ refusalNumber InvalidYear = 17
 refusalNumber YearPlaceTaken = 18
 refusalNumber RecordCutShort = 19
 refusalNumber InvalidRecord = 20
+refusalNumber InvalidWindow = 21
+refusalNumber InvalidDate = 22
 refusalNumber InvalidForecast = 23
 refusalNumber InvalidCycleCount = 24
 refusalNumber (UnknownCycle i) = 25
@@ -107,6 +111,8 @@ index InvalidYear = []
 index YearPlaceTaken = []
 index RecordCutShort = []
 index InvalidRecord = []
+index InvalidWindow = []
+index InvalidDate = []
 index InvalidForecast = []
 index InvalidCycleCount = []
 index (UnknownCycle i) = pos i ∷ []

@@ -75,7 +75,7 @@ pub struct Pulse {
     pub deviation: i32,
 }
 
-// Document 01's thirteen numbers and document 02's 14 to 20 and 23 to 27, in their order. With 5 and 6 goes the index of the element, with 25 that of the cycle.
+// Document 01's thirteen numbers and document 02's from 14 on, in their order. With 5 and 6 goes the index of the element, with 25 that of the cycle.
 pub enum Refusal {
     UnknownFormat,
     InvalidTime,
@@ -97,6 +97,8 @@ pub enum Refusal {
     YearPlaceTaken,
     RecordCutShort,
     InvalidRecord,
+    InvalidWindow,
+    InvalidDate,
     InvalidForecast,
     InvalidCycleCount,
     UnknownCycle(usize),

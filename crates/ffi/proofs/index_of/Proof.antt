@@ -69,14 +69,20 @@ enum-told-19 c = search needs
 enum-told-20 : tie.Need-enum-told-20
 enum-told-20 c = search needs
 
-enum-known-refusal-3 : tie.Need-enum-known-refusal-3
-enum-known-refusal-3 c = search needs
-
 enum-told-21 : tie.Need-enum-told-21
 enum-told-21 c = search needs
 
 enum-told-22 : tie.Need-enum-told-22
 enum-told-22 c = search needs
+
+enum-known-refusal-3 : tie.Need-enum-known-refusal-3
+enum-known-refusal-3 c = search needs
+
+enum-told-23 : tie.Need-enum-told-23
+enum-told-23 c = search needs
+
+enum-told-24 : tie.Need-enum-told-24
+enum-told-24 c = search needs
 
 returns : tie.Need-returns
 returns c = rw (c .enum-told .given .1)
@@ -145,13 +151,19 @@ returns-22 : tie.Need-returns-22
 returns-22 c = rw (c .enum-told20 .given .1)
 
 returns-23 : tie.Need-returns-23
-returns-23 c = rw (c .before .refusal3 .given .1)
+returns-23 c = rw (c .enum-told21 .given .1)
 
 returns-24 : tie.Need-returns-24
-returns-24 c = rw (c .enum-told21 .given .1)
+returns-24 c = rw (c .enum-told22 .given .1)
 
 returns-25 : tie.Need-returns-25
-returns-25 c = rw (c .enum-told22 .given .1)
+returns-25 c = rw (c .before .refusal3 .given .1)
+
+returns-26 : tie.Need-returns-26
+returns-26 c = rw (c .enum-told23 .given .1)
+
+returns-27 : tie.Need-returns-27
+returns-27 c = rw (c .enum-told24 .given .1)
 
 pub index-of-spec : {M : Type 1} → statement M
 index-of-spec =
@@ -179,9 +191,11 @@ index-of-spec =
     enum-told-18
     enum-told-19
     enum-told-20
-    enum-known-refusal-3
     enum-told-21
     enum-told-22
+    enum-known-refusal-3
+    enum-told-23
+    enum-told-24
     returns
     returns-2
     returns-3
@@ -206,4 +220,6 @@ index-of-spec =
     returns-22
     returns-23
     returns-24
-    returns-25)
+    returns-25
+    returns-26
+    returns-27)
