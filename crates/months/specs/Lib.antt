@@ -1,0 +1,2 @@
+-- Counting is the loops over the months of a year.
+pub mod Counting
