@@ -1,0 +1,258 @@
+// The calendar of test windows: an empty one, adding a window, and asking which windows hold a time and what follows it.
+// Every calendar is taken: a count over 32 counts as 32, and of each number kept only the 56 bits of a key count.
+ghost use mathlib.Core.Path.{_≡_};
+ghost use mathlib.Core.Bool.{cond, true, false};
+ghost use Prim.Native.Nat.{_+_, _*_, _%_, _≤_, _<_};
+ghost use lib.Dec.{ltb};
+ghost use lib.ListN.{length, take};
+ghost use Rattle.calendar.specs.Dates.{hasDate};
+ghost use Rattle.calendar.specs.Keys.{Small};
+ghost use Rattle.calendar.specs.Moments.{askOf};
+ghost use Rattle.calendar.specs.Windows.{keyOf, timeOf, windowsOf, momentOf, addOf, emptyCalendar};
+ghost use Rattle.windows.specs.Asking.{limited, sooner, nextKey, maskKeys, followingOf};
+ghost use Rattle.windows.specs.Ways.{daysAnswer, hundredthsAnswer, datesAnswer, putOf, refusedWith};
+use calendar::Added;
+use calendar::Asked;
+use calendar::Calendar;
+use calendar::DateTime;
+use calendar::Following;
+use calendar::Window;
+use months::day_in;
+use months::has_date;
+use months::has_day;
+use timecode::Refusal;
+use timecode::Time;
+use timecode::Written;
+
+// Of the windows looked at: which hold the time, and the key of the next start or end.
+pub struct Seen {
+    pub mask: u32,
+    pub next: u64,
+}
+
+// above every key
+const NO_KEY: u64 = 18_446_744_073_709_551_615;
+
+// The key of a moment, whose fields fit their places in it.
+fn key_of(time: Time) -> u64
+    ensures { λ r. ⌜ (r ≡ keyOf time) × Small time ⌝ }
+{
+    let year = time.year as u64;
+    let day = time.day as u64;
+    let hundredths = time.hundredths as u64;
+    (year * 65_536 + day) * 4_294_967_296 + hundredths
+}
+
+fn time_of(key: u64) -> Time
+    ensures { λ r. ⌜ r ≡ timeOf key ⌝ }
+{
+    let high = key / 4_294_967_296;
+    Time {
+        year: (high / 65_536 % 256) as u8,
+        day: (high % 65_536) as u16,
+        hundredths: (key % 4_294_967_296) as u32,
+    }
+}
+
+fn following(key: u64) -> Following
+    ensures { λ r. ⌜ r ≡ followingOf key ⌝ }
+{
+    if key == NO_KEY {
+        return Following::None;
+    }
+    Following::At(time_of(key))
+}
+
+// The sooner of a start or end and the best so far; one that is not after the time does not count.
+fn sooner_of(key: u64, edge: u64, best: u64) -> u64
+    ensures { λ r. ⌜ r ≡ sooner key edge best ⌝ }
+{
+    if key < edge {
+        if edge < best {
+            return edge;
+        }
+        return best;
+    }
+    best
+}
+
+fn is_held(key: u64, start: u64, end: u64) -> bool
+    ensures { λ r. ⌜ r ≡ cond (ltb key start) false (ltb key end) ⌝ }
+{
+    if key < start {
+        return false;
+    }
+    key < end
+}
+
+fn with_bit(mask: u32, held: bool) -> u32
+    requires { ⌜ mask < 2147483648 ⌝ }
+    ensures { λ r. ⌜ r ≡ cond held 1 0 + 2 * mask ⌝ }
+{
+    if held {
+        return 1 + 2 * mask;
+    }
+    2 * mask
+}
+
+fn limit(count: usize) -> usize
+    ensures { λ r. ⌜ (r ≡ limited count) × (r ≤ 32) ⌝ }
+{
+    if count < Calendar::MOST_WINDOWS {
+        return count;
+    }
+    Calendar::MOST_WINDOWS
+}
+
+// The windows from the last to the first, so that the first comes to stand in bit 0.
+fn look<'a>(starts: &'a [u64], ends: &'a [u64], count: usize, key: u64) -> Seen
+    requires { ⌜ (length (now starts) ≡ 32) × (length (now ends) ≡ 32) × (count ≤ 32) ⌝ }
+    ensures { λ r. ⌜ (r .mask ≡ maskKeys key (take count (now (starts .entry))) (take count (now (ends .entry)))) × (r .next ≡ nextKey key (take count (now (starts .entry))) (take count (now (ends .entry)))) ⌝ }
+{
+    let mut i = count;
+    let mut mask: u32 = 0;
+    let mut next: u64 = NO_KEY;
+    while 0 < i {
+        i -= 1;
+        let start = starts[i] % Calendar::KEY_LIMIT;
+        let end = ends[i] % Calendar::KEY_LIMIT;
+        next = sooner_of(key, start, sooner_of(key, end, next));
+        mask = with_bit(mask, is_held(key, start, end));
+    }
+    Seen {
+        mask: mask,
+        next: next,
+    }
+}
+
+// Which windows hold a time, and the next start or end after it.
+pub fn ask(calendar: Calendar, time: Time) -> Asked
+    ensures { λ r. ⌜ r ≡ askOf (windowsOf calendar) time ⌝ }
+{
+    if time.year <= Time::LAST_YEAR {
+        if time.hundredths <= Time::LAST_HUNDREDTH {
+            if has_day(time.year, time.day) {
+                let count = limit(calendar.count);
+                let seen = look(&calendar.starts, &calendar.ends, count, key_of(time));
+                return Asked::Windows {
+                    mask: seen.mask,
+                    next: following(seen.next),
+                };
+            }
+            return Asked::Refused(Refusal::InvalidDate);
+        }
+        return Asked::Refused(Refusal::InvalidTime);
+    }
+    Asked::Refused(Refusal::InvalidYear)
+}
+
+// A calendar to which nothing was added.
+pub fn empty() -> Calendar
+    ensures { λ r. ⌜ r ≡ emptyCalendar ⌝ }
+{
+    Calendar {
+        count: 0,
+        starts: [0; 32],
+        ends: [0; 32],
+    }
+}
+
+// 22: both dates.
+fn check_days(start: DateTime, end: DateTime) -> Written
+    ensures { λ r. ⌜ r ≡ daysAnswer start end ⌝ }
+{
+    if has_date(start.date) {
+        if has_date(end.date) {
+            return Written::Done;
+        }
+    }
+    Written::Refused(Refusal::InvalidDate)
+}
+
+// 2, then 22: both hundredths, then both dates.
+fn check_hundredths(start: DateTime, end: DateTime) -> Written
+    ensures { λ r. ⌜ r ≡ hundredthsAnswer start end ⌝ }
+{
+    if start.hundredths <= Time::LAST_HUNDREDTH {
+        if end.hundredths <= Time::LAST_HUNDREDTH {
+            return check_days(start, end);
+        }
+    }
+    Written::Refused(Refusal::InvalidTime)
+}
+
+// 17, 2, 22: both years, both hundredths, both dates.
+fn check_dates(start: DateTime, end: DateTime) -> Written
+    ensures { λ r. ⌜ r ≡ datesAnswer start end ⌝ }
+{
+    if start.date.year <= Time::LAST_YEAR {
+        if end.date.year <= Time::LAST_YEAR {
+            return check_hundredths(start, end);
+        }
+    }
+    Written::Refused(Refusal::InvalidYear)
+}
+
+// The moment of a date that its year has.
+fn moment_of(at: DateTime) -> Time
+    requires { ⌜ hasDate (at .date) ≡ true ⌝ }
+    ensures { λ r. ⌜ r ≡ momentOf at ⌝ }
+{
+    let date = at.date;
+    let month = date.month as usize;
+    let day = date.day as u16;
+    Time {
+        year: date.year,
+        day: day_in(date.year, month - 1, day),
+        hundredths: at.hundredths,
+    }
+}
+
+fn refuse(calendar: Calendar, refusal: Refusal) -> Added
+    ensures { λ r. ⌜ r ≡ refusedWith calendar refusal ⌝ }
+{
+    Added {
+        calendar: calendar,
+        answer: Written::Refused(refusal),
+    }
+}
+
+// 21, then the window behind the others.
+fn put_window(calendar: Calendar, window: Window) -> Added
+    ensures { λ r. ⌜ r ≡ putOf calendar window ⌝ }
+{
+    let count = calendar.count;
+    let start = key_of(window.start);
+    let end = key_of(window.end);
+    if count < Calendar::MOST_WINDOWS {
+        if start < end {
+            let mut next = calendar;
+            next.starts[count] = start;
+            next.ends[count] = end;
+            next.count = count + 1;
+            return Added {
+                calendar: next,
+                answer: Written::Done,
+            };
+        }
+        return refuse(calendar, Refusal::InvalidWindow);
+    }
+    refuse(calendar, Refusal::InvalidWindow)
+}
+
+// Adds a window from a date and hundredth to another; a refusal hands back the calendar as it was.
+pub fn add(calendar: Calendar, start: DateTime, end: DateTime) -> Added
+    ensures { λ r. ⌜ r ≡ addOf calendar start end ⌝ }
+{
+    let checked = check_dates(start, end);
+    match checked {
+        Written::Done => {
+            let window = Window {
+                start: moment_of(start),
+                end: moment_of(end),
+            };
+            put_window(calendar, window)
+        }
+        Written::Refused(refusal) => refuse(calendar, refusal),
+    }
+}
