@@ -149,6 +149,23 @@ made-by-adding bs =
     let c = added emptyCalendar bs in
     (all .1, omega (arith, no-more (take (c .count) (c .starts)) (take (c .count) (c .ends)), length-take-le (c .count) (c .starts) (omega (arith, all .0 .few, all .0 .starts)), all .0 .few))
 
+-- Each of them ends after it starts.
+abbrev pub EachEnds : List Window → Type 0
+EachEnds [] = Unit
+EachEnds (w ∷ ws) = (earlier (w .start) (w .end) ≡ true) × EachEnds ws
+
+one-ends : (count : ℕ) (s e : DateTime) (a : Written) (ws : List Window) → addAnswer count s e ≡ a → EachEnds ws → EachEnds (takenBy a (windowOf s e) ++ ws)
+one-ends count s e Done ws h rest = (passes-all count s e h .order, rest)
+one-ends count s e (Written.Refused x) ws h rest = rest
+
+each-taken : (c : Calendar) (bs : List Booking) → EachEnds (taken c bs)
+unfolding taken
+each-taken c [] = tt
+each-taken c (b ∷ bs) = one-ends (c .count) (b .from) (b .to) (addAnswer (c .count) (b .from) (b .to)) (taken (addOf c (b .from) (b .to) .calendar) bs) refl (each-taken (addOf c (b .from) (b .to) .calendar) bs)
+
+pub each-ends-after : (bs : List Booking) → EachEnds (windowsOf (added emptyCalendar bs))
+each-ends-after bs = rw (made-by-adding bs .0) (each-taken emptyCalendar bs)
+
 -- A refused add leaves the calendar as it was.
 pub refused-stays : (c : Calendar) (s e : DateTime) (r : Refusal) → addOf c s e .answer ≡ Written.Refused r → addOf c s e .calendar ≡ c
 unfolding addOf

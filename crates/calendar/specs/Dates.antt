@@ -3,8 +3,9 @@ use mathlib.Core.Bool.{Bool, cond, _&&_}
 use mathlib.Core.List.{List, [], _∷_}
 use Prim.Native.Nat.{ℕ, zero, suc, _+_, _-_}
 use lib.Dec.{leb, eqb}
+use lib.IntN.{pos}
 use lib.ListN.{getD}
-use Rattle.timecode.specs.Answers.{check}
+use Rattle.timecode.specs.Answers.{check, Result, success, refusalResult}
 use Rattle.timecode.specs.Formats.{daysIn, lastYear}
 use Rattle.timecode.specs.declared.Refusal.the-variants.{InvalidYear, InvalidDate}
 use Rattle.calendar.specs.declared.Counted.{Counted}
@@ -62,3 +63,13 @@ dayOf d =
     check Counted.Refused InvalidYear (isYear (d .year))  -- 17
     (check Counted.Refused InvalidDate (hasDate d)  -- 22
     (Day (dayNumber d)))
+
+-- ---- what the answers say
+
+abbrev pub datedResult : Dated → Result
+datedResult (On d) = success (pos (d .year) ∷ pos (d .month) ∷ pos (d .day) ∷ [])
+datedResult (Dated.Refused x) = refusalResult x
+
+abbrev pub countedResult : Counted → Result
+countedResult (Day d) = success (pos d ∷ [])
+countedResult (Counted.Refused x) = refusalResult x

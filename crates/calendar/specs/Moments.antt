@@ -3,7 +3,8 @@ use mathlib.Core.Bool.{Bool, cond, not, _&&_}
 use mathlib.Core.List.{List, [], _∷_}
 use Prim.Native.Nat.{ℕ, _+_, _*_}
 use lib.Dec.{leb, ltb, eqb}
-use Rattle.timecode.specs.Answers.{check}
+use lib.IntN.{pos}
+use Rattle.timecode.specs.Answers.{check, Result, success, refusalResult, timeValues}
 use Rattle.timecode.specs.Formats.{lastHundredth}
 use Rattle.timecode.specs.declared.Refusal.the-variants.{InvalidTime, InvalidYear, InvalidDate}
 use Rattle.timecode.specs.declared.Time.{Time}
@@ -60,3 +61,10 @@ askOf ws t =
     (check Asked.Refused InvalidTime (isHundredth (t .hundredths))  -- 2
     (check Asked.Refused InvalidDate (hasDay (t .year) (t .day))  -- 22
     (Asked.Windows (maskOf ws t) (nextOf t (edgesOf ws)))))
+
+-- ---- what the answer says: the mask, and the moment of the next start or end where there is one
+
+abbrev pub askedResult : Asked → Result
+askedResult (Asked.Windows mask (At t)) = success (pos mask ∷ timeValues t [])
+askedResult (Asked.Windows mask Following.None) = success (pos mask ∷ [])
+askedResult (Asked.Refused x) = refusalResult x

@@ -164,6 +164,20 @@ next-answers t (e ∷ es) =
 pub first-found : (t : Time) (es : List Time) (m : Time) → nextOf t es ≡ At m → First t es m
 first-found t es m e = subst (Answers t es) e (next-answers t es)
 
+-- and there is no other first one
+at-member : (P : Time → Type 0) (es : List Time) (m : Time) → Every P es → Some (λ e. e ≡ m) es → P m
+at-member P [] m h s = absurd s
+at-member P (e ∷ es) m h (inl is) = subst P is (h .0)
+at-member P (e ∷ es) m h (inr s) = at-member P es m (h .1) s
+
+pub one-first : (t : Time) (es : List Time) (m n : Time) → First t es m → First t es n → m ≡ n
+one-first t es m n a b =
+    one-or-other
+    m
+    n
+    (at-member (λ e. earlier t e ≡ true → earlier e n ≡ false) es m (b .least) (a .member) (a .after))
+    (at-member (λ e. earlier t e ≡ true → earlier e m ≡ false) es n (a .least) (b .member) (b .after))
+
 -- none exactly if none follows
 some-later : (t : Time) (es : List Time) (m : Time) → Every (λ e. earlier t e ≡ false) es → First t es m → ⊥
 some-later t es m none f = go es none (f .member)

@@ -14,6 +14,8 @@ use Rattle.calendar.specs.Moments.{earlier, isHundredth}
 use Rattle.calendar.specs.declared.Added.{Added}
 use Rattle.calendar.specs.declared.Calendar.{Calendar}
 use Rattle.calendar.specs.declared.DateTime.{DateTime}
+use Rattle.calendar.specs.declared.Keyed.{Keyed}
+use Rattle.calendar.specs.declared.Keyed.the-variants.{Keys}
 use Rattle.calendar.specs.declared.Window.{Window}
 
 -- ---- a moment as one number, its key
@@ -66,3 +68,8 @@ addBy (Written.Refused r) c w = record { calendar = c; answer = Written.Refused 
 
 unfoldable pub addOf : Calendar → DateTime → DateTime → Added
 addOf c s e = addBy (addAnswer (c .count) s e) c (windowOf s e)
+
+-- the two keys of a window that is taken, or the refusal
+abbrev pub keyedBy : Written → Window → Keyed
+keyedBy Done w = Keys (keyOf (w .start)) (keyOf (w .end))
+keyedBy (Written.Refused r) w = Keyed.Refused r

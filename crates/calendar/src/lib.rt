@@ -59,6 +59,12 @@ impl Calendar {
     pub const KEY_LIMIT: u64 = 72_057_594_037_927_936;
 }
 
+// A window to be added: its start's key and its end's, or why it is not taken.
+pub enum Keyed {
+    Keys { start: u64, end: u64 },
+    Refused(Refusal),
+}
+
 // Adding: the calendar handed back, and whether the window was taken.
 pub struct Added {
     pub calendar: Calendar,

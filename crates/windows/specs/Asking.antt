@@ -17,9 +17,8 @@ use Rattle.calendar.specs.Adding.{days-few}
 use Rattle.calendar.specs.Dates.{hasDay}
 use Rattle.calendar.specs.Keys.{Small, key-order, key-back, time-small, back-key}
 use Rattle.calendar.specs.Moments.{earlier, holds, maskOf, edgesOf, nearer, nextOf, askOf}
-use Rattle.calendar.specs.Windows.{keyOf, timeOf, windowsIn, windowsOf}
+use Rattle.calendar.specs.Windows.{keyOf, timeOf, windowsIn}
 use Rattle.calendar.specs.declared.Asked.{Asked}
-use Rattle.calendar.specs.declared.Calendar.{Calendar}
 use Rattle.calendar.specs.declared.Following.{Following}
 use Rattle.calendar.specs.declared.Following.the-variants.{At}
 
@@ -165,15 +164,15 @@ module _ (ss es : List ℕ) (n : ℕ) (long : length ss ≡ 32) (other : length 
 
 -- ---- the call
 
-pub ask-is : (c : Calendar) (t : Time) (n mask next k : ℕ) (f : Following) → t .year ≤ 99 → t .hundredths ≤ 8640099 → hasDay (t .year) (t .day) ≡ true → length (c .starts) ≡ 32 → length (c .ends) ≡ 32 → n ≡ limited (c .count) → k ≡ keyOf t
-    → (mask ≡ maskKeys k (take n (c .starts)) (take n (c .ends))) × (next ≡ nextKey k (take n (c .starts)) (take n (c .ends))) → f ≡ followingOf next → Asked.Windows mask f ≡ askOf (windowsOf c) t
+pub ask-is : (count : ℕ) (starts ends : List ℕ) (t : Time) (n mask next k : ℕ) (f : Following) → t .year ≤ 99 → t .hundredths ≤ 8640099 → hasDay (t .year) (t .day) ≡ true → length starts ≡ 32 → length ends ≡ 32 → n ≡ limited count → k ≡ keyOf t
+    → (mask ≡ maskKeys k (take n starts) (take n ends)) × (next ≡ nextKey k (take n starts) (take n ends)) → f ≡ followingOf next → Asked.Windows mask f ≡ askOf (windowsIn (take count starts) (take count ends)) t
 unfolding askOf hasDay
-ask-is c t n mask next k f year hundredths day starts ends limit key seen found =
+ask-is count starts ends t n mask next k f year hundredths day long other limit key seen found =
     let in-year = leb-true (t .day) (daysIn (t .year)) (and-right (leb 1 (t .day)) (leb (t .day) (daysIn (t .year))) day) in
     let small : Small t = record { year = omega (arith, year); day = omega (arith, in-year, days-few (t .year)); hundredths = omega (arith, hundredths) } in
-    let ss = limit-take (c .starts) (c .count) n starts limit in
-    let es = limit-take (c .ends) (c .count) n ends limit in
-    let m : mask ≡ maskKeys (keyOf t) (take (c .count) (c .starts)) (take (c .count) (c .ends)) = rw (key, ss, es) at (seen .0) in
-    let x : next ≡ nextKey (keyOf t) (take (c .count) (c .starts)) (take (c .count) (c .ends)) = rw (key, ss, es) at (seen .1) in
+    let ss = limit-take starts count n long limit in
+    let es = limit-take ends count n other limit in
+    let m : mask ≡ maskKeys (keyOf t) (take count starts) (take count ends) = rw (key, ss, es) at (seen .0) in
+    let x : next ≡ nextKey (keyOf t) (take count starts) (take count ends) = rw (key, ss, es) at (seen .1) in
     rw (le-leb (t .year) 99 year, le-leb (t .hundredths) 8640099 hundredths, day)
-    (ap₂ Asked.Windows (m ∙ mask-same t small (take (c .count) (c .starts)) (take (c .count) (c .ends))) (found ∙ ap followingOf x ∙ next-same t small (take (c .count) (c .starts)) (take (c .count) (c .ends))))
+    (ap₂ Asked.Windows (m ∙ mask-same t small (take count starts) (take count ends)) (found ∙ ap followingOf x ∙ next-same t small (take count starts) (take count ends)))

@@ -4,18 +4,19 @@ ghost use mathlib.Core.Path.{_≡_};
 ghost use mathlib.Core.Bool.{cond, true, false};
 ghost use Prim.Native.Nat.{_+_, _*_, _%_, _≤_, _<_};
 ghost use lib.Dec.{ltb};
-ghost use lib.ListN.{length, take};
+ghost use lib.ListN.{length, take, set};
 ghost use Rattle.calendar.specs.Dates.{hasDate};
 ghost use Rattle.calendar.specs.Keys.{Small};
 ghost use Rattle.calendar.specs.Moments.{askOf};
-ghost use Rattle.calendar.specs.Windows.{keyOf, timeOf, windowsOf, momentOf, addOf, emptyCalendar};
+ghost use Rattle.calendar.specs.Windows.{keyOf, timeOf, windowsIn, windowsOf, momentOf, windowOf, keyedBy, addAnswer, addOf, emptyCalendar};
 ghost use Rattle.windows.specs.Asking.{limited, sooner, nextKey, maskKeys, followingOf};
-ghost use Rattle.windows.specs.Ways.{daysAnswer, hundredthsAnswer, datesAnswer, putOf, refusedWith};
+ghost use Rattle.windows.specs.Ways.{daysAnswer, hundredthsAnswer, datesAnswer, windowAnswer};
 use calendar::Added;
 use calendar::Asked;
 use calendar::Calendar;
 use calendar::DateTime;
 use calendar::Following;
+use calendar::Keyed;
 use calendar::Window;
 use months::day_in;
 use months::has_date;
@@ -125,15 +126,15 @@ fn look<'a>(starts: &'a [u64], ends: &'a [u64], count: usize, key: u64) -> Seen
     }
 }
 
-// Which windows hold a time, and the next start or end after it.
-pub fn ask(calendar: Calendar, time: Time) -> Asked
-    ensures { λ r. ⌜ r ≡ askOf (windowsOf calendar) time ⌝ }
+// Which windows of so many, lent as their keys, hold a time, and the next start or end after it.
+pub fn ask_keys<'a>(count: usize, starts: &'a [u64], ends: &'a [u64], time: Time) -> Asked
+    requires { ⌜ (length (now starts) ≡ 32) × (length (now ends) ≡ 32) ⌝ }
+    ensures { λ r. ⌜ r ≡ askOf (windowsIn (take count (now (starts .entry))) (take count (now (ends .entry)))) time ⌝ }
 {
     if time.year <= Time::LAST_YEAR {
         if time.hundredths <= Time::LAST_HUNDREDTH {
             if has_day(time.year, time.day) {
-                let count = limit(calendar.count);
-                let seen = look(&calendar.starts, &calendar.ends, count, key_of(time));
+                let seen = look(starts, ends, limit(count), key_of(time));
                 return Asked::Windows {
                     mask: seen.mask,
                     next: following(seen.next),
@@ -144,6 +145,13 @@ pub fn ask(calendar: Calendar, time: Time) -> Asked
         return Asked::Refused(Refusal::InvalidTime);
     }
     Asked::Refused(Refusal::InvalidYear)
+}
+
+// Which windows hold a time, and the next start or end after it.
+pub fn ask(calendar: Calendar, time: Time) -> Asked
+    ensures { λ r. ⌜ r ≡ askOf (windowsOf calendar) time ⌝ }
+{
+    ask_keys(calendar.count, &calendar.starts, &calendar.ends, time)
 }
 
 // A calendar to which nothing was added.
@@ -208,41 +216,23 @@ fn moment_of(at: DateTime) -> Time
     }
 }
 
-fn refuse(calendar: Calendar, refusal: Refusal) -> Added
-    ensures { λ r. ⌜ r ≡ refusedWith calendar refusal ⌝ }
+// 21: the keys of a window behind so many others.
+fn keys_of(count: usize, window: Window) -> Keyed
+    ensures { λ r. ⌜ r ≡ keyedBy (windowAnswer count window) window ⌝ }
 {
-    Added {
-        calendar: calendar,
-        answer: Written::Refused(refusal),
-    }
-}
-
-// 21, then the window behind the others.
-fn put_window(calendar: Calendar, window: Window) -> Added
-    ensures { λ r. ⌜ r ≡ putOf calendar window ⌝ }
-{
-    let count = calendar.count;
     let start = key_of(window.start);
     let end = key_of(window.end);
     if count < Calendar::MOST_WINDOWS {
         if start < end {
-            let mut next = calendar;
-            next.starts[count] = start;
-            next.ends[count] = end;
-            next.count = count + 1;
-            return Added {
-                calendar: next,
-                answer: Written::Done,
-            };
+            return Keyed::Keys { start, end };
         }
-        return refuse(calendar, Refusal::InvalidWindow);
     }
-    refuse(calendar, Refusal::InvalidWindow)
+    Keyed::Refused(Refusal::InvalidWindow)
 }
 
-// Adds a window from a date and hundredth to another; a refusal hands back the calendar as it was.
-pub fn add(calendar: Calendar, start: DateTime, end: DateTime) -> Added
-    ensures { λ r. ⌜ r ≡ addOf calendar start end ⌝ }
+// 17, 2, 22, 21: the keys of a window from a date and hundredth to another, behind so many others.
+pub fn book(count: usize, start: DateTime, end: DateTime) -> Keyed
+    ensures { λ r. ⌜ r ≡ keyedBy (addAnswer count start end) (windowOf start end) ⌝ }
 {
     let checked = check_dates(start, end);
     match checked {
@@ -251,8 +241,38 @@ pub fn add(calendar: Calendar, start: DateTime, end: DateTime) -> Added
                 start: moment_of(start),
                 end: moment_of(end),
             };
-            put_window(calendar, window)
+            keys_of(count, window)
         }
-        Written::Refused(refusal) => refuse(calendar, refusal),
+        Written::Refused(refusal) => Keyed::Refused(refusal),
+    }
+}
+
+// The keys behind the others.
+fn with_keys(calendar: Calendar, start: u64, end: u64) -> Calendar
+    requires { ⌜ calendar .count < 32 ⌝ }
+    ensures { λ r. ⌜ r ≡ record { count = calendar .count + 1; starts = set (calendar .starts) (calendar .count) start; ends = set (calendar .ends) (calendar .count) end } ⌝ }
+{
+    let count = calendar.count;
+    let mut next = calendar;
+    next.starts[count] = start;
+    next.ends[count] = end;
+    next.count = count + 1;
+    next
+}
+
+// Adds a window from a date and hundredth to another; a refusal hands back the calendar as it was.
+pub fn add(calendar: Calendar, start: DateTime, end: DateTime) -> Added
+    ensures { λ r. ⌜ r ≡ addOf calendar start end ⌝ }
+{
+    let keyed = book(calendar.count, start, end);
+    match keyed {
+        Keyed::Keys { start, end } => Added {
+            calendar: with_keys(calendar, start, end),
+            answer: Written::Done,
+        },
+        Keyed::Refused(refusal) => Added {
+            calendar: calendar,
+            answer: Written::Refused(refusal),
+        },
     }
 }
