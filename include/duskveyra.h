@@ -5,10 +5,10 @@
  * is as it was. Every value of every number is allowed, and every content of lent memory; what is out of range is refused
  * with its number.
  *
- * Pointers go to frames, cycles, lists, logs and readers alone. None may be null, also where the length beside it is 0,
- * and no two of one call may point into the same memory, but where both are const. A list goes as two arguments, the
- * pointer and the number of its elements. Every function returns, keeps no pointer after that, and uses no memory but its
- * own and what is lent to it.
+ * Pointers go to frames, cycles, lists, logs, calendars and readers alone. None may be null, also where the length
+ * beside it is 0, and no two of one call may point into the same memory, but where both are const. A list goes as two
+ * arguments, the pointer and the number of its elements. Every function returns, keeps no pointer after that, and uses no
+ * memory but its own and what is lent to it.
  *
  * A symbol is one byte: 0 (zero or index marker), 1 (one), 2 (mark: position identifier or reference bit) or
  * 3 (spoiled, or a missing pulse of X). A format is a rate letter, in capital ASCII ('A', 'B', 'D', 'E', 'G', 'H', 'X'),
@@ -151,6 +151,29 @@ typedef struct duskveyra_report {
 /* The longest record of a log, in bytes. */
 #define DUSKVEYRA_LONGEST_RECORD 13
 
+/* A day by its month: the year, 0 to 99, the month from 1 and the day of the month from 1. */
+typedef struct duskveyra_date {
+    uint8_t year;
+    uint8_t month;
+    uint8_t day;
+} duskveyra_date;
+
+/* A date and hundredths of a second since its midnight, 0 to 8,640,099. */
+typedef struct duskveyra_date_time {
+    duskveyra_date date;
+    uint32_t hundredths;
+} duskveyra_date_time;
+
+/* A calendar of test windows: how many were added, then a word for each start and one for each end. It is made by
+ * duskveyra_calendar_empty, changed by duskveyra_calendar_add, and may be copied as any struct. */
+#define DUSKVEYRA_MOST_WINDOWS 32
+
+#define DUSKVEYRA_CALENDAR_WORDS 65
+
+typedef struct duskveyra_calendar {
+    uint64_t words[DUSKVEYRA_CALENDAR_WORDS];
+} duskveyra_calendar;
+
 /* The most listeners of a simulation. */
 #define DUSKVEYRA_MOST_LISTENERS 8
 
@@ -256,6 +279,23 @@ typedef struct duskveyra_simulate_result {
     uint8_t number;
     duskveyra_counts counts[DUSKVEYRA_MOST_LISTENERS]; /* of each listener; past the last all 0 */
 } duskveyra_simulate_result;
+
+typedef struct duskveyra_date_result {
+    uint8_t number;
+    duskveyra_date date;
+} duskveyra_date_result;
+
+typedef struct duskveyra_day_result {
+    uint8_t number;
+    uint16_t day;
+} duskveyra_day_result;
+
+typedef struct duskveyra_ask_result {
+    uint8_t number;
+    uint8_t follows;     /* 1 where a start or end follows the time, 0 where none does; next is then 0 */
+    uint32_t mask;       /* bit i stands where window i holds the time; bit 0 is the first added */
+    duskveyra_time next; /* the next start or end */
+} duskveyra_ask_result;
 
 /* Writes a time and a control word as the symbols of one frame; every byte of the frame is set.
  * Refuses with 1; 17; 2; 14; 9; 3 where frame_length is not the format's number of elements; in this order. */
@@ -435,6 +475,30 @@ duskveyra_simulate_result duskveyra_simulate(duskveyra_format format, duskveyra_
                                              uint16_t year_length, const uint8_t *settings, size_t settings_length,
                                              const size_t *ends, size_t ends_length, const uint64_t *numbers,
                                              size_t numbers_length, const uint8_t *symbols, size_t symbols_length);
+
+/* Month and day from day of year, in the years 0 to 99 for 2000 to 2099, of which every fourth from 2000 has 366 days.
+ * Refuses with 17 for a year over 99; 22 for a day that the year lacks; in this order. */
+duskveyra_date_result duskveyra_date_of_day(uint8_t year, uint16_t day);
+
+/* Day of year from month and day. It undoes duskveyra_date_of_day, and duskveyra_date_of_day undoes it.
+ * Refuses with 17 for a year over 99; 22 for a month or day that the year lacks; in this order. */
+duskveyra_day_result duskveyra_day_of_date(duskveyra_date date);
+
+/* Makes an empty calendar: sets all words of *calendar to 0, whatever they were. It refuses nothing. */
+duskveyra_write_result duskveyra_calendar_empty(duskveyra_calendar *calendar);
+
+/* Adds a test window, behind those that were added before, up to 32. The start belongs to the window, the end does not.
+ * Moments are ordered by year, day of year, then hundredth; windows may overlap.
+ * Refuses with 17 where either year is over 99; 2 where either hundredths are over 8,640,099; 22 where either date is
+ * one that its year lacks; 21 for a 33rd window, or where the end is not after the start; in this order, and then leaves
+ * *calendar as it was. */
+duskveyra_write_result duskveyra_calendar_add(duskveyra_calendar *calendar, duskveyra_date_time start,
+                                              duskveyra_date_time end);
+
+/* Which windows hold a time, and the next start or end after it: a moment alone, which says not of which window. Of a
+ * calendar that duskveyra_calendar_empty and duskveyra_calendar_add did not make, what it answers is not promised.
+ * Refuses with 17 for a year over 99; 2 for hundredths over 8,640,099; 22 for a day that the year lacks; in this order. */
+duskveyra_ask_result duskveyra_calendar_ask(const duskveyra_calendar *calendar, duskveyra_time time);
 
 #ifdef __cplusplus
 }

@@ -6,6 +6,10 @@ ghost use Rattle.timecode.specs.Editions.{forwardOf, forwardLeaves, backwardOf,
 ghost use Rattle.timecode.specs.Frames.{readOf, writeOf, writeLeaves, stepOf, stepBackOf};
 ghost use Rattle.block.specs.Blocks.{lists, listsLeft, blockFor};
 ghost use Rattle.block_words.specs.BlockWords.{blockResultOf, feedBlockWords, blockWordsLeft};
+ghost use Rattle.calendar.specs.Dates.{dateOf, dayOf};
+ghost use Rattle.calendar.specs.Moments.{askOf};
+ghost use Rattle.calendar.specs.Windows.{windowsOf, addOf, emptyCalendar};
+ghost use Rattle.calendar_words.specs.CalendarStructs.{calendarIn, wordsOf, dateResultOf, dayResultOf, askResultOf};
 ghost use Rattle.cycles.specs.Cycles.{encodeOf, encodeLeaves, decodeOf, decodeLeaves};
 ghost use Rattle.ffi.specs.Structs.{writeResultOf, convertResultOf, readResultOf, stepResultOf, differenceResultOf, classifyResultOf, scanResultOf, feedResultOf, withDeviation, forecastResultOf};
 ghost use Rattle.forecasts.specs.Forecasting.{forecastOf};
@@ -19,6 +23,16 @@ ghost use Rattle.reader_words.specs.Words.{readerIn, freshResultOf, freshLeft, 
 use block_feed::feed_block;
 use block_words::BlockResult;
 use block_words::put_block;
+use calendar::Date;
+use calendar::DateTime;
+use calendar_words::AskResult;
+use calendar_words::DateResult;
+use calendar_words::DayResult;
+use calendar_words::add_to;
+use calendar_words::ask_in;
+use calendar_words::date_result;
+use calendar_words::day_result;
+use calendar_words::put_empty;
 use clock::difference;
 use clock::step;
 use clock::step_back;
@@ -55,6 +69,8 @@ use log_results::log_write_result;
 use log_write::write_report;
 use manchester_decode::decode;
 use manchester_encode::encode;
+use months::date_of;
+use months::day_of;
 use pulse::classify;
 use pulse::classify_list;
 use pulse_feed::feed_pulse;
@@ -346,6 +362,52 @@ pub extern "C" fn duskveyra_simulate(
         numbers,
         symbols,
     ))
+}
+
+// Month and day from day of year.
+#[no_mangle]
+pub extern "C" fn duskveyra_date_of_day(year: u8, day: u16) -> DateResult
+    ensures { λ r. ⌜ r ≡ dateResultOf (dateOf year day) ⌝ }
+{
+    date_result(date_of(year, day))
+}
+
+// Day of year from month and day.
+#[no_mangle]
+pub extern "C" fn duskveyra_day_of_date(date: Date) -> DayResult
+    ensures { λ r. ⌜ r ≡ dayResultOf (dayOf date) ⌝ }
+{
+    day_result(day_of(date))
+}
+
+// An empty calendar of test windows, into the caller's words.
+#[no_mangle]
+pub extern "C" fn duskveyra_calendar_empty(calendar: &mut [u64; 65]) -> WriteResult
+    ensures { λ r. ⌜ r .number ≡ 0 ⌝ }
+    ensures { λ _. ⌜ now (calendar .exit) ≡ wordsOf emptyCalendar ⌝ }
+{
+    put_empty(calendar)
+}
+
+// Adds a window from a date and hundredth to another.
+#[no_mangle]
+pub extern "C" fn duskveyra_calendar_add(
+    calendar: &mut [u64; 65],
+    start: DateTime,
+    end: DateTime,
+) -> WriteResult
+    ensures { λ r. ⌜ r ≡ writeResultOf (addOf (calendarIn (now (calendar .entry))) start end .answer) ⌝ }
+    ensures { λ _. ⌜ now (calendar .exit) ≡ wordsOf (addOf (calendarIn (now (calendar .entry))) start end .calendar) ⌝ }
+{
+    add_to(calendar, start, end)
+}
+
+// Which windows hold a time, and the next start or end after it.
+#[no_mangle]
+pub extern "C" fn duskveyra_calendar_ask(calendar: &[u64; 65], time: Time) -> AskResult
+    ensures { λ r. ⌜ r ≡ askResultOf (askOf (windowsOf (calendarIn (now (calendar .entry)))) time) ⌝ }
+{
+    ask_in(calendar, time)
 }
 
 // The number of this interface. Header and build script refer to the symbol by that number, so that a program made for another interface does not link.
