@@ -2,7 +2,7 @@
 //! pulse-width elements, with days that are a second longer or shorter, A and B
 //! with the year after IRIG 200-04, and the XR3 code as format X; A, B and G in
 //! the modified Manchester form too. Beside them the report log, the
-//! hold-over forecast and the simulation.
+//! calendar of test windows, the hold-over forecast and the simulation.
 //!
 //! A symbol is one byte: 0 (zero or index marker), 1 (one), 2 (mark: position
 //! identifier or reference bit), 3 (spoiled, or in X a missing pulse).
@@ -10,6 +10,7 @@
 #![forbid(unsafe_code)]
 
 mod block;
+mod calendar;
 mod clock;
 mod editions;
 mod formats;
@@ -26,6 +27,7 @@ mod stream;
 mod timeread;
 
 pub use block::{Block, Stop};
+pub use calendar::{date_of_day, day_of_date, Calendar, Date, DateTime};
 pub use clock::{difference, next_after, step, step_back, SECOND_ADDED, SECOND_TAKEN, USUAL_DAY};
 pub use editions::{backward, forward};
 pub use formats::{Format, Time, MARK, ONE, SPOILED, ZERO};

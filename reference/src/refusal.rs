@@ -46,6 +46,10 @@ pub enum Refusal {
     RecordCut,
     /// 20: a record's map over 15, or a field equal to the one before.
     Record,
+    /// 21: a 33rd window, or one that does not end after it starts.
+    Window,
+    /// 22: a month, day or day of year that the year lacks.
+    Date,
     /// 23: a figure not finite, a zero reference, or too many seconds.
     Forecast,
     /// 24: cycles of an element not a multiple of 10 from 10 to 100.
@@ -82,6 +86,8 @@ impl Refusal {
             Refusal::YearPlace => 18,
             Refusal::RecordCut => 19,
             Refusal::Record => 20,
+            Refusal::Window => 21,
+            Refusal::Date => 22,
             Refusal::Forecast => 23,
             Refusal::CycleCount => 24,
             Refusal::Cycle(_) => 25,
