@@ -97,6 +97,7 @@
 #![warn(missing_docs)]
 
 mod block;
+mod calendar;
 mod editions;
 mod holdover;
 mod log;
@@ -109,6 +110,9 @@ pub mod sys;
 mod time;
 
 pub use block::{Block, Stop};
+pub use calendar::{
+    Asked, Calendar, Date, DateTime, ParseDateError, Windows, CALENDAR_WORDS, MOST_WINDOWS,
+};
 pub use editions::{backward, forward};
 pub use holdover::{forecast, Oscillator, MOST_SECONDS};
 pub use log::{log_read, log_write, Log, Reports, LONGEST_RECORD};

@@ -4,7 +4,10 @@
 //! index with 5, 6 and 25. No pointer may be null, and no two pointers of one call may point into the same memory; beside
 //! that every value is allowed.
 
-use crate::{Format, Oscillator, Report, Time, WidthSettings, MOST_LISTENERS, READER_WORDS};
+use crate::{
+    Date, DateTime, Format, Oscillator, Report, Time, WidthSettings, CALENDAR_WORDS,
+    MOST_LISTENERS, READER_WORDS,
+};
 
 #[repr(C)]
 pub struct WriteResult {
@@ -111,6 +114,26 @@ pub struct Counts {
 pub struct SimulateResult {
     pub number: u8,
     pub counts: [Counts; MOST_LISTENERS],
+}
+
+#[repr(C)]
+pub struct DateResult {
+    pub number: u8,
+    pub date: Date,
+}
+
+#[repr(C)]
+pub struct DayResult {
+    pub number: u8,
+    pub day: u16,
+}
+
+#[repr(C)]
+pub struct AskResult {
+    pub number: u8,
+    pub follows: u8,
+    pub mask: u32,
+    pub next: Time,
 }
 
 extern "C" {
@@ -262,8 +285,13 @@ extern "C" {
         symbols: *const u8,
         symbols_length: usize,
     ) -> SimulateResult;
+    pub fn duskveyra_date_of_day(year: u8, day: u16) -> DateResult;
+    pub fn duskveyra_day_of_date(date: Date) -> DayResult;
+    pub fn duskveyra_calendar_empty(calendar: *mut [u64; CALENDAR_WORDS]) -> WriteResult;
+    pub fn duskveyra_calendar_add(
+        calendar: *mut [u64; CALENDAR_WORDS],
+        start: DateTime,
+        end: DateTime,
+    ) -> WriteResult;
+    pub fn duskveyra_calendar_ask(calendar: *const [u64; CALENDAR_WORDS], time: Time) -> AskResult;
 }
-
-// The number of the interface that this file declares: an archive of another one does not link.
-#[used]
-static INTERFACE: unsafe extern "C" fn() -> u32 = duskveyra_interface_4;
