@@ -1,8 +1,9 @@
 //! Runs the library against the plain version in `reference`: one element lost or put in at every place, random streams in
 //! all 25 formats with every setting, symbol by symbol and in blocks, random calls with good and bad input, report logs,
-//! clock cycles, forecasts and simulations. The first difference is printed in full and ends the run.
+//! clock cycles, forecasts, calendars and simulations. The first difference is printed in full and ends the run.
 
 mod blocks;
+mod calendars;
 mod calls;
 mod cycles;
 mod forecasts;
@@ -76,6 +77,9 @@ struct Counts {
     refused_simulations: u64,
     simulated_reports: u64,
     wrong_reports: u64,
+    /// Windows that calendars took, and that were refused.
+    windows: u64,
+    refused_windows: u64,
 }
 
 fn refused(refusal: duskveyra::Refusal) -> Refused {
@@ -368,6 +372,7 @@ fn main() -> ExitCode {
             logs::run_logs(&mut random, &mut counts)?;
             cycles::run_cycles(&mut random, &mut counts)?;
             forecasts::run_forecasts(&mut random, &mut counts)?;
+            calendars::run_calendars(&mut random, &mut counts)?;
             simulations::run_simulations(&mut random, &mut counts)?;
             blocks::run_blocks(&mut random, &mut counts)
         });
@@ -419,6 +424,10 @@ fn main() -> ExitCode {
         counts.refused_simulations,
         counts.simulated_reports,
         counts.wrong_reports
+    );
+    println!(
+        "{} windows of calendars, {} refused",
+        counts.windows, counts.refused_windows
     );
     println!(
         "{} symbols, {} calls, 0 differences (seed {seed})",
