@@ -2,6 +2,7 @@
 //! time.
 
 mod before;
+mod calendars;
 mod commands;
 mod cpu;
 mod cycles;
@@ -525,6 +526,7 @@ fn call_table() {
     row("classify", "pulse", classify());
     row("classify_list, 4,096 pulses", "pulse", classify_list());
     logs::rows();
+    calendars::rows();
 }
 
 fn length_table() {
@@ -563,6 +565,10 @@ fn main() {
         Some("logs") => {
             heading("call");
             logs::rows();
+        }
+        Some("calendars") => {
+            heading("call");
+            calendars::rows();
         }
         Some("cycles") => cycles::rows(),
         Some("simulations") => simulations::rows(),

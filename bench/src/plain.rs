@@ -1,8 +1,8 @@
 //! The plain Rust side of the benchmark: the crate `reference`, with the reader's answers as the binding gives them.
 
 pub use reference::{
-    classify, classify_list, log_read, log_write, next_after, read, scan, step, write, Format,
-    Refusal, Report, Time, Widths, USUAL_DAY,
+    classify, classify_list, date_of_day, day_of_date, log_read, log_write, next_after, read, scan,
+    step, write, Calendar, Date, DateTime, Format, Refusal, Report, Time, Widths, USUAL_DAY,
 };
 
 /// A report of a block: the index of the symbol that brought it, the time and the control word.
