@@ -20,91 +20,91 @@ use Rattle.calendar.specs.declared.Following.{Following}
 use Rattle.calendar.specs.declared.Following.the-variants.{At}
 use Rattle.calendar.specs.declared.Window.{Window}
 
-abbrev date : ℕ → ℕ → ℕ → Date
+abbrev pub date : ℕ → ℕ → ℕ → Date
 date y m d = record { year = y; month = m; day = d }
 
-leap-day : dateOf 24 60 ≡ On (date 24 2 29)
+pub leap-day : dateOf 24 60 ≡ On (date 24 2 29)
 unfolding dateOf hasDay daysIn placeIn monthLengths
 leap-day = refl
 
-no-leap-day : dateOf 23 60 ≡ On (date 23 3 1)
+pub no-leap-day : dateOf 23 60 ≡ On (date 23 3 1)
 unfolding dateOf hasDay daysIn placeIn monthLengths
 no-leap-day = refl
 
-last-day : dayOf (date 0 12 31) ≡ Day 366
+pub last-day : dayOf (date 0 12 31) ≡ Day 366
 unfolding dayOf hasDate dayIn monthLengths daysIn
 last-day = refl
 
-no-day-366 : dateOf 99 366 ≡ Dated.Refused InvalidDate
+pub no-day-366 : dateOf 99 366 ≡ Dated.Refused InvalidDate
 unfolding dateOf hasDay daysIn placeIn monthLengths
 no-day-366 = refl
 
-no-29-february : dayOf (date 25 2 29) ≡ Counted.Refused InvalidDate
+pub no-29-february : dayOf (date 25 2 29) ≡ Counted.Refused InvalidDate
 unfolding dayOf hasDate dayIn monthLengths daysIn
 no-29-february = refl
 
-year-100 : dateOf 100 367 ≡ Dated.Refused InvalidYear
+pub year-100 : dateOf 100 367 ≡ Dated.Refused InvalidYear
 unfolding dateOf hasDay daysIn placeIn monthLengths
 year-100 = refl
 
-no-31-april : dayOf (date 24 4 31) ≡ Counted.Refused InvalidDate
+pub no-31-april : dayOf (date 24 4 31) ≡ Counted.Refused InvalidDate
 unfolding dayOf hasDate dayIn monthLengths daysIn
 no-31-april = refl
 
-no-month-13 : dayOf (date 24 13 1) ≡ Counted.Refused InvalidDate
+pub no-month-13 : dayOf (date 24 13 1) ≡ Counted.Refused InvalidDate
 unfolding dayOf hasDate dayIn monthLengths daysIn
 no-month-13 = refl
 
-no-day-0 : dateOf 24 0 ≡ Dated.Refused InvalidDate
+pub no-day-0 : dateOf 24 0 ≡ Dated.Refused InvalidDate
 unfolding dateOf hasDay daysIn placeIn monthLengths
 no-day-0 = refl
 
 -- the last day of each month, in a year of 365 days and in one of 366, 2000
-abbrev lasts : ℕ → ℕ → List ℕ
+abbrev pub lasts : ℕ → ℕ → List ℕ
 lasts year february =
     dayNumber (date year 1 31) ∷ dayNumber (date year 2 february) ∷ dayNumber (date year 3 31) ∷ dayNumber (date year 4 30)
     ∷ dayNumber (date year 5 31) ∷ dayNumber (date year 6 30) ∷ dayNumber (date year 7 31) ∷ dayNumber (date year 8 31)
     ∷ dayNumber (date year 9 30) ∷ dayNumber (date year 10 31) ∷ dayNumber (date year 11 30) ∷ dayNumber (date year 12 31) ∷ []
 
-months-of-99 : lasts 99 28 ≡ 31 ∷ 59 ∷ 90 ∷ 120 ∷ 151 ∷ 181 ∷ 212 ∷ 243 ∷ 273 ∷ 304 ∷ 334 ∷ 365 ∷ []
+pub months-of-99 : lasts 99 28 ≡ 31 ∷ 59 ∷ 90 ∷ 120 ∷ 151 ∷ 181 ∷ 212 ∷ 243 ∷ 273 ∷ 304 ∷ 334 ∷ 365 ∷ []
 unfolding dayIn monthLengths daysIn
 months-of-99 = refl
 
-months-of-0 : lasts 0 29 ≡ 31 ∷ 60 ∷ 91 ∷ 121 ∷ 152 ∷ 182 ∷ 213 ∷ 244 ∷ 274 ∷ 305 ∷ 335 ∷ 366 ∷ []
+pub months-of-0 : lasts 0 29 ≡ 31 ∷ 60 ∷ 91 ∷ 121 ∷ 152 ∷ 182 ∷ 213 ∷ 244 ∷ 274 ∷ 305 ∷ 335 ∷ 366 ∷ []
 unfolding dayIn monthLengths daysIn
 months-of-0 = refl
 
 -- ---- two windows of 2024, the second inside the first: days 60 to 70, and 62 to 65
 
-abbrev midnight : ℕ → Time
+abbrev pub midnight : ℕ → Time
 midnight day = record { year = 24; day = day; hundredths = 0 }
 
-abbrev window : ℕ → ℕ → Window
+abbrev pub window : ℕ → ℕ → Window
 window first last = record { start = midnight first; end = midnight last }
 
-abbrev both : List Window
+abbrev pub both : List Window
 both = window 60 70 ∷ window 62 65 ∷ []
 
-at-start : askOf both (midnight 60) ≡ Asked.Windows 1 (At (midnight 62))
+pub at-start : askOf both (midnight 60) ≡ Asked.Windows 1 (At (midnight 62))
 unfolding askOf hasDay daysIn maskOf holds edgesOf nextOf nearer earlier
 at-start = refl
 
-inside-both : askOf both (midnight 62) ≡ Asked.Windows 3 (At (midnight 65))
+pub inside-both : askOf both (midnight 62) ≡ Asked.Windows 3 (At (midnight 65))
 unfolding askOf hasDay daysIn maskOf holds edgesOf nextOf nearer earlier
 inside-both = refl
 
-at-end : askOf both (midnight 70) ≡ Asked.Windows 0 Following.None
+pub at-end : askOf both (midnight 70) ≡ Asked.Windows 0 Following.None
 unfolding askOf hasDay daysIn maskOf holds edgesOf nextOf nearer earlier
 at-end = refl
 
-abbrev on : ℕ → DateTime
+abbrev pub on : ℕ → DateTime
 on day = record { date = date 24 2 day; hundredths = 0 }
 
 -- a window that ends as it starts
-no-length : addAnswer 0 (on 29) (on 29) ≡ Written.Refused InvalidWindow
+pub no-length : addAnswer 0 (on 29) (on 29) ≡ Written.Refused InvalidWindow
 unfolding addAnswer hasDate dayIn monthLengths daysIn earlier
 no-length = refl
 
-no-33rd : addAnswer 32 (on 28) (on 29) ≡ Written.Refused InvalidWindow
+pub no-33rd : addAnswer 32 (on 28) (on 29) ≡ Written.Refused InvalidWindow
 unfolding addAnswer hasDate dayIn monthLengths daysIn earlier
 no-33rd = refl

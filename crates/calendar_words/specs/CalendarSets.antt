@@ -7,6 +7,8 @@ use lib.ListN.{getD, length, take, drop, set, length-drop, length-set, take-appe
 use lib.Seq.{take-all, length-take-le}
 use Rattle.timecode.specs.Answers.{refusalNumber}
 use Rattle.timecode.specs.declared.Refusal.{Refusal}
+use Rattle.timecode.specs.declared.Written.{Written}
+use Rattle.calendar.specs.Adding.{refused-stays}
 use Rattle.calendar.specs.Windows.{windowOf, addAnswer, addOf, keyedBy}
 use Rattle.calendar.specs.declared.Added.{Added}
 use Rattle.calendar.specs.declared.DateTime.{DateTime}
@@ -71,3 +73,7 @@ module _ (words : List ℕ) (s e : DateTime) (long : length words ≡ 65) where
   refused x h =
       let added = add-refused (calendarIn words) s e x h in
       (ap (λ (a : Added). writeResultOf (a .answer)) added, sym (words-back words long) ∙ ap (λ (a : Added). wordsOf (a .calendar)) added)
+
+-- A refused add leaves the caller's words.
+pub refused-add-leaves : (words : List ℕ) (s e : DateTime) (x : Refusal) → length words ≡ 65 → addOf (calendarIn words) s e .answer ≡ Written.Refused x → wordsOf (addOf (calendarIn words) s e .calendar) ≡ words
+refused-add-leaves words s e x long h = ap wordsOf (refused-stays (calendarIn words) s e x h) ∙ words-back words long
