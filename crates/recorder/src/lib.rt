@@ -11,6 +11,7 @@ ghost use Rattle.calendar.specs.Moments.{askOf};
 ghost use Rattle.calendar.specs.Windows.{windowsOf, addOf, emptyCalendar};
 ghost use Rattle.calendar_words.specs.CalendarStructs.{calendarIn, wordsOf, dateResultOf, dayResultOf, askResultOf};
 ghost use Rattle.cycles.specs.Cycles.{encodeOf, encodeLeaves, decodeOf, decodeLeaves};
+ghost use Rattle.figures.specs.Figures.{formatFiguresOf, timeOfDayOf};
 ghost use Rattle.ffi.specs.Structs.{writeResultOf, convertResultOf, readResultOf, stepResultOf, differenceResultOf, classifyResultOf, scanResultOf, feedResultOf, withDeviation, forecastResultOf};
 ghost use Rattle.forecasts.specs.Forecasting.{forecastOf};
 ghost use Rattle.log_results.specs.LogStructs.{logWriteResultOf, logReadResultOf};
@@ -57,6 +58,10 @@ use ffi::read_result;
 use ffi::scan_result;
 use ffi::step_result;
 use ffi::write_result;
+use figures::FormatFiguresResult;
+use figures::TimeOfDayResult;
+use figures::format_figures;
+use figures::time_of_day;
 use forecasts::Oscillator;
 use frame::read;
 use frame::write;
@@ -408,6 +413,30 @@ pub extern "C" fn duskveyra_calendar_ask(calendar: &[u64; 65], time: Time) -> As
     ensures { λ r. ⌜ r ≡ askResultOf (askOf (windowsOf (calendarIn (now (calendar .entry)))) time) ⌝ }
 {
     ask_in(calendar, time)
+}
+
+// A format's elements, interval in hundredths and number of control bits.
+#[no_mangle]
+pub extern "C" fn duskveyra_format_figures(format: Format) -> FormatFiguresResult
+    ensures { λ r. ⌜ r ≡ formatFiguresOf format ⌝ }
+{
+    format_figures(format)
+}
+
+// Hour, minute, second and hundredth of a time.
+#[no_mangle]
+pub extern "C" fn duskveyra_time_of_day(time: Time) -> TimeOfDayResult
+    ensures { λ r. ⌜ r ≡ timeOfDayOf time ⌝ }
+{
+    time_of_day(time)
+}
+
+// The version, 10,000 times the first number, 100 times the second and the third: 1.0.0.
+#[no_mangle]
+pub extern "C" fn duskveyra_version() -> u32
+    ensures { λ r. ⌜ r ≡ 10000 ⌝ }
+{
+    10_000
 }
 
 // The number of this interface. Header and build script refer to the symbol by that number, so that a program made for another interface does not link.
