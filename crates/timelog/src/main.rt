@@ -6,6 +6,7 @@ mod printing;
 use arguments::Number;
 use arguments::decimal_in;
 use making::Year;
+use version::print_version;
 
 enum Asked {
     Print,
@@ -69,6 +70,9 @@ fn asked_for() -> Asked {
 }
 
 fn main() {
+    if print_version(b"timelog") {
+        return;
+    }
     let asked = asked_for();
     match asked {
         Asked::Print => printing::print_log(),

@@ -23,6 +23,7 @@ use simulation::Counts;
 use timecode::Format;
 use timecode::Time;
 use timecode::Written;
+use version::print_version;
 
 const FIRST_SETTING: u8 = 2;
 
@@ -245,6 +246,9 @@ fn try_scattered(request: Request) {
 }
 
 fn main() {
+    if print_version(b"timetry") {
+        return;
+    }
     let count = os::arg_count();
     let asked = asked_for(count);
     let Asked::Run(request) = asked else {

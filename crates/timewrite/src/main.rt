@@ -23,6 +23,7 @@ use output::write_first;
 use timecode::Format;
 use timecode::Time;
 use timecode::Written;
+use version::print_version;
 
 struct Request {
     format: Format,
@@ -150,6 +151,9 @@ fn print_checked(request: Request) {
 }
 
 fn main() {
+    if print_version(b"timewrite") {
+        return;
+    }
     let asked = asked_for();
     match asked {
         Asked::Recording(request) => print_checked(request),
