@@ -1,4 +1,4 @@
-/* The time code engine of the crack-test recorder, for C99 and C++: link with librecorder.a.
+/* The time code engine of the crack-test recorder, for C99 and C++: link with librecorder.a, installed as libduskveyra.a.
  *
  * Every function takes numbers, formats and times by value and returns one struct. Its member number is 0, or the number
  * of a refusal; where it is not 0 every other member is 0, but the index with 5, 6 and 25, and all memory of the caller
@@ -53,6 +53,20 @@ __attribute__((used))
 #endif
 static uint32_t (*const duskveyra_interface_linked)(void) = duskveyra_interface_4;
 
+/* The version of this header, as text and as a number: 10,000 times its first number, 100 times its second and its third.
+ * The call gives that of the archive. */
+#define DUSKVEYRA_VERSION "1.0.0"
+#define DUSKVEYRA_VERSION_NUMBER 10000
+
+uint32_t duskveyra_version(void);
+
+/* Stands behind every function that takes a pointer: where the compiler has the attribute, it warns of a null one. */
+#if defined(__GNUC__)
+#define DUSKVEYRA_NONNULL __attribute__((nonnull))
+#else
+#define DUSKVEYRA_NONNULL
+#endif
+
 /* The numbers that a call refuses with; 0 is no refusal. */
 enum duskveyra_number {
     DUSKVEYRA_OK = 0,
@@ -92,6 +106,103 @@ enum duskveyra_number {
                                            a ninth listener */
 };
 
+/* What a number of a refusal means; also for 0, and for a number that no call gives. */
+static inline const char *duskveyra_number_text(unsigned number)
+{
+    switch (number) {
+    case DUSKVEYRA_OK:
+        return "not refused";
+    case DUSKVEYRA_UNKNOWN_FORMAT:
+        return "letter or expression not among the formats";
+    case DUSKVEYRA_INVALID_TIME:
+        return "day or hundredths out of range, or not on the format";
+    case DUSKVEYRA_WRONG_LENGTH:
+        return "frame not of the format's length, or lists of different lengths";
+    case DUSKVEYRA_UNKNOWN_SYMBOL:
+        return "symbol above 3";
+    case DUSKVEYRA_MISPLACED_MARK:
+        return "mark missing, or where none belongs";
+    case DUSKVEYRA_INVALID_ELEMENT:
+        return "index marker not zero, a spoiled bit, or a pulse where X has none";
+    case DUSKVEYRA_INVALID_DIGIT:
+        return "digit, clock or day out of range";
+    case DUSKVEYRA_SECONDS_DIFFER:
+        return "straight binary seconds differ from the digits";
+    case DUSKVEYRA_CONTROL_TOO_LONG:
+        return "control word needs more bits than are carried";
+    case DUSKVEYRA_INVALID_INTERVAL:
+        return "nominal element interval out of range";
+    case DUSKVEYRA_INVALID_YEAR_LENGTH:
+        return "year length not 365 or 366, or the day is beyond it";
+    case DUSKVEYRA_START_PAST_END:
+        return "start or place past the end";
+    case DUSKVEYRA_INVALID_READER:
+        return "reader's letter, expression or place out of range";
+    case DUSKVEYRA_SECOND_NOT_CARRIED:
+        return "added second in a format that does not carry it";
+    case DUSKVEYRA_INVALID_KIND:
+        return "kind of day above 2, or the time is past the day's end";
+    case DUSKVEYRA_INVALID_WIDTH_SETTING:
+        return "width setting not 1 to 14 percent";
+    case DUSKVEYRA_INVALID_YEAR:
+        return "year over 99, or not 0 in a format that carries none";
+    case DUSKVEYRA_YEAR_PLACE_TAKEN:
+        return "a one among the control bits whose places the year takes";
+    case DUSKVEYRA_RECORD_CUT_SHORT:
+        return "record cut short by the log's end";
+    case DUSKVEYRA_INVALID_RECORD:
+        return "map above 15, or a field equal to the one before";
+    case DUSKVEYRA_INVALID_WINDOW:
+        return "33rd window, or one that does not end after it starts";
+    case DUSKVEYRA_INVALID_DATE:
+        return "month, day or day of year that the year lacks";
+    case DUSKVEYRA_INVALID_FORECAST:
+        return "figure not finite, reference zero, or too many seconds";
+    case DUSKVEYRA_INVALID_CYCLE_COUNT:
+        return "cycles of an element not a multiple of 10 from 10 to 100";
+    case DUSKVEYRA_UNKNOWN_CYCLE:
+        return "cycle neither 1 nor 2";
+    case DUSKVEYRA_INVALID_SETTING:
+        return "setting not 2 to 5";
+    case DUSKVEYRA_INVALID_LISTENER:
+        return "damages not rising or with a symbol above 3, or a ninth listener";
+    default:
+        return "unknown number";
+    }
+}
+
+/* The symbols. */
+enum duskveyra_symbol {
+    DUSKVEYRA_ZERO = 0,   /* a zero or an index marker */
+    DUSKVEYRA_ONE = 1,    /* a one */
+    DUSKVEYRA_MARK = 2,   /* a position identifier or reference bit */
+    DUSKVEYRA_SPOILED = 3 /* a spoiled element, or a missing pulse of X */
+};
+
+/* The cycles of the modified Manchester form, and how many an element may have: a multiple of 10. */
+enum duskveyra_cycle {
+    DUSKVEYRA_HIGH_CYCLE = 1,
+    DUSKVEYRA_LOW_CYCLE = 2
+};
+
+#define DUSKVEYRA_FEWEST_CYCLES 10
+#define DUSKVEYRA_MOST_CYCLES 100
+
+/* The limits of a time. A usual day has DUSKVEYRA_DAY_LENGTH hundredths: there the added second begins, and
+ * DUSKVEYRA_LAST_HUNDREDTH is its last. */
+#define DUSKVEYRA_LAST_YEAR 99
+#define DUSKVEYRA_FIRST_DAY 1
+#define DUSKVEYRA_LAST_DAY 366
+#define DUSKVEYRA_DAY_LENGTH 8640000
+#define DUSKVEYRA_LAST_HUNDREDTH 8640099
+
+/* The limits of a reader's setting, of the nominal element interval in ticks, and of a forecast's seconds. */
+#define DUSKVEYRA_LEAST_SETTING 2
+#define DUSKVEYRA_GREATEST_SETTING 5
+#define DUSKVEYRA_LEAST_INTERVAL 100
+#define DUSKVEYRA_GREATEST_INTERVAL 10000000
+#define DUSKVEYRA_MOST_SECONDS 16777216
+
 /* The kinds of a day. In D, E, H and X the frames go on as usual on a day of every kind. */
 enum duskveyra_kind {
     DUSKVEYRA_USUAL_DAY = 0,    /* 86,400 seconds */
@@ -129,7 +240,9 @@ typedef struct duskveyra_width_settings {
     uint8_t marks;
 } duskveyra_width_settings;
 
+#define DUSKVEYRA_NARROWEST_WIDTH 1
 #define DUSKVEYRA_USUAL_WIDTH 5
+#define DUSKVEYRA_WIDEST_WIDTH 14
 
 #define DUSKVEYRA_USUAL_WIDTHS { DUSKVEYRA_USUAL_WIDTH, DUSKVEYRA_USUAL_WIDTH, DUSKVEYRA_USUAL_WIDTH }
 
@@ -297,14 +410,40 @@ typedef struct duskveyra_ask_result {
     duskveyra_time next; /* the next start or end */
 } duskveyra_ask_result;
 
+typedef struct duskveyra_format_figures_result {
+    uint8_t number;
+    uint8_t control_bits; /* how many a control word may need; 0 where the expression carries none */
+    uint32_t interval;    /* from a frame to the next, in hundredths of a second */
+    size_t elements;      /* of a frame, a byte for each */
+} duskveyra_format_figures_result;
+
+typedef struct duskveyra_time_of_day_result {
+    uint8_t number;
+    uint8_t hour;
+    uint8_t minute;
+    uint8_t second; /* 60 in a second that was added to the day */
+    uint8_t hundredth;
+} duskveyra_time_of_day_result;
+
+/* The format's figures of the table above, in its own expression: how long a frame is that duskveyra_write fills, how far
+ * apart frames are, and how many control bits they carry.
+ * Refuses with 1. */
+duskveyra_format_figures_result duskveyra_format_figures(duskveyra_format format);
+
+/* Hour, minute, second and hundredth of a time, as its frame's digits have them: 23:59:60 from hundredth 8,640,000 on, where
+ * plain division would give 24:00:00. The year is not looked at.
+ * Refuses with 2 where the day or the hundredths are out of range. */
+duskveyra_time_of_day_result duskveyra_time_of_day(duskveyra_time time);
+
 /* Writes a time and a control word as the symbols of one frame; every byte of the frame is set.
  * Refuses with 1; 17; 2; 14; 9; 3 where frame_length is not the format's number of elements; in this order. */
 duskveyra_write_result duskveyra_write(duskveyra_format format, duskveyra_time time, uint64_t control, uint8_t *frame,
-                                       size_t frame_length);
+                                       size_t frame_length) DUSKVEYRA_NONNULL;
 
 /* Reads one frame: its time and its control word.
  * Refuses with 1; 3; 4; the lowest index that offends with 5 or 6; 7; 8; in this order. */
-duskveyra_read_result duskveyra_read(duskveyra_format format, const uint8_t *frame, size_t frame_length);
+duskveyra_read_result duskveyra_read(duskveyra_format format, const uint8_t *frame, size_t frame_length)
+    DUSKVEYRA_NONNULL;
 
 /* Converts a frame of A or B without the year, in the format's expression 0 to 3, into the frame with that year, which
  * the expression 4 higher reads; every byte of later is set. The control bits 10 to 27 stay where they are.
@@ -312,7 +451,7 @@ duskveyra_read_result duskveyra_read(duskveyra_format format, const uint8_t *fra
  * later_length is not 100; as duskveyra_read does with 4; 5 or 6; 7; 8; then 17; 2 where the year lacks the frame's day;
  * 18; in this order. */
 duskveyra_convert_result duskveyra_forward(duskveyra_format format, const uint8_t *frame, size_t frame_length,
-                                           uint8_t year, uint8_t *later, size_t later_length);
+                                           uint8_t year, uint8_t *later, size_t later_length) DUSKVEYRA_NONNULL;
 
 /* Converts a frame of A or B with the year, in the format's expression 4 to 7, into the frame without it, which the
  * expression 4 lower reads: elements 50 to 58 are 0 in it, and all else is as it was; every byte of earlier is set. It
@@ -320,7 +459,7 @@ duskveyra_convert_result duskveyra_forward(duskveyra_format format, const uint8_
  * Refuses with 1, also for a letter or an expression that is not of the later edition; 3 where frame_length or
  * earlier_length is not 100; then as duskveyra_read does with 4; 5 or 6; 7; 8; in this order. */
 duskveyra_convert_result duskveyra_backward(duskveyra_format format, const uint8_t *frame, size_t frame_length,
-                                            uint8_t *earlier, size_t earlier_length);
+                                            uint8_t *earlier, size_t earlier_length) DUSKVEYRA_NONNULL;
 
 /* The time of the frame after the one with this time, in a year of year_length days. The kind is that of the given time's
  * day. Where the format carries the year, its own length counts and year_length is not looked at; year 99 is followed
@@ -345,14 +484,15 @@ duskveyra_difference_result duskveyra_difference(duskveyra_time first, duskveyra
 /* Makes a fresh reader, which has a format and a setting, 2 to 5, and has received nothing: sets all words of *reader,
  * whatever they were.
  * Refuses with 1; 26; in this order. */
-duskveyra_write_result duskveyra_fresh(duskveyra_format format, uint8_t setting, duskveyra_reader *reader);
+duskveyra_write_result duskveyra_fresh(duskveyra_format format, uint8_t setting, duskveyra_reader *reader)
+    DUSKVEYRA_NONNULL;
 
 /* Feeds one symbol, and changes *reader. The symbol brings a report where it ended the last of as many frames as the
  * setting says, directly one after the other behind a mark (in X behind anything or nothing), each time next after the
  * one before for some year length and some kind of day; the report is the last one's time and control word.
  * Refuses with 13; 26; 4; in this order, and then feeds nothing. A reader made by duskveyra_fresh and changed by feeding
  * alone never meets 13 or 26. Of a reader with other words that passes them, what is reported is not promised. */
-duskveyra_feed_result duskveyra_feed(duskveyra_reader *reader, uint8_t symbol);
+duskveyra_feed_result duskveyra_feed(duskveyra_reader *reader, uint8_t symbol) DUSKVEYRA_NONNULL;
 
 /* Feeds a block of symbols as duskveyra_feed does one after the other, and puts their reports, in their order, into a
  * list of records, which is five lists of one length: report k, counted from 0, is indexes[k], years[k], days[k],
@@ -367,13 +507,13 @@ duskveyra_block_result duskveyra_feed_block(duskveyra_reader *reader, const uint
                                             size_t *indexes, size_t indexes_length, uint8_t *years,
                                             size_t years_length, uint16_t *days, size_t days_length,
                                             uint32_t *hundredths, size_t hundredths_length, uint64_t *controls,
-                                            size_t controls_length);
+                                            size_t controls_length) DUSKVEYRA_NONNULL;
 
 /* Classifies one pulse, as duskveyra_classify does, and feeds its symbol, as duskveyra_feed does. The settings may be
  * others at each call.
  * Refuses with 10; 16; 13; 26; in this order, and then feeds nothing. */
 duskveyra_feed_pulse_result duskveyra_feed_pulse(duskveyra_reader *reader, duskveyra_width_settings settings,
-                                                 uint32_t interval, uint32_t width, uint32_t period);
+                                                 uint32_t interval, uint32_t width, uint32_t period) DUSKVEYRA_NONNULL;
 
 /* Classifies one pulse by its width and its period, in the ticks of the nominal element interval: with a period of 95 to
  * 105 percent of it a width at most the setting's percentage from 20 percent is 0, from 50 percent 1, from 80 percent 2,
@@ -388,14 +528,14 @@ duskveyra_classify_result duskveyra_classify(duskveyra_width_settings settings, 
 duskveyra_write_result duskveyra_classify_list(duskveyra_width_settings settings, uint32_t interval,
                                                const uint32_t *widths, size_t widths_length, const uint32_t *periods,
                                                size_t periods_length, uint8_t *symbols, size_t symbols_length,
-                                               int32_t *deviations, size_t deviations_length);
+                                               int32_t *deviations, size_t deviations_length) DUSKVEYRA_NONNULL;
 
 /* Looks in a recording of symbols for the first frame that begins at start or later, and at index 1 or later, behind a
  * mark (in X at any index, behind anything or nothing): the index of its first element, with its time and control word as
  * duskveyra_read gives them. Bytes above 3 fit nowhere.
  * Refuses with 1; 12 where start is above recording_length; in this order. */
 duskveyra_scan_result duskveyra_scan(duskveyra_format format, const uint8_t *recording, size_t recording_length,
-                                     size_t start);
+                                     size_t start) DUSKVEYRA_NONNULL;
 
 /* Encodes a frame of A, B or G in the modified Manchester form: each symbol as an element of count clock cycles, count a
  * multiple of 10 from 10 to 100; every cycle is set. A cycle is one byte of two half levels, 1 (01, high) or 2 (10, low).
@@ -404,7 +544,8 @@ duskveyra_scan_result duskveyra_scan(duskveyra_format format, const uint8_t *rec
  * Refuses with 1, also for D, E, H and X; 24; 3 where frame_length is not the format's number of elements, or
  * cycles_length not that number times count; 4 for a symbol above 2; in this order. */
 duskveyra_write_result duskveyra_encode_cycles(duskveyra_format format, size_t count, const uint8_t *frame,
-                                               size_t frame_length, uint8_t *cycles, size_t cycles_length);
+                                               size_t frame_length, uint8_t *cycles, size_t cycles_length)
+    DUSKVEYRA_NONNULL;
 
 /* Decodes what duskveyra_encode_cycles encodes; every symbol of the frame is set. Any other run of high and low cycles in
  * an element is symbol 3; up to 3 * count / 10 - 1 wrong cycles of an element never make another symbol of it. The cycles
@@ -412,7 +553,8 @@ duskveyra_write_result duskveyra_encode_cycles(duskveyra_format format, size_t c
  * Refuses with 1; 24; 3; as duskveyra_encode_cycles does; then 25 for a cycle that is neither 1 nor 2, with the index of
  * the first; in this order. */
 duskveyra_convert_result duskveyra_decode_cycles(duskveyra_format format, size_t count, const uint8_t *cycles,
-                                                 size_t cycles_length, uint8_t *frame, size_t frame_length);
+                                                 size_t cycles_length, uint8_t *frame, size_t frame_length)
+    DUSKVEYRA_NONNULL;
 
 /* The error that an oscillator is expected to have when it has run alone for that many seconds:
  * E0 + (f0/fr - 1) t + a t t / 2, worked in this order in binary64, each operation rounded to the nearest: f0/fr, less 1,
@@ -440,7 +582,7 @@ duskveyra_forecast_result duskveyra_forecast(duskveyra_oscillator oscillator, ui
  * Refuses with 12 where place is above log_length; 2 for a day not 1 to 366 or hundredths over 8,640,099; 17 for a year
  * over 99; 9 for a control word over 48 bits; in this order, and all of them before the fit. */
 duskveyra_log_write_result duskveyra_log_write(uint8_t *log, size_t log_length, size_t place, duskveyra_report before,
-                                               duskveyra_report report);
+                                               duskveyra_report report) DUSKVEYRA_NONNULL;
 
 /* Reads the record at a place of a log, after the report before: its report, and the next place. Nothing is found
  * exactly where place is log_length. A log that duskveyra_log_write made from place 0 and a report of all 0 is read so as
@@ -448,7 +590,7 @@ duskveyra_log_write_result duskveyra_log_write(uint8_t *log, size_t log_length, 
  * Refuses with 12 where place is above log_length; 19 where the log ends within the record; 20 for a map above 15 or a
  * field equal to the one before; then as duskveyra_log_write does, by the whole report, with 2; 17; 9; in this order. */
 duskveyra_log_read_result duskveyra_log_read(const uint8_t *log, size_t log_length, size_t place,
-                                             duskveyra_report before);
+                                             duskveyra_report before) DUSKVEYRA_NONNULL;
 
 /* Simulates a generator that up to 8 listeners hear, each with its own setting and its own damages. The generator sends
  * so many frames from the start on, each time next after the one before in years of year_length days and days of kind 0,
@@ -474,7 +616,8 @@ duskveyra_log_read_result duskveyra_log_read(const uint8_t *log, size_t log_leng
 duskveyra_simulate_result duskveyra_simulate(duskveyra_format format, duskveyra_time start, uint32_t frames,
                                              uint16_t year_length, const uint8_t *settings, size_t settings_length,
                                              const size_t *ends, size_t ends_length, const uint64_t *numbers,
-                                             size_t numbers_length, const uint8_t *symbols, size_t symbols_length);
+                                             size_t numbers_length, const uint8_t *symbols, size_t symbols_length)
+    DUSKVEYRA_NONNULL;
 
 /* Month and day from day of year, in the years 0 to 99 for 2000 to 2099, of which every fourth from 2000 has 366 days.
  * Refuses with 17 for a year over 99; 22 for a day that the year lacks; in this order. */
@@ -485,7 +628,7 @@ duskveyra_date_result duskveyra_date_of_day(uint8_t year, uint16_t day);
 duskveyra_day_result duskveyra_day_of_date(duskveyra_date date);
 
 /* Makes an empty calendar: sets all words of *calendar to 0, whatever they were. It refuses nothing. */
-duskveyra_write_result duskveyra_calendar_empty(duskveyra_calendar *calendar);
+duskveyra_write_result duskveyra_calendar_empty(duskveyra_calendar *calendar) DUSKVEYRA_NONNULL;
 
 /* Adds a test window, behind those that were added before, up to 32. The start belongs to the window, the end does not.
  * Moments are ordered by year, day of year, then hundredth; windows may overlap.
@@ -493,12 +636,12 @@ duskveyra_write_result duskveyra_calendar_empty(duskveyra_calendar *calendar);
  * one that its year lacks; 21 for a 33rd window, or where the end is not after the start; in this order, and then leaves
  * *calendar as it was. */
 duskveyra_write_result duskveyra_calendar_add(duskveyra_calendar *calendar, duskveyra_date_time start,
-                                              duskveyra_date_time end);
+                                              duskveyra_date_time end) DUSKVEYRA_NONNULL;
 
 /* Which windows hold a time, and the next start or end after it: a moment alone, which says not of which window. Of a
  * calendar that duskveyra_calendar_empty and duskveyra_calendar_add did not make, what it answers is not promised.
  * Refuses with 17 for a year over 99; 2 for hundredths over 8,640,099; 22 for a day that the year lacks; in this order. */
-duskveyra_ask_result duskveyra_calendar_ask(const duskveyra_calendar *calendar, duskveyra_time time);
+duskveyra_ask_result duskveyra_calendar_ask(const duskveyra_calendar *calendar, duskveyra_time time) DUSKVEYRA_NONNULL;
 
 #ifdef __cplusplus
 }
