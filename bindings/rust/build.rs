@@ -1,4 +1,5 @@
-//! Links librecorder.a from the directory in DUSKVEYRA_LIB, or else from target/staticlib of this repository.
+//! Links the archive from the directory in DUSKVEYRA_LIB, or else from target/staticlib of this repository: libduskveyra.a, as
+//! it is installed, where it is there, or else librecorder.a, as it is built.
 //! A relative path counts from the directory of this file. The archive must be of the interface that src/sys.rs declares.
 
 use std::path::{Path, PathBuf};
@@ -15,7 +16,9 @@ fn main() {
     };
     // The linker runs in another directory, so the path must be a whole one.
     let directory = Path::new(&package).join(directory);
-    let archive = directory.join("librecorder.a");
+    let installed = directory.join("libduskveyra.a").is_file();
+    let name = if installed { "duskveyra" } else { "recorder" };
+    let archive = directory.join(format!("lib{name}.a"));
     println!("cargo:rerun-if-changed={}", archive.display());
     if !archive.is_file() {
         eprintln!(
@@ -35,5 +38,5 @@ fn main() {
         process::exit(1);
     }
     println!("cargo:rustc-link-search=native={}", directory.display());
-    println!("cargo:rustc-link-lib=static=recorder");
+    println!("cargo:rustc-link-lib=static={name}");
 }

@@ -75,6 +75,7 @@ fn by_block(reader: &mut duskveyra::Reader, symbols: &[u8], lengths: [usize; 5])
             duskveyra::Stop::AllTaken => Stop::AllTaken,
             duskveyra::Stop::UnknownSymbol => Stop::UnknownSymbol,
             duskveyra::Stop::NoRoom => Stop::NoRoom,
+            other => panic!("stopped for {other:?}"),
         };
         (block.taken, block.reports, stop)
     });

@@ -4,6 +4,7 @@ use crate::{sys, Reader, Refusal};
 
 /// Why a block of symbols stopped.
 #[derive(Clone, Copy, Debug, PartialEq, Eq, Hash)]
+#[non_exhaustive]
 pub enum Stop {
     /// All symbols were taken.
     AllTaken,
@@ -11,6 +12,8 @@ pub enum Stop {
     UnknownSymbol,
     /// The next symbol brings a report, and the lists are full.
     NoRoom,
+    /// A number that this package has no name for: the library of its interface gives none.
+    Unknown(u8),
 }
 
 /// What a block of symbols brought.
@@ -91,7 +94,7 @@ impl Reader {
             0 => Stop::AllTaken,
             1 => Stop::UnknownSymbol,
             2 => Stop::NoRoom,
-            stop => unreachable!("the library stopped for {stop}, which is no number of a stop"),
+            stop => Stop::Unknown(stop),
         };
         Ok(Block {
             taken: result.taken,

@@ -99,6 +99,7 @@
 mod block;
 mod calendar;
 mod editions;
+mod figures;
 mod holdover;
 mod log;
 mod manchester;
@@ -114,6 +115,7 @@ pub use calendar::{
     Asked, Calendar, Date, DateTime, ParseDateError, Windows, CALENDAR_WORDS, MOST_WINDOWS,
 };
 pub use editions::{backward, forward};
+pub use figures::{format_figures, time_of_day, FormatFigures, ParseFormatError, TimeOfDay};
 pub use holdover::{forecast, Oscillator, MOST_SECONDS};
 pub use log::{log_read, log_write, Log, Reports, LONGEST_RECORD};
 pub use manchester::{decode_cycles, encode_cycles, HIGH_CYCLE, LOW_CYCLE};
@@ -122,6 +124,8 @@ pub use refusal::Refusal;
 pub use simulation::{simulate, Counts, Damage, Listener, MOST_LISTENERS};
 pub use time::{ParseTimeError, Time};
 
+/// The version of this package, that of the header and the library beside it.
+pub const VERSION: &str = env!("CARGO_PKG_VERSION");
 /// Symbol of a zero or an index marker.
 pub const ZERO: u8 = 0;
 /// Symbol of a one.
@@ -144,6 +148,21 @@ pub const READER_WORDS: usize = 14;
 pub const LEAST_SETTING: u8 = 2;
 /// The greatest setting.
 pub const GREATEST_SETTING: u8 = 5;
+/// The least nominal element interval, in ticks.
+pub const LEAST_INTERVAL: u32 = 100;
+/// The greatest nominal element interval.
+pub const GREATEST_INTERVAL: u32 = 10_000_000;
+/// The fewest clock cycles of an element in the modified Manchester form; it has a multiple of 10.
+pub const FEWEST_CYCLES: usize = 10;
+/// The most clock cycles of an element.
+pub const MOST_CYCLES: usize = 100;
+
+/// The version of the library that is linked, 10,000 times its first number, 100 times its second and its third.
+#[inline]
+pub fn library_version() -> u32 {
+    // SAFETY: no pointer is lent.
+    unsafe { sys::duskveyra_version() }
+}
 
 /// A rate letter and a coded expression. Any two bytes make a value of this type; a call refuses one that is no format
 /// with [`Refusal::UnknownFormat`].

@@ -1,10 +1,11 @@
-//! The twenty-seven numbers that a call refuses with.
+//! The twenty-seven numbers that a call refuses with, and what an unknown one becomes.
 
 use std::error::Error;
 use std::fmt;
 
 /// Why a call was refused. The numbers 5 and 6 carry the index of the element, 25 that of the cycle, counted from 0.
 #[derive(Clone, Copy, Debug, PartialEq, Eq, Hash)]
+#[non_exhaustive]
 pub enum Refusal {
     /// 1: letter or expression not among the formats.
     UnknownFormat,
@@ -63,10 +64,12 @@ pub enum Refusal {
     InvalidSetting,
     /// 27: a listener's damages not in strictly rising order or with a symbol above 3, or a ninth listener.
     InvalidListener,
+    /// A number that this package has no name for: the library of its interface gives none.
+    Unknown(u8),
 }
 
 impl Refusal {
-    /// The number, 1 to 27.
+    /// The number, 1 to 27, or the unknown one.
     pub fn number(self) -> u8 {
         match self {
             Refusal::UnknownFormat => 1,
@@ -96,6 +99,7 @@ impl Refusal {
             Refusal::UnknownCycle(_) => 25,
             Refusal::InvalidSetting => 26,
             Refusal::InvalidListener => 27,
+            Refusal::Unknown(number) => number,
         }
     }
 
@@ -140,7 +144,7 @@ impl Refusal {
             25 => Refusal::UnknownCycle(index),
             26 => Refusal::InvalidSetting,
             27 => Refusal::InvalidListener,
-            _ => unreachable!("the library returned {number}, which is no number of a refusal"),
+            _ => Refusal::Unknown(number),
         })
     }
 }
@@ -183,6 +187,7 @@ impl fmt::Display for Refusal {
             Refusal::InvalidListener => {
                 "damages not rising or with a symbol above 3, or a ninth listener"
             }
+            Refusal::Unknown(_) => "unknown number",
         };
         write!(f, "refused {}: {why}", self.number())?;
         match (self, self.index()) {

@@ -136,8 +136,31 @@ pub struct AskResult {
     pub next: Time,
 }
 
+#[repr(C)]
+pub struct FormatFiguresResult {
+    pub number: u8,
+    pub control_bits: u8,
+    pub interval: u32,
+    pub elements: usize,
+}
+
+#[repr(C)]
+pub struct TimeOfDayResult {
+    pub number: u8,
+    pub hour: u8,
+    pub minute: u8,
+    pub second: u8,
+    pub hundredth: u8,
+}
+
 extern "C" {
     pub fn duskveyra_interface_4() -> u32;
+
+    pub fn duskveyra_version() -> u32;
+
+    pub fn duskveyra_format_figures(format: Format) -> FormatFiguresResult;
+
+    pub fn duskveyra_time_of_day(time: Time) -> TimeOfDayResult;
 
     pub fn duskveyra_write(
         format: Format,
