@@ -6,6 +6,7 @@ mod blocks;
 mod calendars;
 mod calls;
 mod cycles;
+mod figures;
 mod forecasts;
 mod logs;
 mod places;
@@ -351,6 +352,23 @@ fn tries_places(seed: u64) -> bool {
     }
 }
 
+/// Every format and the time of day; false where a difference was printed.
+fn tries_figures() -> bool {
+    match run(figures::run_figures) {
+        Ok(tried) => {
+            println!(
+                "figures of {} letters and expressions, {} times of day",
+                tried.formats, tried.times
+            );
+            true
+        }
+        Err(difference) => {
+            println!("{difference}");
+            false
+        }
+    }
+}
+
 fn main() -> ExitCode {
     let Some(arguments) = arguments() else {
         eprintln!("{USAGE}");
@@ -359,7 +377,7 @@ fn main() -> ExitCode {
     let seed = arguments.seed;
     println!("seed {seed}");
     let started = Instant::now();
-    if arguments.stream.is_none() && !tries_places(seed) {
+    if arguments.stream.is_none() && !(tries_figures() && tries_places(seed)) {
         return ExitCode::FAILURE;
     }
     let mut counts = Counts::default();
