@@ -7,9 +7,9 @@ mod common;
 
 use common::*;
 use reference::{
-    backward, classify, classify_and_feed, classify_list, difference, forward, next_after, read,
-    scan, step, step_back, timeread, write, Answer, Block, Format, Reader, Refusal, Stop, Time,
-    Widths, MARK, SECOND_ADDED, SECOND_TAKEN, USUAL_DAY,
+    backward, classify, classify_and_feed, classify_list, difference, format_figures, forward,
+    next_after, read, scan, step, step_back, time_of_day, timeread, write, Answer, Block, Format,
+    Reader, Refusal, Stop, Time, Widths, MARK, SECOND_ADDED, SECOND_TAKEN, USUAL_DAY,
 };
 
 const LISTING: &str = "H1\n\
@@ -29,6 +29,29 @@ fn listing() {
         String::from_utf8(printed).unwrap(),
         "elements 120 reports 0\n"
     );
+}
+
+#[test]
+fn figures() {
+    for (name, expected) in [
+        ("A0", (100, 10, 27)),
+        ("A5", (100, 10, 18)),
+        ("B3", (100, 100, 0)),
+        ("D1", (60, 360_000, 9)),
+        ("E1", (100, 1_000, 45)),
+        ("G1", (100, 1, 36)),
+        ("H2", (60, 6_000, 0)),
+        ("X2", (25, 100, 0)),
+    ] {
+        assert_eq!(format_figures(format(name)), Ok(expected), "{name}");
+    }
+    assert_eq!(format_figures(format("D0")), Err(Refusal::Format));
+    assert_eq!(time_of_day(time(191, 5_091_299)), Ok((14, 8, 32, 99)));
+    assert_eq!(time_of_day(time(1, 8_639_999)), Ok((23, 59, 59, 99)));
+    assert_eq!(time_of_day(time(366, 8_640_099)), Ok((23, 59, 60, 99)));
+    assert_eq!(time_of_day(time(366, 8_640_100)), Err(Refusal::Time));
+    assert_eq!(time_of_day(time(0, 0)), Err(Refusal::Time));
+    assert_eq!(time_of_day(time(367, 0)), Err(Refusal::Time));
 }
 
 #[test]
