@@ -1,12 +1,13 @@
 // The answers of the report log as C's structs, by value: the number of the refusal or 0 first, then the values.
 // A field for which an answer has no value is 0. That each struct has its answer's number and values stands in specs/.
 ghost use mathlib.Core.Path.{_≡_};
-ghost use Rattle.log_results.specs.LogStructs.{logWriteResultOf, withoutReport, logReadResultOf};
+ghost use Rattle.log_results.specs.LogStructs.{logWriteResultOf, logReadResultOf};
 use ffi::zero_time;
 use refusals::number_of;
 use report_log::LogReading;
 use report_log::LogWritten;
 use report_log::Report;
+use timecode::Time;
 
 // put_in: 1 where the record was put in, 0 where it does not fit.
 #[repr(C)]
@@ -47,34 +48,70 @@ pub fn log_write_result(written: LogWritten) -> LogWriteResult
     }
 }
 
-// No report, with that number.
-fn without_report(number: u8) -> LogReadResult
-    ensures { λ r. ⌜ r ≡ withoutReport number ⌝ }
+// The struct of a reading field by field. So the time is stored as one word, and a caller that takes the report as the one before loads it as one word:
+// stored in parts it would have to wait for them.
+fn read_number(reading: LogReading) -> u8
+    ensures { λ r. ⌜ r ≡ logReadResultOf reading .number ⌝ }
 {
-    let time = zero_time();
-    let report = Report {
-        time: time,
-        control: 0,
-    };
-    LogReadResult {
-        number: number,
-        found: 0,
-        report: report,
-        next: 0,
+    match reading {
+        LogReading::Record { report: _, next: _ } => 0,
+        LogReading::None => 0,
+        LogReading::Refused(refusal) => number_of(refusal),
+    }
+}
+
+fn read_found(reading: LogReading) -> u8
+    ensures { λ r. ⌜ r ≡ logReadResultOf reading .found ⌝ }
+{
+    match reading {
+        LogReading::Record { report: _, next: _ } => 1,
+        LogReading::None => 0,
+        LogReading::Refused(_) => 0,
+    }
+}
+
+fn read_time(reading: LogReading) -> Time
+    ensures { λ r. ⌜ r ≡ logReadResultOf reading .report .time ⌝ }
+{
+    match reading {
+        LogReading::Record { report, next: _ } => report.time,
+        LogReading::None => zero_time(),
+        LogReading::Refused(_) => zero_time(),
+    }
+}
+
+fn read_control(reading: LogReading) -> u64
+    ensures { λ r. ⌜ r ≡ logReadResultOf reading .report .control ⌝ }
+{
+    match reading {
+        LogReading::Record { report, next: _ } => report.control,
+        LogReading::None => 0,
+        LogReading::Refused(_) => 0,
+    }
+}
+
+fn read_next(reading: LogReading) -> usize
+    ensures { λ r. ⌜ r ≡ logReadResultOf reading .next ⌝ }
+{
+    match reading {
+        LogReading::Record { report: _, next } => next,
+        LogReading::None => 0,
+        LogReading::Refused(_) => 0,
     }
 }
 
 pub fn log_read_result(reading: LogReading) -> LogReadResult
     ensures { λ r. ⌜ r ≡ logReadResultOf reading ⌝ }
 {
-    match reading {
-        LogReading::Record { report, next } => LogReadResult {
-            number: 0,
-            found: 1,
-            report: report,
-            next: next,
-        },
-        LogReading::None => without_report(0),
-        LogReading::Refused(refusal) => without_report(number_of(refusal)),
+    let time = read_time(reading);
+    let report = Report {
+        time: time,
+        control: read_control(reading),
+    };
+    LogReadResult {
+        number: read_number(reading),
+        found: read_found(reading),
+        report: report,
+        next: read_next(reading),
     }
 }
