@@ -518,13 +518,17 @@ fn scan_rows() {
     }
 }
 
+fn pulse_rows() {
+    row("classify", "pulse", classify());
+    row("classify_list, 4,096 pulses", "pulse", classify_list());
+}
+
 fn call_table() {
     heading("call");
     frame_rows();
     feed_rows();
     scan_rows();
-    row("classify", "pulse", classify());
-    row("classify_list, 4,096 pulses", "pulse", classify_list());
+    pulse_rows();
     logs::rows();
     calendars::rows();
 }
@@ -562,6 +566,10 @@ fn main() {
         Some("commands") => commands::rows(),
         Some("streams") => stream_tables(),
         Some("frames") => frames::rows(),
+        Some("pulses") => {
+            heading("call");
+            pulse_rows();
+        }
         Some("logs") => {
             heading("call");
             logs::rows();
