@@ -1,12 +1,12 @@
 -- What fits the code's numbers; the pulses of a list by their index, and what the list call leaves in the lent memory.
 use mathlib.Core.Path.{_≡_, refl, sym, ap, _∙_}
-use mathlib.Core.Bool.{true}
+use mathlib.Core.Bool.{Bool, true, false, cond, _&&_}
 use mathlib.Core.List.{List, [], _∷_, map}
 use Prim.Native.Nat.{ℕ, zero, suc, _+_, _*_, _-_, _^_, _≤_, _<_}
 use native.Mathlib.Nat.{not-suc-le-zero, zero-add, mul-le-mul, mul-le-mul-right, le-of-lt}
 use native.Mathlib.Omega.{arith}
 use borrow.Author.Tests.{ltb-true, ltb-false, lt-ltb}
-use lib.Dec.{ltb}
+use lib.Dec.{ltb, eqb}
 use lib.IntN.{ℤ, pos, negsuc, natAbs, _-ℤ_}
 use lib.ListN.{getD, length, length-map, List·getD-map}
 use lib.Seq.{ext-getD}
@@ -16,7 +16,7 @@ use mir.ValLaws.{toZ-ofZ}
 use Rattle.timecode.specs.Calls.{isInterval, areWidthSettings, inClass, spoiledPulse, pulseOf, pulsesOf, classifyListOf, symbolsLeft, deviationsLeft}
 use Rattle.timecode.specs.Laws.Runs.{length-tabulate, getD-tabulate}
 use Rattle.timecode.specs.Laws.Tests.{by-test}
-use Rattle.timecode.specs.Laws.Widths.{from-to, deviation-bound}
+use Rattle.timecode.specs.Laws.Widths.{from-to, classOf, class-of, by-class, deviation-within, deviation-bound}
 use Rattle.timecode.specs.Layout.{tabulate}
 use Rattle.timecode.specs.declared.Pulse.{Pulse}
 use Rattle.timecode.specs.declared.Refusal.{Refusal}
@@ -25,6 +25,16 @@ use Rattle.timecode.specs.declared.WidthSettings.{WidthSettings}
 use Rattle.timecode.specs.declared.Written.{Written}
 use Rattle.timecode.specs.declared.Written.the-variants.{Done}
 
+-- ---- a test's two sides in either order
+
+pub both : (a b : Bool) → b ≡ true → a ≡ (a && b)
+both true b h = sym h
+both false b h = refl
+
+pub neither : (a b : Bool) → b ≡ false → false ≡ (a && b)
+neither true b h = sym h
+neither false b h = refl
+
 -- ---- numbers that fit
 
 -- a percentage of the interval fits 64 bits, before the division by 100
@@ -32,19 +42,21 @@ pub percent-fits : (percent T : ℕ) → percent < 256 → T < 4294967296 → pe
 percent-fits percent T h k = let product : percent * T ≤ 256 * T = mul-le-mul-right T (le-of-lt h) in omega arith
 
 -- a class whose ends are percentages: its centre is 20 to 80, its setting at most 14
-abbrev pub Usable : WidthClass → Type 0
+abbrev Usable : WidthClass → Type 0
 Usable c = (c .setting ≤ 14) × (20 ≤ c .centre) × (c .centre ≤ 80)
 
--- in a class 100w and the centre's part of T are below 1,000,000,000
-pub in-class-small : (c : WidthClass) (T width : ℕ) → Usable c → isInterval T ≡ true → inClass c T width ≡ true → (100 * width < 1000000000) × (c .centre * T < 1000000000)
+-- in a class 100w is below 1,000,000,000
+in-class-small : (c : WidthClass) (T width : ℕ) → Usable c → isInterval T ≡ true → inClass c T width ≡ true → 100 * width < 1000000000
 unfolding isInterval
 in-class-small c T width u i y =
     let t = from-to 100 10000000 T i in
     let ends = from-to ((c .centre - c .setting) * T) ((c .centre + c .setting) * T) (100 * width) y in
     let most : c .centre + c .setting ≤ 94 = omega arith in
     let high : (c .centre + c .setting) * T ≤ 94 * 10000000 = mul-le-mul most (t .1) in
-    let middle : c .centre * T ≤ 80 * 10000000 = mul-le-mul (u .2) (t .1) in
-    (omega arith, omega arith)
+    omega arith
+
+pub centre-small : (centre T : ℕ) → centre ≤ 80 → T ≤ 10000000 → centre * T < 1000000000
+centre-small centre T h k = let most : centre * T ≤ 80 * 10000000 = mul-le-mul h k in omega arith
 
 pub difference-fits : (a b : ℕ) → a < 1000000000 → b < 1000000000 → SFits w32 (pos a -ℤ pos b)
 difference-fits a zero h k = record { sfits = omega arith }
@@ -66,6 +78,55 @@ bounded-fits (negsuc n) h = record { sfits = omega arith }
 -- a deviation comes back from its 32 bits
 pub deviation-back : (s : WidthSettings) (T width period : ℕ) → isInterval T ≡ true → areWidthSettings s ≡ true → (z : ℤ) → z ≡ pulseOf s T width period .deviation → toZ w32 (ofZ w32 z) ≡ z
 deviation-back s T width period i g z e = toZ-ofZ w32 z (rw e (bounded-fits (pulseOf s T width period .deviation) (deviation-bound s T width period g i)))
+
+-- ---- a pulse's deviation by its symbol
+
+-- the width of a symbol below 3 is in a class
+abbrev pub Classed : ℕ → ℕ → ℕ → Type 0
+Classed symbol T width = (T ≤ 10000000) × (symbol < 3 → 100 * width < 1000000000)
+
+-- from the centre at 20, 50 or 80 percent
+unfoldable pub deviationOf : ℕ → ℕ → ℕ → ℤ
+deviationOf symbol T width =
+    cond (eqb symbol 0) (pos (100 * width) -ℤ pos (20 * T))
+    (cond (eqb symbol 1) (pos (100 * width) -ℤ pos (50 * T))
+    (cond (eqb symbol 2) (pos (100 * width) -ℤ pos (80 * T)) (pos 0)))
+
+by-centre : (i T width : ℕ) → i < 3 → deviationOf i T width ≡ pos (100 * width) -ℤ pos ((20 + 30 * i) * T)
+unfolding deviationOf
+by-centre zero T width h = refl
+by-centre (suc zero) T width h = refl
+by-centre (suc (suc zero)) T width h = refl
+by-centre (suc (suc (suc i))) T width h = let no : ⊥ = omega arith in absurd no
+
+spoiled-0 : (T width : ℕ) → deviationOf 3 T width ≡ pos 0
+unfolding deviationOf
+spoiled-0 T width = refl
+
+module _ (s : WidthSettings) (T width period symbol : ℕ) (are-settings : areWidthSettings s ≡ true) (is : symbol ≡ pulseOf s T width period .symbol) where
+  pub pulse-classed : isInterval T ≡ true → Classed symbol T width
+  unfolding isInterval
+  pulse-classed i = (
+    from-to 100 10000000 T i .1,
+    λ below.
+        by-class s T width period
+        (λ k h p y e.
+        let c = class-of s k are-settings h in
+        let centre = c .centre-is in
+        in-class-small (classOf s k) T width (c .small, omega arith, omega arith) i y)
+        (λ n e.
+        let three : symbol ≡ 3 = is ∙ ap (λ (x : Pulse). x .symbol) e in
+        let no : ⊥ = omega arith in
+        absurd no),
+  )
+
+  pub pulse-deviation : deviationOf symbol T width ≡ pulseOf s T width period .deviation
+  pulse-deviation =
+      by-class s T width period
+      (λ k h p y e.
+      let given : pulseOf s T width period .symbol ≡ k = ap (λ (x : Pulse). x .symbol) e ∙ class-of s k are-settings h .symbol-is in
+      ap (λ (j : ℕ). deviationOf j T width) (is ∙ given) ∙ by-centre k T width h ∙ sym (deviation-within s T width period are-settings k h given .0))
+      (λ n e. ap (λ (j : ℕ). deviationOf j T width) (is ∙ ap (λ (x : Pulse). x .symbol) e) ∙ spoiled-0 T width ∙ sym (ap (λ (x : Pulse). x .deviation) e))
 
 -- ---- the pulses of a list by their index
 

@@ -2,18 +2,16 @@
 ghost use mathlib.Core.Path.{_≡_};
 ghost use mathlib.Core.Bool.{true};
 ghost use mathlib.Core.List.{map};
-ghost use Prim.Native.Nat.{_*_, _<_};
+ghost use Prim.Native.Nat.{_+_, _*_, _-_, _<_, _≤_};
 ghost use lib.IntN.{pos, _-ℤ_};
 ghost use lib.ListN.{length};
-ghost use Rattle.timecode.specs.Calls.{within, isInterval, areWidthSettings, inClass, pulseIn, pulseOf, classifyOf, pulsesOf, classifyListOf, symbolsLeft, deviationsLeft};
-ghost use Rattle.pulse.specs.Pulses.{Usable};
+ghost use Rattle.timecode.specs.Calls.{within, isInterval, areWidthSettings, pulseOf, classifyOf, pulsesOf, classifyListOf, symbolsLeft, deviationsLeft};
+ghost use Rattle.pulse.specs.Pulses.{Classed, deviationOf};
 use timecode::Classified;
 use timecode::MARK;
 use timecode::ONE;
-use timecode::Pulse;
 use timecode::Refusal;
 use timecode::SPOILED;
-use timecode::WidthClass;
 use timecode::WidthSettings;
 use timecode::Written;
 use timecode::ZERO;
@@ -22,6 +20,13 @@ use timecode::ZERO;
 const SHORTEST_INTERVAL: u32 = 100;
 
 const LONGEST_INTERVAL: u32 = 10_000_000;
+
+// The centres of the classes of widths, in percent of it.
+const ZEROS: u8 = 20;
+
+const ONES: u8 = 50;
+
+const MARKS: u8 = 80;
 
 fn is_interval(interval: u32) -> bool
     ensures { λ r. ⌜ r ≡ isInterval interval ⌝ }
@@ -53,24 +58,42 @@ fn are_settings(settings: WidthSettings) -> bool
 }
 
 // The ticks are from one percentage of the interval to another, ends included. Both sides are 100 times as large, in 64 bits.
+// The upper end is asked first: a width that is in a later class is above it.
 fn is_within(interval: u32, from: u8, to: u8, ticks: u32) -> bool
     ensures { λ r. ⌜ r ≡ within (from * interval) (to * interval) (100 * ticks) ⌝ }
 {
     let nominal = interval as u64;
     let measured = 100 * (ticks as u64);
-    if (from as u64) * nominal <= measured {
-        return measured <= (to as u64) * nominal;
+    if measured <= (to as u64) * nominal {
+        return (from as u64) * nominal <= measured;
     }
     false
 }
 
-fn is_in(class: WidthClass, interval: u32, width: u32) -> bool
-    requires { ⌜ Usable class ⌝ }
-    ensures { λ r. ⌜ r ≡ inClass class interval width ⌝ }
+fn is_in(centre: u8, setting: u8, interval: u32, width: u32) -> bool
+    requires { ⌜ (setting ≤ 14) × (20 ≤ centre) × (centre ≤ 80) ⌝ }
+    ensures { λ r. ⌜ r ≡ within ((centre - setting) * interval) ((centre + setting) * interval) (100 * width) ⌝ }
 {
-    let centre = class.centre;
-    let setting = class.setting;
     is_within(interval, centre - setting, centre + setting, width)
+}
+
+// The symbol of a pulse: spoiled where the period is off, or the width is in no class.
+fn symbol_of(settings: WidthSettings, interval: u32, width: u32, period: u32) -> u8
+    requires { ⌜ areWidthSettings settings ≡ true ⌝ }
+    ensures { λ r. ⌜ r ≡ pulseOf settings interval width period .symbol ⌝ }
+{
+    if is_within(interval, 95, 105, period) {
+        if is_in(ZEROS, settings.zeros, interval, width) {
+            return ZERO;
+        }
+        if is_in(ONES, settings.ones, interval, width) {
+            return ONE;
+        }
+        if is_in(MARKS, settings.marks, interval, width) {
+            return MARK;
+        }
+    }
+    SPOILED
 }
 
 fn minus(first: u32, second: u32) -> i32
@@ -82,53 +105,30 @@ fn minus(first: u32, second: u32) -> i32
     a - b
 }
 
-// The pulse of a width that is in the class: 100 times the width is then below 1,000,000,000.
-fn pulse_in(class: WidthClass, interval: u32, width: u32) -> Pulse
-    requires { ⌜ Usable class × (isInterval interval ≡ true) × (inClass class interval width ≡ true) ⌝ }
-    ensures { λ r. ⌜ r ≡ pulseIn class interval width ⌝ }
+// 100 times the width less the centre's part of the interval.
+fn deviation_from(centre: u8, interval: u32, width: u32) -> i32
+    requires { ⌜ (centre ≤ 80) × (interval ≤ 10000000) × (100 * width < 1000000000) ⌝ }
+    ensures { λ r. ⌜ r ≡ pos (100 * width) -ℤ pos (centre * interval) ⌝ }
 {
-    let centre = class.centre as u32;
-    Pulse {
-        symbol: class.symbol,
-        deviation: minus(100 * width, centre * interval),
-    }
+    let percent = centre as u32;
+    minus(100 * width, percent * interval)
 }
 
-// The classes stand here, each with its symbol, its centre and its setting; spoiled where the period is off, or the width is in none.
-fn pulse_of(settings: WidthSettings, interval: u32, width: u32, period: u32) -> Pulse
-    requires { ⌜ (isInterval interval ≡ true) × (areWidthSettings settings ≡ true) ⌝ }
-    ensures { λ r. ⌜ r ≡ pulseOf settings interval width period ⌝ }
+// The deviation of a pulse with that symbol: 0 for a spoiled element.
+fn deviation_of(symbol: u8, interval: u32, width: u32) -> i32
+    requires { ⌜ Classed symbol interval width ⌝ }
+    ensures { λ r. ⌜ r ≡ deviationOf symbol interval width ⌝ }
 {
-    if is_within(interval, 95, 105, period) {
-        let zeros = WidthClass {
-            symbol: ZERO,
-            centre: 20,
-            setting: settings.zeros,
-        };
-        if is_in(zeros, interval, width) {
-            return pulse_in(zeros, interval, width);
-        }
-        let ones = WidthClass {
-            symbol: ONE,
-            centre: 50,
-            setting: settings.ones,
-        };
-        if is_in(ones, interval, width) {
-            return pulse_in(ones, interval, width);
-        }
-        let marks = WidthClass {
-            symbol: MARK,
-            centre: 80,
-            setting: settings.marks,
-        };
-        if is_in(marks, interval, width) {
-            return pulse_in(marks, interval, width);
-        }
+    if symbol == ZERO {
+        return deviation_from(ZEROS, interval, width);
     }
-    Pulse {
-        symbol: SPOILED,
-        deviation: 0,
+    if symbol == ONE {
+        return deviation_from(ONES, interval, width);
     }
+    if symbol == MARK {
+        return deviation_from(MARKS, interval, width);
+    }
+    0
 }
 
 // The symbol and the deviation of one pulse.
@@ -137,10 +137,10 @@ pub fn classify(settings: WidthSettings, interval: u32, width: u32, period: u32)
 {
     if is_interval(interval) {
         if are_settings(settings) {
-            let pulse = pulse_of(settings, interval, width, period);
+            let symbol = symbol_of(settings, interval, width, period);
             return Classified::Symbol {
-                symbol: pulse.symbol,
-                deviation: pulse.deviation,
+                symbol: symbol,
+                deviation: deviation_of(symbol, interval, width),
             };
         }
         return Classified::Refused(Refusal::InvalidWidthSetting);
@@ -161,9 +161,10 @@ fn put_pulses(
 {
     let mut i = 0;
     while i < symbols.len() {
-        let pulse = pulse_of(settings, interval, widths[i], periods[i]);
-        symbols[i] = pulse.symbol;
-        let deviation = pulse.deviation;
+        let width = widths[i];
+        let symbol = symbol_of(settings, interval, width, periods[i]);
+        let deviation = deviation_of(symbol, interval, width);
+        symbols[i] = symbol;
         deviations[i] = deviation;
         i += 1;
     }

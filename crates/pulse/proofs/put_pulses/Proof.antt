@@ -1,13 +1,12 @@
 -- `put_pulses` meets its contract: the symbols and the deviations below i are set.
 use native.Mathlib.Omega.{arith}
 use mathlib.Core.Path.{_≡_, refl, ap, _∙_}
-use Prim.Native.Nat.{_+_, _-_, _≤_}
+use Prim.Native.Nat.{ℕ, _+_, _-_, _≤_}
 use lib.IntN.{ℤ}
 use lib.ListN.{length, take, set, length-set}
 use Rattle.timecode.specs.Laws.Runs.{fill-step, fill-end}
 use Rattle.timecode.specs.Layout.{tabulate}
-use Rattle.timecode.specs.declared.Pulse.{Pulse}
-use Rattle.pulse.specs.Pulses.{deviation-back, pulse, pulses-tabulated}
+use Rattle.pulse.specs.Pulses.{pulse-classed, pulse-deviation, deviation-back, pulse, pulses-tabulated}
 use Rattle.pulse.proofs.put_pulses.Statement.{statement}
 use Rattle.pulse.proofs.put_pulses.Tie as tie
 
@@ -20,20 +19,23 @@ abbrev μ-loop : tie.MeasureT-loop
 loop-holds : tie.Need-loop-holds Inv-loop μ-loop
 loop-holds c = (omega arith, refl, refl, refl, refl)
 
-mul-pulse-of : tie.Need-mul-pulse-of Inv-loop μ-loop
-mul-pulse-of c = omega arith
+mul-width : tie.Need-mul-width Inv-loop μ-loop
+mul-width c = omega arith
 
-shared-slice-read-pulse-of : tie.Need-shared-slice-read-pulse-of Inv-loop μ-loop
-shared-slice-read-pulse-of c = omega arith
+shared-slice-read-width : tie.Need-shared-slice-read-width Inv-loop μ-loop
+shared-slice-read-width c = omega arith
 
-mul-pulse-of-2 : tie.Need-mul-pulse-of-2 Inv-loop μ-loop
-mul-pulse-of-2 c = omega arith
+mul-symbol-of : tie.Need-mul-symbol-of Inv-loop μ-loop
+mul-symbol-of c = omega arith
 
-shared-slice-read-pulse-of-2 : tie.Need-shared-slice-read-pulse-of-2 Inv-loop μ-loop
-shared-slice-read-pulse-of-2 c = omega arith
+shared-slice-read-symbol-of : tie.Need-shared-slice-read-symbol-of Inv-loop μ-loop
+shared-slice-read-symbol-of c = omega arith
 
-pulse-of-requires : tie.Need-pulse-of-requires Inv-loop μ-loop
-pulse-of-requires c κs = let start = c .before .before .before .before .before .before .before in (start .pre .0, start .pre .1)
+symbol-of-requires : tie.Need-symbol-of-requires Inv-loop μ-loop
+symbol-of-requires c κs = c .before .before .before .before .before .before .before .pre .1
+
+deviation-of-requires : tie.Need-deviation-of-requires Inv-loop μ-loop
+deviation-of-requires c κs = pulse-classed (c .before .before .before .before .before .before .before .before .args .settings) (c .before .before .before .before .before .before .before .before .args .interval) _ _ _ (c .before .before .before .before .before .before .before .before .pre .1) (c .symbol-of .ensures) (c .before .before .before .before .before .before .before .before .pre .0)
 
 slice-write-symbols : tie.Need-slice-write-symbols Inv-loop μ-loop
 slice-write-symbols c = omega arith
@@ -55,11 +57,11 @@ loop-again c =
     let start = c .before .before .before .before .before .before .before .before .before in
     let given = start .args in
     let l = c .before .before .before .before .before .loop in
-    let deviation = ap (λ (p : Pulse). p .deviation) (c .before .pulse-of .ensures) in (
+    let deviation = c .deviation-of .ensures ∙ pulse-deviation (given .settings) (given .interval) _ _ _ (start .pre .1) (c .before .symbol-of .ensures) in (
       omega arith,
       length-set (l .symbols) (l .i) _ ∙ l .inv .1,
       length-set (l .deviations) (l .i) _ ∙ l .inv .2,
-      ap (λ (p : Pulse). take (l .i + 1) (set (l .symbols) (l .i) (p .symbol))) (c .before .pulse-of .ensures)
+      ap (λ (s : ℕ). take (l .i + 1) (set (l .symbols) (l .i) s)) (c .before .symbol-of .ensures)
           ∙ fill-step (l .symbols) (λ j. pulse (given .settings) (given .interval) (given .widths .now) (given .periods .now) j .symbol) (l .i) (omega arith) (l .inv .3),
       ap (λ (z : ℤ). take (l .i + 1) (set (l .deviations) (l .i) z)) (deviation-back (given .settings) (given .interval) _ _ (start .pre .0) (start .pre .1) _ deviation ∙ deviation)
           ∙ fill-step (l .deviations) (λ j. pulse (given .settings) (given .interval) (given .widths .now) (given .periods .now) j .deviation) (l .i) (omega arith) (l .inv .4),
@@ -91,11 +93,12 @@ put-pulses-spec =
     Inv-loop
     μ-loop
     loop-holds
-    mul-pulse-of
-    shared-slice-read-pulse-of
-    mul-pulse-of-2
-    shared-slice-read-pulse-of-2
-    pulse-of-requires
+    mul-width
+    shared-slice-read-width
+    mul-symbol-of
+    shared-slice-read-symbol-of
+    symbol-of-requires
+    deviation-of-requires
     slice-write-symbols
     mul-deviation
     slice-set-from-deviation
