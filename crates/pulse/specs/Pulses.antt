@@ -6,17 +6,17 @@ use Prim.Native.Nat.{ℕ, zero, suc, _+_, _*_, _-_, _^_, _≤_, _<_}
 use native.Mathlib.Nat.{not-suc-le-zero, zero-add, mul-le-mul, mul-le-mul-right, le-of-lt}
 use native.Mathlib.Omega.{arith}
 use borrow.Author.Tests.{ltb-true, ltb-false, lt-ltb}
-use lib.Dec.{ltb, eqb}
+use lib.Dec.{ltb}
 use lib.IntN.{ℤ, pos, negsuc, natAbs, _-ℤ_}
 use lib.ListN.{getD, length, length-map, List·getD-map}
 use lib.Seq.{ext-getD}
 use mir.Syntax.{w32}
 use mir.Val.{SFits, toZ, ofZ}
 use mir.ValLaws.{toZ-ofZ}
-use Rattle.timecode.specs.Calls.{isInterval, areWidthSettings, inClass, spoiledPulse, pulseOf, pulsesOf, classifyListOf, symbolsLeft, deviationsLeft}
+use Rattle.timecode.specs.Calls.{classes, isInterval, areWidthSettings, inClass, pulseIn, spoiledPulse, pulseOf, pulsesOf, classifyListOf, symbolsLeft, deviationsLeft}
 use Rattle.timecode.specs.Laws.Runs.{length-tabulate, getD-tabulate}
 use Rattle.timecode.specs.Laws.Tests.{by-test}
-use Rattle.timecode.specs.Laws.Widths.{from-to, classOf, class-of, by-class, deviation-within, deviation-bound}
+use Rattle.timecode.specs.Laws.Widths.{from-to, classOf, class-of, by-class, deviation-bound}
 use Rattle.timecode.specs.Layout.{tabulate}
 use Rattle.timecode.specs.declared.Pulse.{Pulse}
 use Rattle.timecode.specs.declared.Refusal.{Refusal}
@@ -42,7 +42,7 @@ pub percent-fits : (percent T : ℕ) → percent < 256 → T < 4294967296 → pe
 percent-fits percent T h k = let product : percent * T ≤ 256 * T = mul-le-mul-right T (le-of-lt h) in omega arith
 
 -- a class whose ends are percentages: its centre is 20 to 80, its setting at most 14
-abbrev Usable : WidthClass → Type 0
+abbrev pub Usable : WidthClass → Type 0
 Usable c = (c .setting ≤ 14) × (20 ≤ c .centre) × (c .centre ≤ 80)
 
 -- in a class 100w is below 1,000,000,000
@@ -85,23 +85,46 @@ deviation-back s T width period i g z e = toZ-ofZ w32 z (rw e (bounded-fits (pul
 abbrev pub Classed : ℕ → ℕ → ℕ → Type 0
 Classed symbol T width = (T ≤ 10000000) × (symbol < 3 → 100 * width < 1000000000)
 
--- from the centre at 20, 50 or 80 percent
-unfoldable pub deviationOf : ℕ → ℕ → ℕ → ℤ
-deviationOf symbol T width =
-    cond (eqb symbol 0) (pos (100 * width) -ℤ pos (20 * T))
-    (cond (eqb symbol 1) (pos (100 * width) -ℤ pos (50 * T))
-    (cond (eqb symbol 2) (pos (100 * width) -ℤ pos (80 * T)) (pos 0)))
+-- from the centre of the symbol's class
+unfoldable pub deviationOf : WidthSettings → ℕ → ℕ → ℕ → ℤ
+deviationOf s symbol T width = cond (ltb symbol 3) (pulseIn (classOf s symbol) T width .deviation) (pos 0)
 
-by-centre : (i T width : ℕ) → i < 3 → deviationOf i T width ≡ pos (100 * width) -ℤ pos ((20 + 30 * i) * T)
-unfolding deviationOf
-by-centre zero T width h = refl
-by-centre (suc zero) T width h = refl
-by-centre (suc (suc zero)) T width h = refl
-by-centre (suc (suc (suc i))) T width h = let no : ⊥ = omega arith in absurd no
+-- ---- the classes of the table, symbol by symbol
 
-spoiled-0 : (T width : ℕ) → deviationOf 3 T width ≡ pos 0
+pub class-0 : (s : WidthSettings) (i : ℕ) → i ≡ 0 → _≡_ {A = WidthClass} (record { symbol = 0; centre = 20; setting = s .zeros }) (classOf s i)
+unfolding classes
+class-0 s i e = rw e
+
+pub class-1 : (s : WidthSettings) (i : ℕ) → i ≡ 1 → _≡_ {A = WidthClass} (record { symbol = 1; centre = 50; setting = s .ones }) (classOf s i)
+unfolding classes
+class-1 s i e = rw e
+
+pub class-2 : (s : WidthSettings) (i : ℕ) → i < 3 → (i ≡ 0 → ⊥) → (i ≡ 1 → ⊥) → _≡_ {A = WidthClass} (record { symbol = 2; centre = 80; setting = s .marks }) (classOf s i)
+unfolding classes
+class-2 s i h a b = let e : i ≡ 2 = omega arith in rw e
+
+centre-of : (s : WidthSettings) (i : ℕ) → i < 3 → classOf s i .centre ≤ 80
+unfolding classes
+centre-of s zero h = omega arith
+centre-of s (suc zero) h = omega arith
+centre-of s (suc (suc zero)) h = omega arith
+centre-of s (suc (suc (suc i))) h = let no : ⊥ = omega arith in absurd no
+
+pub class-centre : (s : WidthSettings) (i : ℕ) (c : WidthClass) → i < 3 → (i < 3 → c ≡ classOf s i) → c .centre ≤ 80
+class-centre s i c h is = rw (is h) (centre-of s i h)
+
+-- the percentages of a class in the table
+pub class-usable : (s : WidthSettings) (i : ℕ) (c : WidthClass) → areWidthSettings s ≡ true → i < 3 → (i < 3 → c ≡ classOf s i) → Usable c
+class-usable s i c g h is =
+    let k = class-of s i g h in
+    let centre = k .centre-is in
+    rw (is h) (k .small, omega arith, omega arith)
+
+pub deviation-by : (s : WidthSettings) (symbol T width : ℕ) (c : WidthClass) (z : ℤ) → symbol < 3 → Classed symbol T width → (symbol < 3 → c ≡ classOf s symbol) → z ≡ pos (100 * width) -ℤ pos (c .centre * T) → toZ w32 (ofZ w32 z) ≡ deviationOf s symbol T width
 unfolding deviationOf
-spoiled-0 T width = refl
+deviation-by s symbol T width c z h fits is e =
+    let centre = centre-small (c .centre) T (class-centre s symbol c h is) (fits .0) in
+    difference-back (100 * width) (c .centre * T) (fits .1 h) centre z e ∙ rw (lt-ltb symbol 3 h) (ap (λ (k : WidthClass). pulseIn k T width .deviation) (is h))
 
 module _ (s : WidthSettings) (T width period symbol : ℕ) (are-settings : areWidthSettings s ≡ true) (is : symbol ≡ pulseOf s T width period .symbol) where
   pub pulse-classed : isInterval T ≡ true → Classed symbol T width
@@ -120,13 +143,14 @@ module _ (s : WidthSettings) (T width period symbol : ℕ) (are-settings : areWi
         absurd no),
   )
 
-  pub pulse-deviation : deviationOf symbol T width ≡ pulseOf s T width period .deviation
+  pub pulse-deviation : deviationOf s symbol T width ≡ pulseOf s T width period .deviation
+  unfolding deviationOf
   pulse-deviation =
       by-class s T width period
       (λ k h p y e.
-      let given : pulseOf s T width period .symbol ≡ k = ap (λ (x : Pulse). x .symbol) e ∙ class-of s k are-settings h .symbol-is in
-      ap (λ (j : ℕ). deviationOf j T width) (is ∙ given) ∙ by-centre k T width h ∙ sym (deviation-within s T width period are-settings k h given .0))
-      (λ n e. ap (λ (j : ℕ). deviationOf j T width) (is ∙ ap (λ (x : Pulse). x .symbol) e) ∙ spoiled-0 T width ∙ sym (ap (λ (x : Pulse). x .deviation) e))
+      let given : symbol ≡ k = is ∙ ap (λ (x : Pulse). x .symbol) e ∙ class-of s k are-settings h .symbol-is in
+      rw (given, lt-ltb k 3 h) (sym (ap (λ (x : Pulse). x .deviation) e)))
+      (λ n e. rw (is ∙ ap (λ (x : Pulse). x .symbol) e) (sym (ap (λ (x : Pulse). x .deviation) e)))
 
 -- ---- the pulses of a list by their index
 

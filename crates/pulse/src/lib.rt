@@ -5,13 +5,15 @@ ghost use mathlib.Core.List.{map};
 ghost use Prim.Native.Nat.{_+_, _*_, _-_, _<_, _≤_};
 ghost use lib.IntN.{pos, _-ℤ_};
 ghost use lib.ListN.{length};
-ghost use Rattle.timecode.specs.Calls.{within, isInterval, areWidthSettings, pulseOf, classifyOf, pulsesOf, classifyListOf, symbolsLeft, deviationsLeft};
+ghost use Rattle.timecode.specs.Calls.{within, isInterval, areWidthSettings, inClass, pulseOf, classifyOf, pulsesOf, classifyListOf, symbolsLeft, deviationsLeft};
+ghost use Rattle.timecode.specs.Laws.Widths.{classOf};
 ghost use Rattle.pulse.specs.Pulses.{Classed, deviationOf};
 use timecode::Classified;
 use timecode::MARK;
 use timecode::ONE;
 use timecode::Refusal;
 use timecode::SPOILED;
+use timecode::WidthClass;
 use timecode::WidthSettings;
 use timecode::Written;
 use timecode::ZERO;
@@ -20,13 +22,6 @@ use timecode::ZERO;
 const SHORTEST_INTERVAL: u32 = 100;
 
 const LONGEST_INTERVAL: u32 = 10_000_000;
-
-// The centres of the classes of widths, in percent of it.
-const ZEROS: u8 = 20;
-
-const ONES: u8 = 50;
-
-const MARKS: u8 = 80;
 
 fn is_interval(interval: u32) -> bool
     ensures { λ r. ⌜ r ≡ isInterval interval ⌝ }
@@ -70,10 +65,39 @@ fn is_within(interval: u32, from: u8, to: u8, ticks: u32) -> bool
     false
 }
 
-fn is_in(centre: u8, setting: u8, interval: u32, width: u32) -> bool
-    requires { ⌜ (setting ≤ 14) × (20 ≤ centre) × (centre ≤ 80) ⌝ }
-    ensures { λ r. ⌜ r ≡ within ((centre - setting) * interval) ((centre + setting) * interval) (100 * width) ⌝ }
+// The classes as one table: the symbol, its centre in percent of the interval, and its setting. A symbol that is none of them has the marks' class.
+fn class_of(settings: WidthSettings, symbol: u8) -> WidthClass
+    ensures { λ r. ⌜ (symbol < 3 → r ≡ classOf settings symbol) ⌝ }
 {
+    if symbol == ZERO {
+        return WidthClass {
+            symbol: ZERO,
+            centre: 20,
+            setting: settings.zeros,
+        };
+    }
+    if symbol == ONE {
+        return WidthClass {
+            symbol: ONE,
+            centre: 50,
+            setting: settings.ones,
+        };
+    }
+    WidthClass {
+        symbol: MARK,
+        centre: 80,
+        setting: settings.marks,
+    }
+}
+
+// The width is in the symbol's class.
+fn is_in(settings: WidthSettings, symbol: u8, interval: u32, width: u32) -> bool
+    requires { ⌜ (areWidthSettings settings ≡ true) × (symbol < 3) ⌝ }
+    ensures { λ r. ⌜ r ≡ inClass (classOf settings symbol) interval width ⌝ }
+{
+    let class = class_of(settings, symbol);
+    let centre = class.centre;
+    let setting = class.setting;
     is_within(interval, centre - setting, centre + setting, width)
 }
 
@@ -83,13 +107,13 @@ fn symbol_of(settings: WidthSettings, interval: u32, width: u32, period: u32) ->
     ensures { λ r. ⌜ r ≡ pulseOf settings interval width period .symbol ⌝ }
 {
     if is_within(interval, 95, 105, period) {
-        if is_in(ZEROS, settings.zeros, interval, width) {
+        if is_in(settings, ZERO, interval, width) {
             return ZERO;
         }
-        if is_in(ONES, settings.ones, interval, width) {
+        if is_in(settings, ONE, interval, width) {
             return ONE;
         }
-        if is_in(MARKS, settings.marks, interval, width) {
+        if is_in(settings, MARK, interval, width) {
             return MARK;
         }
     }
@@ -115,18 +139,13 @@ fn deviation_from(centre: u8, interval: u32, width: u32) -> i32
 }
 
 // The deviation of a pulse with that symbol: 0 for a spoiled element.
-fn deviation_of(symbol: u8, interval: u32, width: u32) -> i32
+fn deviation_of(settings: WidthSettings, symbol: u8, interval: u32, width: u32) -> i32
     requires { ⌜ Classed symbol interval width ⌝ }
-    ensures { λ r. ⌜ r ≡ deviationOf symbol interval width ⌝ }
+    ensures { λ r. ⌜ r ≡ deviationOf settings symbol interval width ⌝ }
 {
-    if symbol == ZERO {
-        return deviation_from(ZEROS, interval, width);
-    }
-    if symbol == ONE {
-        return deviation_from(ONES, interval, width);
-    }
-    if symbol == MARK {
-        return deviation_from(MARKS, interval, width);
+    if symbol < SPOILED {
+        let class = class_of(settings, symbol);
+        return deviation_from(class.centre, interval, width);
     }
     0
 }
@@ -140,7 +159,7 @@ pub fn classify(settings: WidthSettings, interval: u32, width: u32, period: u32)
             let symbol = symbol_of(settings, interval, width, period);
             return Classified::Symbol {
                 symbol: symbol,
-                deviation: deviation_of(symbol, interval, width),
+                deviation: deviation_of(settings, symbol, interval, width),
             };
         }
         return Classified::Refused(Refusal::InvalidWidthSetting);
@@ -163,7 +182,7 @@ fn put_pulses(
     while i < symbols.len() {
         let width = widths[i];
         let symbol = symbol_of(settings, interval, width, periods[i]);
-        let deviation = deviation_of(symbol, interval, width);
+        let deviation = deviation_of(settings, symbol, interval, width);
         symbols[i] = symbol;
         deviations[i] = deviation;
         i += 1;

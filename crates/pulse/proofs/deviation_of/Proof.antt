@@ -1,44 +1,24 @@
 -- `deviation_of` meets its contract: from the centre of the symbol's class.
+use mathlib.Core.Path.{_≡_, ap, _∙_}
+use borrow.Author.Needs.{needs}
+use borrow.Author.Tests.{lt-ltb, le-ltb}
 use native.Mathlib.Omega.{arith}
-use borrow.Author.Tests.{eq-eqb, ne-eqb}
-use Prim.Native.Nat.{_*_}
-use Rattle.pulse.specs.Pulses.{difference-back, deviationOf}
+use Rattle.pulse.specs.Pulses.{class-centre, deviation-by, deviationOf}
 use Rattle.pulse.proofs.deviation_of.Statement.{statement}
 use Rattle.pulse.proofs.deviation_of.Tie as tie
 
+class-of-requires : tie.Need-class-of-requires
+class-of-requires c κs = search needs
+
 deviation-from-requires : tie.Need-deviation-from-requires
-deviation-from-requires c κs = (omega arith, c .before .pre .0, c .before .pre .1 (omega arith))
+deviation-from-requires c κs = (class-centre (c .before .before .args .settings) (c .before .before .args .symbol) _ (c .before .if1 .taken) (c .class-of .ensures), c .before .before .pre .0, c .before .before .pre .1 (c .before .if1 .taken))
 
 returns : tie.Need-returns
-unfolding deviationOf
-returns c = rw (eq-eqb _ _ (c .before .if1 .taken)) (difference-back (100 * c .before .before .args .width) (20 * c .before .before .args .interval) (c .before .before .pre .1 (omega arith)) (omega arith) _ (c .deviation-from .ensures))
-
-deviation-from-requires-2 : tie.Need-deviation-from-requires-2
-deviation-from-requires-2 c κs = (omega arith, c .before .before .pre .0, c .before .before .pre .1 (omega arith))
+returns c = deviation-by (c .before .before .before .args .settings) (c .before .before .before .args .symbol) (c .before .before .before .args .interval) (c .before .before .before .args .width) _ _ (c .before .before .if1 .taken) (c .before .before .before .pre) (c .before .class-of .ensures) (c .deviation-from .ensures)
 
 returns-2 : tie.Need-returns-2
 unfolding deviationOf
-returns-2 c = rw (ne-eqb _ _ (c .before .before .if1 .left), eq-eqb _ _ (c .before .if2 .taken)) (difference-back (100 * c .before .before .before .args .width) (50 * c .before .before .before .args .interval) (c .before .before .before .pre .1 (omega arith)) (omega arith) _ (c .deviation-from2 .ensures))
-
-deviation-from-requires-3 : tie.Need-deviation-from-requires-3
-deviation-from-requires-3 c κs = (omega arith, c .before .before .before .pre .0, c .before .before .before .pre .1 (omega arith))
-
-returns-3 : tie.Need-returns-3
-unfolding deviationOf
-returns-3 c = rw (ne-eqb _ _ (c .before .before .before .if1 .left), ne-eqb _ _ (c .before .before .if2 .left), eq-eqb _ _ (c .before .if3 .taken)) (difference-back (100 * c .before .before .before .before .args .width) (80 * c .before .before .before .before .args .interval) (c .before .before .before .before .pre .1 (omega arith)) (omega arith) _ (c .deviation-from3 .ensures))
-
-returns-4 : tie.Need-returns-4
-unfolding deviationOf
-returns-4 c = rw (ne-eqb _ _ (c .before .before .if1 .left), ne-eqb _ _ (c .before .if2 .left), ne-eqb _ _ (c .if3 .left))
+returns-2 c = rw (le-ltb _ _ (c .if1 .left))
 
 pub deviation-of-spec : {M : Type 1} → statement M
-deviation-of-spec =
-    tie.close
-    (tie.spec
-    deviation-from-requires
-    returns
-    deviation-from-requires-2
-    returns-2
-    deviation-from-requires-3
-    returns-3
-    returns-4)
+deviation-of-spec = tie.close (tie.spec class-of-requires deviation-from-requires returns returns-2)

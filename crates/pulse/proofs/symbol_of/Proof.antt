@@ -2,7 +2,6 @@
 use borrow.Author.Needs.{needs}
 use native.Mathlib.Omega.{arith}
 use Rattle.timecode.specs.Calls.{classes, pulseAmong, pulseOf}
-use Rattle.timecode.specs.Laws.Widths.{settings-small}
 use Rattle.pulse.proofs.symbol_of.Statement.{statement}
 use Rattle.pulse.proofs.symbol_of.Tie as tie
 
@@ -10,21 +9,21 @@ is-within-requires : tie.Need-is-within-requires
 is-within-requires c κs = search needs
 
 is-in-requires : tie.Need-is-in-requires
-is-in-requires c κs = (settings-small (c .before .before .args .settings) (c .before .before .pre) .0, omega arith, omega arith)
+is-in-requires c κs = (c .before .before .pre, omega arith)
 
 returns : tie.Need-returns
 unfolding pulseOf pulseAmong classes
 returns c = rw (← c .before .before .before .is-within .ensures, c .before .before .if1 .taken, ← c .before .is-in .ensures, c .if2 .taken)
 
 is-in-requires-2 : tie.Need-is-in-requires-2
-is-in-requires-2 c κs = (settings-small (c .before .before .before .before .args .settings) (c .before .before .before .before .pre) .1, omega arith, omega arith)
+is-in-requires-2 c κs = (c .before .before .before .before .pre, omega arith)
 
 returns-2 : tie.Need-returns-2
 unfolding pulseOf pulseAmong classes
 returns-2 c = rw (← c .before .before .before .before .before .is-within .ensures, c .before .before .before .before .if1 .taken, ← c .before .before .before .is-in .ensures, c .before .before .if2 .left, ← c .before .is-in2 .ensures, c .if3 .taken)
 
 is-in-requires-3 : tie.Need-is-in-requires-3
-is-in-requires-3 c κs = (settings-small (c .before .before .before .before .before .before .args .settings) (c .before .before .before .before .before .before .pre) .2, omega arith, omega arith)
+is-in-requires-3 c κs = (c .before .before .before .before .before .before .pre, omega arith)
 
 returns-3 : tie.Need-returns-3
 unfolding pulseOf pulseAmong classes
