@@ -75,27 +75,19 @@ fn copy_cycles(elements: &[u8], from: usize, cycles: &mut [u8], at: usize, count
     }
 }
 
-// The same by whole blocks of 16, which the processor copies at once: up to 15 cycles behind are set to anything.
-fn copy_blocks(elements: &[u8], from: usize, cycles: &mut [u8], at: usize, count: usize)
-    requires { ⌜ (from + count + 15 ≤ length (now elements)) × (at + count + 15 ≤ length (now cycles)) ⌝ }
-    ensures { λ _. ⌜ Copied (now (elements .entry)) from (now (cycles .entry)) (now (cycles .exit)) at count ⌝ }
-{
-    let mut i = 0;
-    while i < count {
-        copy_cycles(elements, from + i, cycles, at + i, 16);
-        i += 16;
-    }
-}
-
-// By blocks where there is room behind the element.
+// An element of so many cycles, where there is room in blocks of 16, which the processor copies at once: up to 15 cycles behind it are then set to anything.
 fn copy_element(elements: &[u8], from: usize, cycles: &mut [u8], at: usize, count: usize)
     requires { ⌜ (from + count + 15 ≤ length (now elements)) × (at + count ≤ length (now cycles)) ⌝ }
     ensures { λ _. ⌜ Copied (now (elements .entry)) from (now (cycles .entry)) (now (cycles .exit)) at count ⌝ }
 {
-    if count + 15 <= cycles.len() - at {
-        copy_blocks(elements, from, cycles, at, count);
-    } else {
+    if cycles.len() - at < count + 15 {
         copy_cycles(elements, from, cycles, at, count);
+        return;
+    }
+    let mut i = 0;
+    while i < count {
+        copy_cycles(elements, from + i, cycles, at + i, 16);
+        i += 16;
     }
 }
 
