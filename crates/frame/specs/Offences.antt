@@ -39,6 +39,15 @@ offendedFrom i (m ∷ ms) (s ∷ ss) = cond (eqb s m) (offendedFrom (suc i) ms s
 abbrev pub offendedOf : List ℕ → List ℕ → Offence
 offendedOf again frame = offendedFrom 0 again frame
 
+-- the lowest index where the two differ, counted from i on; 255, past the end of every frame, where they do not
+unfoldable pub lowestFrom : ℕ → List ℕ → List ℕ → ℕ
+lowestFrom i ms [] = 255
+lowestFrom i [] (s ∷ ss) = 255
+lowestFrom i (m ∷ ms) (s ∷ ss) = cond (eqb s m) (lowestFrom (suc i) ms ss) i
+
+abbrev pub lowestOf : List ℕ → List ℕ → ℕ
+lowestOf again frame = lowestFrom 0 again frame
+
 -- a symbol above 3 before all else
 unfoldable pub offenceIn : List ℕ → List ℕ → Offence
 offenceIn again frame = cond (areSymbols frame) (offendedOf again frame) (At UnknownSymbol)
@@ -48,22 +57,49 @@ abbrev pub refusedOr : Offence → Reading → Reading
 refusedOr Nothing answer = answer
 refusedOr (At r) answer = Reading.Refused r
 
--- ---- turns of the loop
-
-pub offended-turn : (again frame : List ℕ) (i : ℕ) → i < length again → i < length frame
-    → offendedFrom i (drop i again) (drop i frame) ≡ cond (eqb (getD frame i 0) (getD again i 0)) (offendedFrom (i + 1) (drop (i + 1) again) (drop (i + 1) frame)) (offenceAt (getD again i 0) (getD frame i 0) i)
-unfolding offendedFrom
-offended-turn again frame i a b = rw (drop-cons again i 0 a, drop-cons frame i 0 b, add-one i)
-
-pub offended-end : (again frame : List ℕ) (i : ℕ) → length frame ≤ i → offendedFrom i (drop i again) (drop i frame) ≡ Nothing
-unfolding offendedFrom
-offended-end again frame i h = rw (drop-of-length-le frame {i = i} h)
+-- ---- turns of the loops
 
 pub symbols-turn : (frame : List ℕ) (i : ℕ) → i < length frame → areSymbols (drop i frame) ≡ (leb (getD frame i 0) 3 && areSymbols (drop (i + 1) frame))
 symbols-turn frame i h = rw (drop-cons frame i 0 h, add-one i)
 
 pub symbols-end : (frame : List ℕ) (i : ℕ) → length frame ≤ i → areSymbols (drop i frame) ≡ true
 symbols-end frame i h = rw (drop-of-length-le frame {i = i} h)
+
+-- the lowest index so far, or the one that is found from i on
+abbrev pub lowestOr : ℕ → ℕ → ℕ
+lowestOr low later = cond (eqb low 255) later low
+
+-- the lowest index so far, once the elements at i are looked at
+abbrev pub lowered : ℕ → ℕ → ℕ → ℕ → ℕ
+lowered low m s i = cond (ltb low (cond (eqb s m) 255 i)) low (cond (eqb s m) 255 i)
+
+pub lowest-turn : (again frame : List ℕ) (i low : ℕ) → i < length again → i < length frame → i < 255 → (low < 255 → low < i) → low ≤ 255
+    → lowestOr low (lowestFrom i (drop i again) (drop i frame)) ≡ lowestOr (lowered low (getD again i 0) (getD frame i 0) i) (lowestFrom (i + 1) (drop (i + 1) again) (drop (i + 1) frame))
+unfolding lowestFrom
+lowest-turn again frame i low a b l before most =
+    rw (drop-cons again i 0 a, drop-cons frame i 0 b, add-one i)
+    (by-test (eqb low 255)
+    (λ y.
+    rw (eqb-true low 255 y)
+    (by-test (eqb (getD frame i 0) (getD again i 0))
+    (λ z. rw z)
+    (λ z. rw (z, le-ltb 255 i (omega arith), ne-eqb i 255 (λ e. omega arith)))))
+    (λ n.
+    let small : low < 255 = omega (arith, eqb-false low 255 n) in
+    let found = before small in
+    by-test (eqb (getD frame i 0) (getD again i 0))
+    (λ z. rw (z, lt-ltb low 255 small, n))
+    (λ z. rw (z, lt-ltb low i found, n))))
+
+pub lowered-below : (m s i low : ℕ) → i < 255 → (low < 255 → low < i) → low ≤ 255 → (lowered low m s i < 255 → lowered low m s i < i + 1) × (lowered low m s i ≤ 255)
+lowered-below m s i low l before most =
+    by-test (eqb s m)
+    (λ y. by-test (ltb low 255) (λ z. rw (y, z) ((λ h. let found = before h in omega arith), most)) (λ z. rw (y, z) ((λ h. omega arith), omega arith)))
+    (λ n. by-test (ltb low i) (λ z. rw (n, z) ((λ h. omega (arith, ltb-true low i z)), most)) (λ z. rw (n, z) ((λ h. omega arith), omega arith)))
+
+pub lowest-end : (again frame : List ℕ) (i low : ℕ) → length frame ≤ i → lowestOr low (lowestFrom i (drop i again) (drop i frame)) ≡ low
+unfolding lowestFrom
+lowest-end again frame i low h = rw (drop-of-length-le frame {i = i} h) (by-test (eqb low 255) (λ y. rw (y, eqb-true low 255 y)) (λ n. rw n))
 
 -- ---- two that agree
 
@@ -82,6 +118,24 @@ offence-some m s i h =
     by-test (eqb m 2)
     (λ y. some-offence (MisplacedMark i) (rw y at h))
     (λ n. by-test (eqb s 2) (λ y. some-offence (MisplacedMark i) (rw (n, y) at h)) (λ o. some-offence (InvalidElement i) (rw (n, o) at h)))
+
+-- ---- the lowest index where they differ offends
+
+module _ (again frame : List ℕ) (l : length frame ≤ length again) (short : length frame ≤ 255) where
+  abbrev offenceFound : ℕ → Offence
+  offenceFound low = cond (eqb low 255) Nothing (offenceAt (getD again low 0) (getD frame low 0) low)
+
+  lowest-offends : (left i : ℕ) → i + left ≡ length frame → offendedFrom i (drop i again) (drop i frame) ≡ offenceFound (lowestFrom i (drop i again) (drop i frame))
+  unfolding offendedFrom lowestFrom
+  lowest-offends zero i e = rw (drop-of-length-le frame {i = i} (omega arith))
+  lowest-offends (suc left) i e =
+      rw (drop-cons frame i 0 (omega arith), drop-cons again i 0 (omega arith))
+      (by-test (eqb (getD frame i 0) (getD again i 0))
+      (λ y. rw y (lowest-offends left (suc i) (omega arith)))
+      (λ n. rw (n, ne-eqb i 255 (λ q. omega arith))))
+
+  pub offended-lowest : (low : ℕ) → low ≡ lowestOf again frame → offendedOf again frame ≡ cond (eqb low 255) Nothing (offenceAt (getD again low 0) (getD frame low 0) low)
+  offended-lowest low e = lowest-offends (length frame) 0 (zero-add (length frame)) ∙ ap offenceFound (sym e)
 
 -- ---- the frame written again agrees below the lowest index that offends, and there it does not
 

@@ -2,16 +2,17 @@
 // A call looks up the format's row once. Letter X's elements are those of `tape`. Write splits the time into digits once; the elements come from the digits alone. Read
 // writes the digits that it finds again and compares: the lowest index where the two differ is the lowest that offends.
 ghost use mathlib.Core.Path.{_≡_};
-ghost use mathlib.Core.Bool.{true, false, _&&_};
+ghost use mathlib.Core.Bool.{true, false, cond, _&&_};
 ghost use mathlib.Core.List.{List};
 ghost use Prim.Native.Nat.{ℕ, _≤_, _<_};
+ghost use lib.Dec.{eqb, ltb};
 ghost use lib.ListN.{getD, length};
 ghost use Rattle.timecode.specs.Formats.{isX, known, size};
 ghost use Rattle.timecode.specs.Frames.{written, writeOf, writeLeaves, areSymbols, readOf, Valid};
 ghost use Rattle.timecode.specs.declared.Format.{Format};
 ghost use Rattle.layout.specs.Tables.{RowOf, IsRow};
 ghost use Rattle.elements.specs.Tens.{IsFrame};
-ghost use Rattle.frame.specs.Offences.{offenceAt, offendedOf, offenceIn};
+ghost use Rattle.frame.specs.Offences.{offenceAt, offendedOf, lowestOf, offenceIn};
 ghost use Rattle.frame.specs.Exits.{FrameOf};
 use clock::lies_on;
 use clock::second_allowed;
@@ -40,6 +41,9 @@ use timecode::Refusal;
 use timecode::SPOILED;
 use timecode::Time;
 use timecode::Written;
+
+// The index of a difference where there is none: past the end of every frame.
+const NOWHERE: u8 = 255;
 
 // What the search for an offending element finds.
 enum Offence {
@@ -141,23 +145,54 @@ fn offence_at(again: u8, symbol: u8, index: usize) -> Offence
     Offence::At(Refusal::InvalidElement(index))
 }
 
-// What offends at the lowest index where the two differ.
-fn lowest_offence(again: &[u8], frame: &[u8]) -> Offence
-    requires { ⌜ length (now frame) ≤ length (now again) ⌝ }
-    ensures { λ r. ⌜ r ≡ offendedOf (now (again .entry)) (now (frame .entry)) ⌝ }
+fn lesser(first: u8, second: u8) -> u8
+    ensures { λ r. ⌜ r ≡ cond (ltb first second) first second ⌝ }
 {
-    let mut index = 0;
-    while index < frame.len() {
-        if frame[index] != again[index] {
-            return offence_at(again[index], frame[index], index);
-        }
-        index += 1;
+    if first < second {
+        return first;
     }
-    Offence::Nothing
+    second
 }
 
-// The two agree as far as the frame goes. It promises nothing of a false answer: the frame is then looked through
-// element by element, with the same reading in the end, only later.
+// The index where its two elements differ, else no index.
+fn place(again: u8, symbol: u8, index: u8) -> u8
+    ensures { λ r. ⌜ r ≡ cond (eqb symbol again) 255 index ⌝ }
+{
+    if symbol == again {
+        return NOWHERE;
+    }
+    index
+}
+
+// The lowest index where the two differ. Like `agree` it looks at every element; the least of bytes is gathered sixteen at a time.
+fn lowest_difference(again: &[u8], frame: &[u8]) -> u8
+    requires { ⌜ (length (now frame) ≤ length (now again)) × (length (now frame) ≤ 255) ⌝ }
+    ensures { λ r. ⌜ (r ≡ lowestOf (now (again .entry)) (now (frame .entry))) × ((r ≡ 255 → ⊥) → r < length (now (frame .entry))) ⌝ }
+{
+    let mut lowest = NOWHERE;
+    let mut index = 0;
+    while index < frame.len() {
+        lowest = lesser(lowest, place(again[index], frame[index], index as u8));
+        index += 1;
+    }
+    lowest
+}
+
+// What offends at the lowest index where the two differ.
+fn lowest_offence(again: &[u8], frame: &[u8]) -> Offence
+    requires { ⌜ (length (now frame) ≤ length (now again)) × (length (now frame) ≤ 255) ⌝ }
+    ensures { λ r. ⌜ r ≡ offendedOf (now (again .entry)) (now (frame .entry)) ⌝ }
+{
+    let lowest = lowest_difference(again, frame);
+    if lowest == NOWHERE {
+        return Offence::Nothing;
+    }
+    let index = lowest as usize;
+    offence_at(again[index], frame[index], index)
+}
+
+// The two agree as far as the frame goes. It promises nothing of a false answer: the lowest index where they differ is
+// then looked for, with the same reading in the end, only later.
 fn agree(again: &[u8], frame: &[u8]) -> bool
     requires { ⌜ length (now frame) ≤ length (now again) ⌝ }
     ensures { λ r. ⌜ (r ≡ true → (k : ℕ) → k < length (now (frame .entry)) → getD (now (frame .entry)) k 0 ≡ getD (now (again .entry)) k 0) ⌝ }
@@ -173,7 +208,7 @@ fn agree(again: &[u8], frame: &[u8]) -> bool
 
 // What offends in the frame, beside the one written again from its digits: a symbol above 3, or the lowest index where they differ.
 fn offence_in(again: &[u8], frame: &[u8]) -> Offence
-    requires { ⌜ (length (now frame) ≤ length (now again)) × ((k : ℕ) → k < length (now frame) → getD (now again) k 0 ≤ 3) ⌝ }
+    requires { ⌜ (length (now frame) ≤ length (now again)) × ((k : ℕ) → k < length (now frame) → getD (now again) k 0 ≤ 3) × (length (now frame) ≤ 255) ⌝ }
     ensures { λ r. ⌜ r ≡ offenceIn (now (again .entry)) (now (frame .entry)) ⌝ }
 {
     if agree(again, frame) {

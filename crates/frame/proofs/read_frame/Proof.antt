@@ -57,7 +57,7 @@ offence-in-requires c κs =
     let long = digits-long _ _ _ (c .before .before .before .before .before .before .before .before .before .before .digits-in .ensures) in
     let put = c .before .before .put-bits .ensures _ (λ e. c .before .before .before .before .tail-bits .ensures refl) ∙ put-parts 100 (c .before .before .before .before .before .before .before .before .before .before .digits-in .result) (c .before .before .before .before .before .before .before .before .time-bits .result) (c .before .before .before .before .before .before .middle-bits .result) long (c .before .before .before .before .before .before .before .before .time-bits .ensures .0) (c .before .before .before .before .before .before .middle-bits .ensures .0) in
     let range = size-range (start .pre .format) in
-    (omega (arith, ap length put ∙ length-put 100 digits, start .pre .long, range), λ k h. rw put (put-symbol 100 digits k (omega (arith, h, start .pre .long, range))))
+    (omega (arith, ap length put ∙ length-put 100 digits, start .pre .long, range), (λ k h. rw put (put-symbol 100 digits k (omega (arith, h, start .pre .long, range)))), omega (arith, start .pre .long, range))
 
 enum-known-offence : tie.Need-enum-known-offence
 enum-known-offence c = search needs
