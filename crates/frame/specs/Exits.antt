@@ -11,7 +11,7 @@ use lib.ListN.{getD, length}
 use Rattle.timecode.specs.Formats.{isX, known, size, interval, dayLength, lastDay, daysIn, lastDayIn, inRange, onFormat, carriesLeap, carriesYear, secondCarried}
 use Rattle.timecode.specs.Frames.{areSymbols, readOf}
 use Rattle.timecode.specs.Laws.Runs.{Clean, clean-bits, small-decoded, small-length}
-use Rattle.timecode.specs.Laws.Table.{size-range, interval-range, two-sizes}
+use Rattle.timecode.specs.Laws.Table.{interval-range, two-sizes}
 use Rattle.timecode.specs.Laws.Tests.{by-test, and-left, and-right}
 use Rattle.timecode.specs.Layout.{isMark, filler, tabulate, decode}
 use Rattle.timecode.specs.declared.Format.{Format}
@@ -21,7 +21,7 @@ use Rattle.layout.specs.Tables.{widthsOf, fullWidths, isCarried, runWidths, Row
 use Rattle.layout.specs.Runs.{codeRuns, code-proper}
 use Rattle.layout.specs.declared.Row.{Row}
 use Rattle.elements.specs.Tens.{IsFrame}
-use Rattle.elements.specs.RunBits.{putIn, put-mark, put-binary}
+use Rattle.elements.specs.RunBits.{putIn, length-put, put-mark, put-binary}
 use Rattle.elements.specs.RunLoops.{runs-narrow, length-runs, small-digit, RunsInside, runs-inside, digitsAt, digits-at}
 use Rattle.digits.specs.Meaning.{meaningOf, meaning-is}
 use Rattle.digits.specs.Splitting.{Widths, Digits}
@@ -91,8 +91,12 @@ module _ (f : Format) (row : Row) (o : RowOf f row) where
 
 -- ---- the frame written again
 
-pub put-symbol : (n : ℕ) (xs : List ℕ) (k : ℕ) → k < n → getD (putIn n xs) k 0 ≤ 3
+put-symbol : (n : ℕ) (xs : List ℕ) (k : ℕ) → k < n → getD (putIn n xs) k 0 ≤ 3
 put-symbol n xs k l = by-test (isMark k) (λ y. omega (arith, put-mark n xs k l y)) (λ m. omega (arith, put-binary n xs k l m))
+
+-- where it is as long as the frame, what the search asks
+pub beside-asked : (n : ℕ) (xs again frame : List ℕ) → again ≡ putIn n xs → length frame ≡ n → n ≤ 100 → (length frame ≤ length again) × ((k : ℕ) → k < length frame → getD again k 0 ≤ 3) × (length frame ≤ 255)
+beside-asked n xs again frame e l m = (omega (arith, ap length e ∙ length-put n xs), (λ k h. rw e (put-symbol n xs k (omega arith))), omega arith)
 
 symbols-all : (frame : List ℕ) → ((k : ℕ) → k < length frame → getD frame k 0 ≤ 3) → areSymbols frame ≡ true
 symbols-all [] h = refl
@@ -111,7 +115,7 @@ module _ (f : Format) (frame : List ℕ) (k : known f ≡ true) (x : isX f ≡ f
       record { long = small-length (codeRuns f) (decode (codeRuns f) frame) small ∙ length-runs f; small = small-digit (codeRuns f) (decode (codeRuns f) frame) (runs-narrow f x) small }
 
   -- Read is what offends, or what the digits say
-  pub read-refused-or : readOf f frame ≡ refusedOr (offenceIn (putIn 100 (decode (codeRuns f) frame)) frame) (meaningOf (carriesLeap f) (carriesYear f) (widthsOf f) (decode (codeRuns f) frame))
+  pub read-refused-or : readOf f frame ≡ refusedOr (offenceIn (putIn (size f) (decode (codeRuns f) frame)) frame) (meaningOf (carriesLeap f) (carriesYear f) (widthsOf f) (decode (codeRuns f) frame))
   unfolding readOf offenceIn
   read-refused-or =
       rw (k, eq-eqb (length frame) (size f) n)
@@ -119,7 +123,7 @@ module _ (f : Format) (frame : List ℕ) (k : known f ≡ true) (x : isX f ≡ f
       (λ y. rw (y, meaning-is f frame x) (offended-refuses f frame k x n _))
       (λ m. rw m))
 
-  pub finds-nothing : offenceIn (putIn 100 (decode (codeRuns f) frame)) frame ≡ Nothing → Clean (size f) (filler f) (codeRuns f) frame
+  pub finds-nothing : offenceIn (putIn (size f) (decode (codeRuns f) frame)) frame ≡ Nothing → Clean (size f) (filler f) (codeRuns f) frame
   unfolding offenceIn
   finds-nothing h =
       by-test (areSymbols frame)

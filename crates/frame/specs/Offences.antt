@@ -12,7 +12,7 @@ use lib.ListN.{getD, length, drop, drop-of-length-le}
 use lib.Seq.{drop-cons}
 use Rattle.timecode.specs.Formats.{isX, known, size}
 use Rattle.timecode.specs.Frames.{areSymbols, covered, marksAgree, elementFits, checkElements}
-use Rattle.timecode.specs.Laws.Runs.{getD-encode, getD-tabulate, length-tabulate, Clean, fits-agree, clean-bits, encode-decode, covered-inside, small-decoded}
+use Rattle.timecode.specs.Laws.Runs.{getD-tabulate, length-tabulate, Clean, fits-agree, clean-bits, encode-decode, covered-inside, small-decoded}
 use Rattle.timecode.specs.Laws.Table.{size-range}
 use Rattle.timecode.specs.Laws.Tests.{by-test, clash}
 use Rattle.timecode.specs.Layout.{Run, isMark, filler, runs, tabulate, decode}
@@ -141,7 +141,7 @@ module _ (again frame : List ℕ) (l : length frame ≤ length again) (short : l
 
 module _ (f : Format) (frame : List ℕ) (k : known f ≡ true) (x : isX f ≡ false) (n : length frame ≡ size f) where
   abbrev again : List ℕ
-  again = putIn 100 (decode (codeRuns f) frame)
+  again = putIn (size f) (decode (codeRuns f) frame)
 
   -- all elements below i fit
   abbrev FitBelow : ℕ → Type 0
@@ -168,14 +168,12 @@ module _ (f : Format) (frame : List ℕ) (k : known f ≡ true) (x : isX f ≡ f
       (λ y. rw y (h j (ltb-true j i y)))
       (λ z. rw z (by-test (covered (codeRuns f) j) (λ y. rw y) (λ m. rw (m, eq-eqb (filler f j) (filler f j) refl)))))
 
-  cut-again : (i : ℕ) → FitBelow i → (j : ℕ) → j < size f → getD (putIn 100 (decode (codeRuns f) (cut i))) j 0 ≡ cutAt i j
+  cut-again : (i : ℕ) → FitBelow i → (j : ℕ) → j < size f → getD (putIn (size f) (decode (codeRuns f) (cut i))) j 0 ≡ cutAt i j
   cut-again i h j l =
       let rs = codeRuns f in
       let clean = cut-clean i h in
       let small = small-decoded (cut i) rs (clean-bits (size f) (filler f) rs (cut i) (code-proper f k) clean) in
-      ap (λ (ss : List ℕ). getD ss j 0) (put-right f k x (decode rs (cut i)) small 100 (omega arith))
-      ∙ getD-encode 100 (filler f) rs (decode rs (cut i)) j (omega (arith, size-range f))
-      ∙ sym (getD-encode (size f) (filler f) rs (decode rs (cut i)) j l)
+      ap (λ (ss : List ℕ). getD ss j 0) (put-right f k x (decode rs (cut i)) small (size f) (size-range f .1))
       ∙ ap (λ (ss : List ℕ). getD ss j 0) (encode-decode (size f) (filler f) rs (cut i) (code-proper f k) (length-tabulate (size f) 0 (cutAt i)) clean)
       ∙ cut-at i j l
 
@@ -184,18 +182,18 @@ module _ (f : Format) (frame : List ℕ) (k : known f ≡ true) (x : isX f ≡ f
 
   pub again-below : (i : ℕ) → FitBelow i → (j : ℕ) → j < i → j < size f → getD again j 0 ≡ getD frame j 0
   again-below i h j l b =
-      put-low f x 100 i frame (cut i) (λ m a y. cut-same i m a (covered-inside (size f) (filler f) (codeRuns f) (code-proper f k) m y .0)) j l (omega (arith, size-range f))
+      put-low f x (size f) i frame (cut i) (λ m a y. cut-same i m a (covered-inside (size f) (filler f) (codeRuns f) (code-proper f k) m y .0)) j l b
       ∙ cut-again i h j b
       ∙ rw (lt-ltb j i l)
 
   again-free : (i : ℕ) → FitBelow i → i < size f → covered (codeRuns f) i ≡ false → getD again i 0 ≡ filler f i
   again-free i h b m =
-      put-low f x 100 (suc i) frame (cut i)
+      put-low f x (size f) (suc i) frame (cut i)
       (λ j a y.
       by-test (ltb j i)
       (λ z. cut-same i j (ltb-true j i z) (covered-inside (size f) (filler f) (codeRuns f) (code-proper f k) j y .0))
       (λ z. let last : j ≡ i = omega (arith, ltb-false j i z) in let none : covered (codeRuns f) j ≡ false = rw last m in clash y none))
-      i (omega arith) (omega (arith, size-range f))
+      i (omega arith) b
       ∙ cut-again i h i b
       ∙ rw (le-ltb i i (omega arith), m)
 
@@ -203,7 +201,7 @@ module _ (f : Format) (frame : List ℕ) (k : known f ≡ true) (x : isX f ≡ f
   unfolding filler
   again-covered i y =
       let inside = covered-inside (size f) (filler f) (codeRuns f) (code-proper f k) i y in
-      put-binary 100 (decode (codeRuns f) frame) i (omega (arith, inside .0, size-range f))
+      put-binary (size f) (decode (codeRuns f) frame) i (inside .0)
       (by-test (isMark i) (λ z. clash {b = true} refl (rw (x, z) at (inside .1))) (λ m. m))
 
   fits-where-same : (i : ℕ) → FitBelow i → i < size f → getD frame i 0 ≡ getD again i 0 → elementFits (filler f) (codeRuns f) i (getD frame i 0) ≡ true
@@ -239,8 +237,7 @@ module _ (f : Format) (frame : List ℕ) (k : known f ≡ true) (x : isX f ≡ f
   found-from zero i e h a = rw (drop-of-length-le frame {i = i} (omega arith))
   found-from (suc left) i e h a =
       let b : i < size f = omega arith in
-      let long = length-put 100 (decode (codeRuns f) frame) in
-      let range = size-range f in
+      let long = length-put (size f) (decode (codeRuns f) frame) in
       rw (drop-cons frame i 0 (omega arith), drop-cons again i 0 (omega arith))
       (by-test (eqb (getD frame i 0) (getD again i 0))
       (λ y.
@@ -258,8 +255,7 @@ module _ (f : Format) (frame : List ℕ) (k : known f ≡ true) (x : isX f ≡ f
   clean-from zero i e h q = let all : i ≡ size f = omega arith in λ j l. h j (omega arith)
   clean-from (suc left) i e h q =
       let b : i < size f = omega arith in
-      let long = length-put 100 (decode (codeRuns f) frame) in
-      let range = size-range f in
+      let long = length-put (size f) (decode (codeRuns f) frame) in
       let here : cond (eqb (getD frame i 0) (getD again i 0)) (offendedFrom (suc i) (drop (suc i) again) (drop (suc i) frame)) (offenceAt (getD again i 0) (getD frame i 0) i) ≡ Nothing =
       rw (drop-cons frame i 0 (omega arith), drop-cons again i 0 (omega arith)) at q in
       by-test (eqb (getD frame i 0) (getD again i 0))

@@ -11,6 +11,7 @@ ghost use Rattle.timecode.specs.Formats.{isX, known, size};
 ghost use Rattle.timecode.specs.Frames.{written, writeOf, writeLeaves, areSymbols, readOf, Valid};
 ghost use Rattle.timecode.specs.declared.Format.{Format};
 ghost use Rattle.layout.specs.Tables.{RowOf, IsRow};
+ghost use Rattle.elements.specs.RunBits.{putIn};
 ghost use Rattle.elements.specs.Tens.{IsFrame};
 ghost use Rattle.frame.specs.Offences.{offenceAt, offendedOf, lowestOf, offenceIn};
 ghost use Rattle.frame.specs.Exits.{FrameOf};
@@ -220,15 +221,28 @@ fn offence_in(again: &[u8], frame: &[u8]) -> Offence
     Offence::At(Refusal::UnknownSymbol)
 }
 
+// What offends in a frame beside the digits that stand in it, which are written again for as many elements.
+fn offence_beside(digits: &[u64], frame: &[u8]) -> Offence
+    requires { ⌜ (length (now digits) ≡ 20) × IsFrame (length (now frame)) ⌝ }
+    ensures { λ r. ⌜ r ≡ offenceIn (putIn (length (now (frame .entry))) (now (digits .entry))) (now (frame .entry)) ⌝ }
+{
+    let head = time_bits(digits) + middle_bits(digits);
+    if frame.len() == 100 {
+        let mut again = [0u8; 100];
+        put_bits(head, tail_bits(digits, 100), &mut again);
+        return offence_in(&again, frame);
+    }
+    let mut again = [0u8; 60];
+    put_bits(head, 0, &mut again);
+    offence_in(&again, frame)
+}
+
 fn read_frame(row: Row, frame: &[u8]) -> Reading
     requires { ⌜ FrameOf row (now frame) ⌝ }
     ensures { λ r. ⌜ ((f : Format) → known f ≡ true → isX f ≡ false → RowOf f row → length (now (frame .entry)) ≡ size f → r ≡ readOf f (now (frame .entry))) ⌝ }
 {
     let digits = digits_in(row.runs, frame);
-    let mut again = [0u8; 100];
-    let head = time_bits(&digits) + middle_bits(&digits);
-    put_bits(head, tail_bits(&digits, 100), &mut again);
-    let offence = offence_in(&again, frame);
+    let offence = offence_beside(&digits, frame);
     match offence {
         Offence::At(refusal) => Reading::Refused(refusal),
         Offence::Nothing => {
