@@ -2,19 +2,21 @@
 use mathlib.Core.Path.{_≡_, sym}
 use mathlib.Core.Bool.{Bool, true, false, cond, _&&_}
 use mathlib.Core.List.{List}
-use Prim.Native.Nat.{ℕ, _+_, _%_, _<_, _≤_}
+use Prim.Native.Nat.{ℕ, suc, _+_, _-_, _%_, _<_, _≤_}
 use native.Mathlib.Nat.{mod-eq-of-lt}
 use native.Mathlib.Omega.{arith}
-use borrow.Author.Tests.{lt-ltb, le-leb, lt-leb, ltb-true, eq-eqb, ne-eqb}
-use lib.Dec.{ltb, eqb}
+use borrow.Author.Tests.{lt-ltb, le-leb, lt-leb, ltb-true, ltb-false, leb-true, eqb-true, eqb-false, eq-eqb, ne-eqb}
+use lib.Dec.{leb, ltb, eqb}
 use lib.ListN.{getD, set}
 use lib.Seq.{set-getD}
-use Rattle.timecode.specs.Formats.{known, size}
+use Rattle.timecode.specs.Formats.{isSymbol, table, lookUp, rowOf, known, size}
 use Rattle.timecode.specs.Laws.Table.{size-range}
 use Rattle.timecode.specs.Laws.Tests.{by-test, clash, and-left, and-right}
+use Rattle.timecode.specs.Layout.{tabulate}
 use Rattle.timecode.specs.Stream.{isSetting}
 use Rattle.timecode.specs.declared.Answer.the-variants.{Quiet}
 use Rattle.timecode.specs.declared.Format.{Format}
+use Rattle.layout.specs.Letters.{in-row, Other, other-row}
 use Rattle.following.specs.Rows.{opensFrame}
 use Rattle.register.specs.Receiving.{pushOf, begunOf, continuedOf, receiveOf}
 use Rattle.register.specs.declared.Register.{Register}
@@ -34,15 +36,11 @@ registerIn words = record { count = getD words 4 0; newest = getD words 5 0; wor
 unfoldable pub timeFits : ℕ → ℕ → ℕ → Bool
 timeFits year day hundredths = ltb year 256 && (ltb day 65536 && ltb hundredths 4294967296)
 
--- n, where numbers 13 and 26 pass and the words of the time fit their widths; else 0
-unfoldable pub readySize : ℕ → ℕ → ℕ → ℕ → ℕ → ℕ → ℕ → ℕ
-readySize letter expression setting place year day hundredths =
-    cond (known (formatIn letter expression))
-    (cond (ltb place (size (formatIn letter expression)))
-    (cond (isSetting (byteIn setting)) (cond (timeFits year day hundredths) (size (formatIn letter expression)) 0) 0)
-    0)
-    0
+-- n of a known format, else 0
+unfoldable pub knownSize : ℕ → ℕ → ℕ
+knownSize letter expression = cond (known (formatIn letter expression)) (size (formatIn letter expression)) 0
 
+-- numbers 13 and 26 pass, and the words of the time fit their widths
 pub record Ready (words : List ℕ) (n : ℕ) : Type 0 where
   pub is-known : known (formatIn (getD words 0 0) (getD words 1 0)) ≡ true
   pub size-is : n ≡ size (formatIn (getD words 0 0) (getD words 1 0))
@@ -52,37 +50,62 @@ pub record Ready (words : List ℕ) (n : ℕ) : Type 0 where
   pub day-fits : getD words 11 0 < 65536
   pub hundredths-fit : getD words 12 0 < 4294967296
 
-pub ready : (words : List ℕ) (n : ℕ) → n ≡ readySize (getD words 0 0) (getD words 1 0) (getD words 2 0) (getD words 3 0) (getD words 10 0) (getD words 11 0) (getD words 12 0) → (n ≡ 0 → ⊥) → Ready words n
-unfolding readySize timeFits
-ready words n e some =
+pub ready : (words : List ℕ) (s n : ℕ) → n ≡ knownSize (getD words 0 0) (getD words 1 0) → getD words 3 0 < n → (isSetting (byteIn (getD words 2 0)) && isSymbol s) ≡ true → timeFits (getD words 10 0) (getD words 11 0) (getD words 12 0) ≡ true → Ready words n × (s ≤ 3)
+unfolding knownSize timeFits
+ready words s n e inside p fits =
     let f = formatIn (getD words 0 0) (getD words 1 0) in
-    by-test (known f)
-    (λ a.
-    by-test (ltb (getD words 3 0) (size f))
-    (λ b.
-    by-test (isSetting (byteIn (getD words 2 0)))
-    (λ d.
     let year = ltb (getD words 10 0) 256 in
     let day = ltb (getD words 11 0) 65536 in
     let hundredths = ltb (getD words 12 0) 4294967296 in
-    by-test (year && (day && hundredths))
-    (λ g.
-    let z : n ≡ size f = rw (a, b, d, g) at e in
-    let i = ltb-true (getD words 3 0) (size f) b in
-    let others = and-right year (day && hundredths) g in
-    record {
-      is-known = a;
-      size-is = z;
-      inside = omega arith;
-      is-set = d;
-      year-fits = ltb-true (getD words 10 0) 256 (and-left year (day && hundredths) g);
-      day-fits = ltb-true (getD words 11 0) 65536 (and-left day hundredths others);
-      hundredths-fit = ltb-true (getD words 12 0) 4294967296 (and-right day hundredths others);
-    })
-    (λ g. absurd (some (rw (a, b, d, g) at e))))
-    (λ d. absurd (some (rw (a, b, d) at e))))
-    (λ b. absurd (some (rw (a, b) at e))))
-    (λ a. absurd (some (rw a at e)))
+    let others = and-right year (day && hundredths) fits in
+    by-test (known f)
+    (λ a. (
+      record {
+        is-known = a;
+        size-is = rw a at e;
+        inside = inside;
+        is-set = and-left (isSetting (byteIn (getD words 2 0))) (isSymbol s) p;
+        year-fits = ltb-true (getD words 10 0) 256 (and-left year (day && hundredths) fits);
+        day-fits = ltb-true (getD words 11 0) 65536 (and-left day hundredths others);
+        hundredths-fit = ltb-true (getD words 12 0) 4294967296 (and-right day hundredths others);
+      },
+      leb-true s 3 (and-right (isSetting (byteIn (getD words 2 0))) (isSymbol s) p),
+    ))
+    (λ a. let none : n ≡ 0 = rw a at e in let no : ⊥ = omega arith in absurd no)
+
+-- ---- n by the words as they are
+
+-- a range that ends below 255 takes the byte in a word where it takes the word
+within-byte : (first last e : ℕ) → first ≤ last → last < 255 → (leb first (byteIn e) && leb (byteIn e) last) ≡ (leb first e && leb e last)
+unfolding byteIn
+within-byte first last e a b =
+    by-test (ltb e 256)
+    (λ y. rw y)
+    (λ n.
+    let l = ltb-false e 256 n in
+    rw (n, le-leb first 255 (omega arith), lt-leb 255 last b, le-leb first e (omega arith), lt-leb e last (omega arith)))
+
+-- a letter that takes k expressions from the first on
+pub letter-size : (l e k first last n : ℕ) → byteIn l ≡ l → lookUp l table .expressions ≡ tabulate k first (λ (j : ℕ). j) → lookUp l table .elements ≡ n → first + k ≡ suc last → first ≤ last → last < 255
+    → knownSize l e ≡ cond (leb first e && leb e last) n 0
+unfolding knownSize known size rowOf
+letter-size l e k first last n b x m q a c = rw (b, x, m, in-row k first last q (byteIn e), within-byte first last e a c)
+
+other-known : (l e : ℕ) → ltb l 256 ≡ true → Other l → known (formatIn l e) ≡ false
+unfolding byteIn known rowOf
+other-known l e y o = rw (y, other-row l o)
+
+no-byte : (l e : ℕ) → ltb l 256 ≡ false → known (formatIn l e) ≡ false
+unfolding byteIn
+no-byte l e n = rw n (no-letter (byteIn e))
+
+pub other-size : (l e : ℕ) → Other l → knownSize l e ≡ 0
+unfolding knownSize
+other-size l e o = by-test (ltb l 256) (λ y. rw (other-known l e y o)) (λ n. rw (no-byte l e n))
+
+pub setting-within : (k : ℕ) → isSetting (byteIn k) ≡ (leb 2 k && leb k 5)
+unfolding isSetting
+setting-within k = within-byte 2 5 k (omega arith) (omega arith)
 
 -- ---- words of a reader that is taken are bytes
 
@@ -148,14 +171,14 @@ module _ (words : List ℕ) (s n : ℕ) (at : Ready words n) where
     continued-into : (place newest count : ℕ) → registerInto words place (continuedOf (registerIn words) newest count) ≡ set (set (set words 5 newest) 4 count) 3 place
     continued-into place newest count = rw (set-getD words 9 0, set-getD words 8 0, set-getD words 7 0, set-getD words 6 0)
 
-    -- ---- the four ways
+    -- ---- the three ways
 
     pub opened : opensFrame f (getD words 5 0 % 4) s ≡ true → Left (registerInto words ((getD words 3 0 + 1) % n) (begunOf (pushOf (getD words 5 0) s) 1 (cond (eqb (getD words 4 0) n) (getD words 9 0) 0)))
     unfolding receiveOf
     opened o = let b = size-range f in let z = at .size-is in not-whole-left (begunOf (pushOf (getD words 5 0) s) 1 (cond (eqb (getD words 4 0) n) (getD words 9 0) 0)) (rw o) (λ e. omega arith)
 
     module _ (shut : opensFrame f (getD words 5 0 % 4) s ≡ false) where
-      pub none-under-way : getD words 4 0 ≡ 0 → Left (set (set (set words 5 (pushOf (getD words 5 0) s)) 4 0) 3 ((getD words 3 0 + 1) % n))
+      none-under-way : getD words 4 0 ≡ 0 → Left (set (set (set words 5 (pushOf (getD words 5 0) s)) 4 0) 3 ((getD words 3 0 + 1) % n))
       unfolding receiveOf
       none-under-way e =
           let b = size-range f in
@@ -163,19 +186,24 @@ module _ (words : List ℕ) (s n : ℕ) (at : Ready words n) where
           let l = not-whole-left (continuedOf (registerIn words) (pushOf (getD words 5 0) s) 0) (rw (shut, eq-eqb (getD words 4 0) 0 e)) (λ e. omega arith) in
           rw (← continued-into ((getD words 3 0 + 1) % n) (pushOf (getD words 5 0) s) 0) l
 
-      module _ (some : getD words 4 0 ≡ 0 → ⊥) where
-        pub after-whole : n ≤ getD words 4 0 → Left (registerInto words ((getD words 3 0 + 1) % n) (begunOf (pushOf (getD words 5 0) s) 0 0))
-        unfolding receiveOf
-        after-whole l =
-            let b = size-range f in
-            let z = at .size-is in
-            not-whole-left (begunOf (pushOf (getD words 5 0) s) 0 0) (rw (shut, ne-eqb (getD words 4 0) 0 some, le-leb n (getD words 4 0) l)) (λ e. omega arith)
+      joined : (getD words 4 0 ≡ 0 → ⊥) → getD words 4 0 + 1 < n → ((getD words 4 0 + 1) % 32 ≡ 0 → ⊥) → Left (set (set (set words 5 (pushOf (getD words 5 0) s)) 4 (getD words 4 0 + 1)) 3 ((getD words 3 0 + 1) % n))
+      unfolding receiveOf
+      joined some l not-full =
+          let j = not-whole-left (continuedOf (registerIn words) (pushOf (getD words 5 0) s) (getD words 4 0 + 1)) (rw (shut, ne-eqb (getD words 4 0) 0 some, lt-leb n (getD words 4 0) (omega arith), ne-eqb ((getD words 4 0 + 1) % 32) 0 not-full)) (λ e. omega arith) in
+          rw (← continued-into ((getD words 3 0 + 1) % n) (pushOf (getD words 5 0) s) (getD words 4 0 + 1)) j
 
-        pub joined : getD words 4 0 < n → (getD words 4 0 + 1 ≡ n → ⊥) → ((getD words 4 0 + 1) % 32 ≡ 0 → ⊥) → Left (set (set (set words 5 (pushOf (getD words 5 0) s)) 4 (getD words 4 0 + 1)) 3 ((getD words 3 0 + 1) % n))
-        unfolding receiveOf
-        joined l not-last not-full =
-            let j = not-whole-left (continuedOf (registerIn words) (pushOf (getD words 5 0) s) (getD words 4 0 + 1)) (rw (shut, ne-eqb (getD words 4 0) 0 some, lt-leb n (getD words 4 0) l, ne-eqb ((getD words 4 0 + 1) % 32) 0 not-full)) not-last in
-            rw (← continued-into ((getD words 3 0 + 1) % n) (pushOf (getD words 5 0) s) (getD words 4 0 + 1)) j
+      pub continued : getD words 4 0 < n - 1 → (getD words 4 0 % 32 ≡ 31 → ⊥) → Left (set (set (set words 5 (pushOf (getD words 5 0) s)) 4 (cond (eqb (getD words 4 0) 0) 0 (getD words 4 0 + 1))) 3 ((getD words 3 0 + 1) % n))
+      continued l not-full =
+          by-test (eqb (getD words 4 0) 0)
+          (λ y. rw y (none-under-way (eqb-true (getD words 4 0) 0 y)))
+          (λ m. rw m (joined (eqb-false (getD words 4 0) 0 m) (omega arith) (λ e. not-full (omega arith))))
+
+      pub after-whole : n ≤ getD words 4 0 → Left (registerInto words ((getD words 3 0 + 1) % n) (begunOf (pushOf (getD words 5 0) s) 0 0))
+      unfolding receiveOf
+      after-whole l =
+          let b = size-range f in
+          let z = at .size-is in
+          not-whole-left (begunOf (pushOf (getD words 5 0) s) 0 0) (rw (shut, ne-eqb (getD words 4 0) 0 (λ e. omega arith), le-leb n (getD words 4 0) l)) (λ e. omega arith)
 
 pub ready-place : (words : List ℕ) (n : ℕ) → Ready words n → (getD words 3 0 < n) × (n ≤ 100)
 ready-place words n at = let b = size-range (formatIn (getD words 0 0) (getD words 1 0)) in let z = at .size-is in (at .inside, omega arith)

@@ -1,15 +1,18 @@
 // One Feed of a reader's fourteen words. Most symbols bring nothing and end no frame: for them the words that change are stored, and no reader is unpacked.
 // Every other Feed goes by value: the end of a frame, each 32nd symbol of it, and what is refused.
 ghost use mathlib.Core.Path.{_≡_};
+ghost use mathlib.Core.Bool.{cond, _&&_};
+ghost use Prim.Native.Nat.{_+_, _<_, _≤_};
+ghost use lib.Dec.{leb, eqb};
 ghost use lib.ListN.{set};
+ghost use Rattle.timecode.specs.Formats.{isSymbol};
+ghost use Rattle.timecode.specs.Stream.{isSetting};
 ghost use Rattle.register.specs.Receiving.{begunOf};
 ghost use Rattle.ffi.specs.Structs.{feedResultOf};
 ghost use Rattle.reader_words.specs.Words.{byteIn, registerInto, feedWords, wordsLeft};
-ghost use Rattle.word_feed.specs.InPlace.{formatIn, timeFits, readySize};
+ghost use Rattle.word_feed.specs.InPlace.{formatIn, knownSize, timeFits, Ready};
 use ffi::FeedResult;
 use ffi::feed_result;
-use layout::frame_size;
-use layout::is_known;
 use reader_words::byte_in;
 use reader_words::put_fed;
 use reader_words::reader_in;
@@ -17,11 +20,25 @@ use register::opens_frame;
 use register::push;
 use register::row_before;
 use stream::feed;
-use stream::is_setting;
 use stream::place_after;
 use timecode::Answer;
 use timecode::Format;
 use timecode::SPOILED;
+
+// The letters as words.
+const A: u64 = 65;
+
+const B: u64 = 66;
+
+const D: u64 = 68;
+
+const E: u64 = 69;
+
+const G: u64 = 71;
+
+const H: u64 = 72;
+
+const X: u64 = 88;
 
 fn format_in(letter: u64, expression: u64) -> Format
     ensures { λ r. ⌜ r ≡ formatIn letter expression ⌝ }
@@ -30,6 +47,58 @@ fn format_in(letter: u64, expression: u64) -> Format
         letter: byte_in(letter),
         expression: byte_in(expression),
     }
+}
+
+// n for the expressions from the first to the last, 0 for any other.
+fn size_within(first: u64, last: u64, expression: u64, n: u64) -> u64
+    ensures { λ r. ⌜ r ≡ cond (leb first expression && leb expression last) n 0 ⌝ }
+{
+    if first <= expression {
+        if expression <= last {
+            return n;
+        }
+    }
+    0
+}
+
+// n of a known format, 0 for any other. Every Feed asks this: the words are compared as they are, and no row is looked up.
+fn known_size(letter: u64, expression: u64) -> u64
+    ensures { λ r. ⌜ r ≡ knownSize letter expression ⌝ }
+{
+    if letter == X {
+        return size_within(2, 2, expression, 25);
+    }
+    if letter == A {
+        return size_within(0, 7, expression, 100);
+    }
+    if letter == B {
+        return size_within(0, 7, expression, 100);
+    }
+    if letter == D {
+        return size_within(1, 2, expression, 60);
+    }
+    if letter == E {
+        return size_within(1, 2, expression, 100);
+    }
+    if letter == G {
+        return size_within(1, 2, expression, 100);
+    }
+    if letter == H {
+        return size_within(1, 2, expression, 60);
+    }
+    0
+}
+
+// Numbers 26 and 4 pass.
+fn passes(setting: u64, symbol: u8) -> bool
+    ensures { λ r. ⌜ r ≡ (isSetting (byteIn setting) && isSymbol symbol) ⌝ }
+{
+    if 2 <= setting {
+        if setting <= 5 {
+            return symbol <= SPOILED;
+        }
+    }
+    false
 }
 
 fn time_fits(year: u64, day: u64, hundredths: u64) -> bool
@@ -41,32 +110,6 @@ fn time_fits(year: u64, day: u64, hundredths: u64) -> bool
         }
     }
     false
-}
-
-// n where 13 and 26 pass and the time's words fit their widths, else 0.
-fn ready_size(
-    letter: u64,
-    expression: u64,
-    setting: u64,
-    place: u64,
-    year: u64,
-    day: u64,
-    hundredths: u64,
-) -> usize
-    ensures { λ r. ⌜ r ≡ readySize letter expression setting place year day hundredths ⌝ }
-{
-    let format = format_in(letter, expression);
-    if is_known(format) {
-        let n = frame_size(format);
-        if (place as usize) < n {
-            if is_setting(byte_in(setting)) {
-                if time_fits(year, day, hundredths) {
-                    return n;
-                }
-            }
-        }
-    }
-    0
 }
 
 fn put_begun(reader: &mut [u64; 14], place: u64, newest: u64, count: u64, row: u64)
@@ -89,54 +132,66 @@ fn put_continued(reader: &mut [u64; 14], place: u64, newest: u64, count: u64)
     reader[3] = place;
 }
 
-fn feed_by_value(reader: &mut [u64; 14], symbol: u8) -> FeedResult
-    ensures { λ r. ⌜ r ≡ feedResultOf (feedWords (now (reader .entry)) symbol .answer) ⌝ }
+// One symbol more, where a frame is under way.
+fn count_after(count: u64) -> u64
+    requires { ⌜ count < 100 ⌝ }
+    ensures { λ r. ⌜ r ≡ cond (eqb count 0) 0 (count + 1) ⌝ }
+{
+    if count == 0 {
+        return 0;
+    }
+    count + 1
+}
+
+fn feed_by_value(reader: &mut [u64; 14], symbol: u8) -> Answer
+    ensures { λ r. ⌜ r ≡ feedWords (now (reader .entry)) symbol .answer ⌝ }
     ensures { λ _. ⌜ now (reader .exit) ≡ wordsLeft (feedWords (now (reader .entry)) symbol) (now (reader .entry)) ⌝ }
 {
     let fed = feed(reader_in(*reader), symbol);
     let next = fed.reader;
     let answer = fed.answer;
-    put_fed(next, answer, reader)
+    put_fed(next, answer, reader);
+    answer
+}
+
+// A symbol that passes, fed to words that do.
+fn feed_ready(reader: &mut [u64; 14], symbol: u8, n: u64) -> FeedResult
+    requires { ⌜ Ready (now reader) n × (symbol ≤ 3) ⌝ }
+    ensures { λ r. ⌜ r ≡ feedResultOf (feedWords (now (reader .entry)) symbol .answer) ⌝ }
+    ensures { λ _. ⌜ now (reader .exit) ≡ wordsLeft (feedWords (now (reader .entry)) symbol) (now (reader .entry)) ⌝ }
+{
+    let place = place_after(reader[3] as usize, n as usize) as u64;
+    let count = reader[4];
+    let newest = push(reader[5], symbol);
+    if opens_frame(format_in(reader[0], reader[1]), reader[5], symbol) {
+        let row = row_before(count == n, reader[9] as usize) as u64;
+        put_begun(reader, place, newest, 1, row);
+        return feed_result(Answer::Quiet);
+    }
+    if count < n - 1 {
+        if count % 32 != 31 {
+            put_continued(reader, place, newest, count_after(count));
+            return feed_result(Answer::Quiet);
+        }
+    }
+    if n <= count {
+        put_begun(reader, place, newest, 0, 0);
+        return feed_result(Answer::Quiet);
+    }
+    feed_result(feed_by_value(reader, symbol))
 }
 
 pub fn feed_words(reader: &mut [u64; 14], symbol: u8) -> FeedResult
     ensures { λ r. ⌜ r ≡ feedResultOf (feedWords (now (reader .entry)) symbol .answer) ⌝ }
     ensures { λ _. ⌜ now (reader .exit) ≡ wordsLeft (feedWords (now (reader .entry)) symbol) (now (reader .entry)) ⌝ }
 {
-    let n = ready_size(
-        reader[0],
-        reader[1],
-        reader[2],
-        reader[3],
-        reader[10],
-        reader[11],
-        reader[12],
-    );
-    if n != 0 {
-        if symbol <= SPOILED {
-            let place = place_after(reader[3] as usize, n) as u64;
-            let count = reader[4];
-            let newest = push(reader[5], symbol);
-            if opens_frame(format_in(reader[0], reader[1]), reader[5], symbol) {
-                let row = row_before(count == n as u64, reader[9] as usize) as u64;
-                put_begun(reader, place, newest, 1, row);
-                return feed_result(Answer::Quiet);
-            }
-            if count == 0 {
-                put_continued(reader, place, newest, 0);
-                return feed_result(Answer::Quiet);
-            }
-            if n as u64 <= count {
-                put_begun(reader, place, newest, 0, 0);
-                return feed_result(Answer::Quiet);
-            }
-            if count + 1 != n as u64 {
-                if (count + 1) % 32 != 0 {
-                    put_continued(reader, place, newest, count + 1);
-                    return feed_result(Answer::Quiet);
-                }
+    let n = known_size(reader[0], reader[1]);
+    if reader[3] < n {
+        if passes(reader[2], symbol) {
+            if time_fits(reader[10], reader[11], reader[12]) {
+                return feed_ready(reader, symbol, n);
             }
         }
     }
-    feed_by_value(reader, symbol)
+    feed_result(feed_by_value(reader, symbol))
 }

@@ -1,159 +1,71 @@
--- `feed_words` meets its contract: stored by cases where no frame becomes whole, else by value.
+-- `feed_words` meets its contract: words that pass are fed as they are, any other by value.
 use borrow.Author.Needs.{needs}
 use mathlib.Core.Path.{sym, _∙_}
-use Rattle.word_feed.specs.InPlace.{ready, ready-place, opened, none-under-way, after-whole, joined}
+use Rattle.word_feed.specs.InPlace.{ready}
 use Rattle.word_feed.proofs.feed_words.Statement.{statement}
 use Rattle.word_feed.proofs.feed_words.Tie as tie
 
-element-copy-out-ready-size : tie.Need-element-copy-out-ready-size
-element-copy-out-ready-size c = search needs
+element-copy-out-known-size : tie.Need-element-copy-out-known-size
+element-copy-out-known-size c = search needs
 
-element-copy-out-ready-size-2 : tie.Need-element-copy-out-ready-size-2
-element-copy-out-ready-size-2 c = search needs
+element-copy-out-known-size-2 : tie.Need-element-copy-out-known-size-2
+element-copy-out-known-size-2 c = search needs
 
-element-copy-out-ready-size-3 : tie.Need-element-copy-out-ready-size-3
-element-copy-out-ready-size-3 c = search needs
+known-size-requires : tie.Need-known-size-requires
+known-size-requires c κs = search needs
 
-element-copy-out-ready-size-4 : tie.Need-element-copy-out-ready-size-4
-element-copy-out-ready-size-4 c = search needs
+element-copy-out-if1 : tie.Need-element-copy-out-if1
+element-copy-out-if1 c = search needs
 
-element-copy-out-ready-size-5 : tie.Need-element-copy-out-ready-size-5
-element-copy-out-ready-size-5 c = search needs
+element-copy-out-passes : tie.Need-element-copy-out-passes
+element-copy-out-passes c = search needs
 
-element-copy-out-ready-size-6 : tie.Need-element-copy-out-ready-size-6
-element-copy-out-ready-size-6 c = search needs
+passes-requires : tie.Need-passes-requires
+passes-requires c κs = search needs
 
-element-copy-out-ready-size-7 : tie.Need-element-copy-out-ready-size-7
-element-copy-out-ready-size-7 c = search needs
+element-copy-out-time-fits : tie.Need-element-copy-out-time-fits
+element-copy-out-time-fits c = search needs
 
-ready-size-requires : tie.Need-ready-size-requires
-ready-size-requires c κs = search needs
+element-copy-out-time-fits-2 : tie.Need-element-copy-out-time-fits-2
+element-copy-out-time-fits-2 c = search needs
 
-element-copy-out-place-after : tie.Need-element-copy-out-place-after
-element-copy-out-place-after c = search needs
+element-copy-out-time-fits-3 : tie.Need-element-copy-out-time-fits-3
+element-copy-out-time-fits-3 c = search needs
 
-place-after-requires : tie.Need-place-after-requires
-place-after-requires c κs = ready-place (c .before .before .before .before .before .before .before .before .before .before .before .args .reader .now) (c .before .before .before .ready-size .result) (ready (c .before .before .before .before .before .before .before .before .before .before .before .args .reader .now) (c .before .before .before .ready-size .result) (c .before .before .before .ready-size .ensures) (c .before .before .if1 .taken))
+time-fits-requires : tie.Need-time-fits-requires
+time-fits-requires c κs = search needs
 
-element-copy-out-count : tie.Need-element-copy-out-count
-element-copy-out-count c = search needs
-
-element-copy-out-push : tie.Need-element-copy-out-push
-element-copy-out-push c = search needs
-
-push-requires : tie.Need-push-requires
-push-requires c κs = search needs
-
-element-copy-out-format-in : tie.Need-element-copy-out-format-in
-element-copy-out-format-in c = search needs
-
-element-copy-out-format-in-2 : tie.Need-element-copy-out-format-in-2
-element-copy-out-format-in-2 c = search needs
-
-format-in-requires : tie.Need-format-in-requires
-format-in-requires c κs = search needs
-
-element-copy-out-opens-frame : tie.Need-element-copy-out-opens-frame
-element-copy-out-opens-frame c = search needs
-
-opens-frame-requires : tie.Need-opens-frame-requires
-opens-frame-requires c κs = search needs
-
-element-copy-out-row-before : tie.Need-element-copy-out-row-before
-element-copy-out-row-before c = search needs
-
-row-before-requires : tie.Need-row-before-requires
-row-before-requires c κs = search needs
-
-put-begun-requires : tie.Need-put-begun-requires
-put-begun-requires c κs = search needs
-
-feed-result-requires : tie.Need-feed-result-requires
-feed-result-requires c κs = search needs
+feed-ready-requires : tie.Need-feed-ready-requires
+feed-ready-requires c κs = ready (c .before .before .before .before .before .before .before .before .before .before .before .before .before .before .args .reader .now) (c .before .before .before .before .before .before .before .before .before .before .before .before .before .before .args .symbol) (c .before .before .before .before .before .before .before .before .before .before .before .known-size .result) (c .before .before .before .before .before .before .before .before .before .before .before .known-size .ensures) (c .before .before .before .before .before .before .before .before .before .if1 .taken) (sym (c .before .before .before .before .before .before .before .passes .ensures) ∙ c .before .before .before .before .before .before .if2 .taken) (sym (c .before .before .time-fits .ensures) ∙ c .before .if3 .taken)
 
 returns : tie.Need-returns
-returns c = rw (c .feed-result .ensures, c .before .put-begun .ensures, c .before .before .before .before .before .before .before .before .before .before .before .before .before .before .place-after .ensures, c .before .before .before .before .before .before .before .before .before .before .before .push .ensures, c .before .before .before .row-before .ensures) (opened (c .before .before .before .before .before .before .before .before .before .before .before .before .before .before .before .before .before .before .before .before .before .before .before .before .before .before .args .reader .now) (c .before .before .before .before .before .before .before .before .before .before .before .before .before .before .before .before .before .before .before .before .before .before .before .before .before .before .args .symbol) (c .before .before .before .before .before .before .before .before .before .before .before .before .before .before .before .before .before .before .ready-size .result) (ready (c .before .before .before .before .before .before .before .before .before .before .before .before .before .before .before .before .before .before .before .before .before .before .before .before .before .before .args .reader .now) (c .before .before .before .before .before .before .before .before .before .before .before .before .before .before .before .before .before .before .ready-size .result) (c .before .before .before .before .before .before .before .before .before .before .before .before .before .before .before .before .before .before .ready-size .ensures) (c .before .before .before .before .before .before .before .before .before .before .before .before .before .before .before .before .before .if1 .taken)) (c .before .before .before .before .before .before .before .before .before .before .before .before .before .before .before .before .if2 .taken) (rw (← c .before .before .before .before .before .before .before .before .format-in .ensures) (sym (c .before .before .before .before .before .before .opens-frame .ensures) ∙ c .before .before .before .before .before .if3 .taken)))
-
-put-continued-requires : tie.Need-put-continued-requires
-put-continued-requires c κs = search needs
-
-feed-result-requires-2 : tie.Need-feed-result-requires-2
-feed-result-requires-2 c κs = search needs
-
-returns-2 : tie.Need-returns-2
-returns-2 c = rw (c .feed-result2 .ensures, c .before .put-continued .ensures, c .before .before .before .before .before .before .before .before .before .before .before .before .before .place-after .ensures, c .before .before .before .before .before .before .before .before .before .before .push .ensures) (none-under-way (c .before .before .before .before .before .before .before .before .before .before .before .before .before .before .before .before .before .before .before .before .before .before .before .before .before .args .reader .now) (c .before .before .before .before .before .before .before .before .before .before .before .before .before .before .before .before .before .before .before .before .before .before .before .before .before .args .symbol) (c .before .before .before .before .before .before .before .before .before .before .before .before .before .before .before .before .before .ready-size .result) (ready (c .before .before .before .before .before .before .before .before .before .before .before .before .before .before .before .before .before .before .before .before .before .before .before .before .before .args .reader .now) (c .before .before .before .before .before .before .before .before .before .before .before .before .before .before .before .before .before .ready-size .result) (c .before .before .before .before .before .before .before .before .before .before .before .before .before .before .before .before .before .ready-size .ensures) (c .before .before .before .before .before .before .before .before .before .before .before .before .before .before .before .before .if1 .taken)) (c .before .before .before .before .before .before .before .before .before .before .before .before .before .before .before .if2 .taken) (rw (← c .before .before .before .before .before .before .before .format-in .ensures) (sym (c .before .before .before .before .before .opens-frame .ensures) ∙ c .before .before .before .before .if3 .left)) (c .before .before .before .if4 .taken))
-
-put-begun-requires-2 : tie.Need-put-begun-requires-2
-put-begun-requires-2 c κs = search needs
-
-feed-result-requires-3 : tie.Need-feed-result-requires-3
-feed-result-requires-3 c κs = search needs
-
-returns-3 : tie.Need-returns-3
-returns-3 c = rw (c .feed-result3 .ensures, c .before .put-begun2 .ensures, c .before .before .before .before .before .before .before .before .before .before .before .before .before .before .place-after .ensures, c .before .before .before .before .before .before .before .before .before .before .before .push .ensures) (after-whole (c .before .before .before .before .before .before .before .before .before .before .before .before .before .before .before .before .before .before .before .before .before .before .before .before .before .before .args .reader .now) (c .before .before .before .before .before .before .before .before .before .before .before .before .before .before .before .before .before .before .before .before .before .before .before .before .before .before .args .symbol) (c .before .before .before .before .before .before .before .before .before .before .before .before .before .before .before .before .before .before .ready-size .result) (ready (c .before .before .before .before .before .before .before .before .before .before .before .before .before .before .before .before .before .before .before .before .before .before .before .before .before .before .args .reader .now) (c .before .before .before .before .before .before .before .before .before .before .before .before .before .before .before .before .before .before .ready-size .result) (c .before .before .before .before .before .before .before .before .before .before .before .before .before .before .before .before .before .before .ready-size .ensures) (c .before .before .before .before .before .before .before .before .before .before .before .before .before .before .before .before .before .if1 .taken)) (c .before .before .before .before .before .before .before .before .before .before .before .before .before .before .before .before .if2 .taken) (rw (← c .before .before .before .before .before .before .before .before .format-in .ensures) (sym (c .before .before .before .before .before .before .opens-frame .ensures) ∙ c .before .before .before .before .before .if3 .left)) (c .before .before .before .before .if4 .left) (c .before .before .before .if5 .taken))
-
-add-if6 : tie.Need-add-if6
-add-if6 c = search needs
-
-add-if7 : tie.Need-add-if7
-add-if7 c = search needs
-
-add-put-continued : tie.Need-add-put-continued
-add-put-continued c = search needs
-
-put-continued-requires-2 : tie.Need-put-continued-requires-2
-put-continued-requires-2 c κs = search needs
-
-feed-result-requires-4 : tie.Need-feed-result-requires-4
-feed-result-requires-4 c κs = search needs
-
-returns-4 : tie.Need-returns-4
-returns-4 c = rw (c .feed-result4 .ensures, c .before .put-continued2 .ensures, c .before .before .before .before .before .before .before .before .before .before .before .before .before .before .before .before .place-after .ensures, c .before .before .before .before .before .before .before .before .before .before .before .before .before .push .ensures) (joined (c .before .before .before .before .before .before .before .before .before .before .before .before .before .before .before .before .before .before .before .before .before .before .before .before .before .before .before .before .args .reader .now) (c .before .before .before .before .before .before .before .before .before .before .before .before .before .before .before .before .before .before .before .before .before .before .before .before .before .before .before .before .args .symbol) (c .before .before .before .before .before .before .before .before .before .before .before .before .before .before .before .before .before .before .before .before .ready-size .result) (ready (c .before .before .before .before .before .before .before .before .before .before .before .before .before .before .before .before .before .before .before .before .before .before .before .before .before .before .before .before .args .reader .now) (c .before .before .before .before .before .before .before .before .before .before .before .before .before .before .before .before .before .before .before .before .ready-size .result) (c .before .before .before .before .before .before .before .before .before .before .before .before .before .before .before .before .before .before .before .before .ready-size .ensures) (c .before .before .before .before .before .before .before .before .before .before .before .before .before .before .before .before .before .before .before .if1 .taken)) (c .before .before .before .before .before .before .before .before .before .before .before .before .before .before .before .before .before .before .if2 .taken) (rw (← c .before .before .before .before .before .before .before .before .before .before .format-in .ensures) (sym (c .before .before .before .before .before .before .before .before .opens-frame .ensures) ∙ c .before .before .before .before .before .before .before .if3 .left)) (c .before .before .before .before .before .before .if4 .left) (c .before .before .before .before .before .if5 .left) (c .before .before .before .before .if6 .taken) (c .before .before .before .if7 .taken))
+returns c = search needs
 
 feed-by-value-requires : tie.Need-feed-by-value-requires
 feed-by-value-requires c κs = search needs
 
-returns-5 : tie.Need-returns-5
-returns-5 c = search needs
+feed-result-requires : tie.Need-feed-result-requires
+feed-result-requires c κs = search needs
+
+returns-2 : tie.Need-returns-2
+returns-2 c = (rw (← c .before .feed-by-value .ensures .0) (c .feed-result .ensures), c .before .feed-by-value .ensures .1)
 
 pub feed-words-spec : {M : Type 1} → statement M
 feed-words-spec =
     tie.close
     (tie.spec
-    element-copy-out-ready-size
-    element-copy-out-ready-size-2
-    element-copy-out-ready-size-3
-    element-copy-out-ready-size-4
-    element-copy-out-ready-size-5
-    element-copy-out-ready-size-6
-    element-copy-out-ready-size-7
-    ready-size-requires
-    element-copy-out-place-after
-    place-after-requires
-    element-copy-out-count
-    element-copy-out-push
-    push-requires
-    element-copy-out-format-in
-    element-copy-out-format-in-2
-    format-in-requires
-    element-copy-out-opens-frame
-    opens-frame-requires
-    element-copy-out-row-before
-    row-before-requires
-    put-begun-requires
-    feed-result-requires
+    element-copy-out-known-size
+    element-copy-out-known-size-2
+    known-size-requires
+    element-copy-out-if1
+    element-copy-out-passes
+    passes-requires
+    element-copy-out-time-fits
+    element-copy-out-time-fits-2
+    element-copy-out-time-fits-3
+    time-fits-requires
+    feed-ready-requires
     returns
-    put-continued-requires
-    feed-result-requires-2
-    returns-2
-    put-begun-requires-2
-    feed-result-requires-3
-    returns-3
-    add-if6
-    add-if7
-    add-put-continued
-    put-continued-requires-2
-    feed-result-requires-4
-    returns-4
     feed-by-value-requires
-    returns-5)
+    feed-result-requires
+    returns-2)

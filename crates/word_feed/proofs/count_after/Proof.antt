@@ -1,0 +1,17 @@
+-- `count_after` meets its contract.
+use borrow.Author.Needs.{needs}
+use borrow.Author.Tests.{eq-eqb, ne-eqb}
+use Rattle.word_feed.proofs.count_after.Statement.{statement}
+use Rattle.word_feed.proofs.count_after.Tie as tie
+
+returns : tie.Need-returns
+returns c = rw (eq-eqb _ _ (c .if1 .taken))
+
+add-result : tie.Need-add-result
+add-result c = search needs
+
+returns-2 : tie.Need-returns-2
+returns-2 c = rw (ne-eqb _ _ (c .if1 .left))
+
+pub count-after-spec : {M : Type 1} → statement M
+count-after-spec = tie.close (tie.spec returns add-result returns-2)

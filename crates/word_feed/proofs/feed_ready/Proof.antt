@@ -1,0 +1,116 @@
+-- `feed_ready` meets its contract: stored by cases where no frame becomes whole, else by value.
+use borrow.Author.Needs.{needs}
+use mathlib.Core.Path.{sym, _∙_}
+use native.Mathlib.Omega.{arith}
+use Rattle.word_feed.specs.InPlace.{ready-place, opened, continued, after-whole}
+use Rattle.word_feed.proofs.feed_ready.Statement.{statement}
+use Rattle.word_feed.proofs.feed_ready.Tie as tie
+
+element-copy-out-place-after : tie.Need-element-copy-out-place-after
+element-copy-out-place-after c = search needs
+
+place-after-requires : tie.Need-place-after-requires
+place-after-requires c κs = ready-place (c .before .args .reader .now) (c .before .args .n) (c .before .pre .0)
+
+element-copy-out-count : tie.Need-element-copy-out-count
+element-copy-out-count c = search needs
+
+element-copy-out-push : tie.Need-element-copy-out-push
+element-copy-out-push c = search needs
+
+push-requires : tie.Need-push-requires
+push-requires c κs = search needs
+
+element-copy-out-format-in : tie.Need-element-copy-out-format-in
+element-copy-out-format-in c = search needs
+
+element-copy-out-format-in-2 : tie.Need-element-copy-out-format-in-2
+element-copy-out-format-in-2 c = search needs
+
+format-in-requires : tie.Need-format-in-requires
+format-in-requires c κs = search needs
+
+element-copy-out-opens-frame : tie.Need-element-copy-out-opens-frame
+element-copy-out-opens-frame c = search needs
+
+opens-frame-requires : tie.Need-opens-frame-requires
+opens-frame-requires c κs = search needs
+
+element-copy-out-row-before : tie.Need-element-copy-out-row-before
+element-copy-out-row-before c = search needs
+
+row-before-requires : tie.Need-row-before-requires
+row-before-requires c κs = search needs
+
+put-begun-requires : tie.Need-put-begun-requires
+put-begun-requires c κs = search needs
+
+feed-result-requires : tie.Need-feed-result-requires
+feed-result-requires c κs = search needs
+
+returns : tie.Need-returns
+returns c = rw (c .feed-result .ensures, c .before .put-begun .ensures, c .before .before .before .before .before .before .before .before .before .before .before .before .before .before .place-after .ensures, c .before .before .before .before .before .before .before .before .before .before .before .push .ensures, c .before .before .before .row-before .ensures) (opened (c .before .before .before .before .before .before .before .before .before .before .before .before .before .before .before .before .args .reader .now) (c .before .before .before .before .before .before .before .before .before .before .before .before .before .before .before .before .args .symbol) (c .before .before .before .before .before .before .before .before .before .before .before .before .before .before .before .before .args .n) (c .before .before .before .before .before .before .before .before .before .before .before .before .before .before .before .before .pre .0) (c .before .before .before .before .before .before .before .before .before .before .before .before .before .before .before .before .pre .1) (rw (← c .before .before .before .before .before .before .before .before .format-in .ensures) (sym (c .before .before .before .before .before .before .opens-frame .ensures) ∙ c .before .before .before .before .before .if1 .taken)))
+
+sub-if2 : tie.Need-sub-if2
+sub-if2 c = search needs
+
+count-after-requires : tie.Need-count-after-requires
+count-after-requires c κs = omega (arith, ready-place (c .before .before .before .before .before .before .before .before .before .before .before .before .before .before .args .reader .now) (c .before .before .before .before .before .before .before .before .before .before .before .before .before .before .args .n) (c .before .before .before .before .before .before .before .before .before .before .before .before .before .before .pre .0), c .before .before .if2 .taken)
+
+put-continued-requires : tie.Need-put-continued-requires
+put-continued-requires c κs = search needs
+
+feed-result-requires-2 : tie.Need-feed-result-requires-2
+feed-result-requires-2 c κs = search needs
+
+returns-2 : tie.Need-returns-2
+returns-2 c = rw (c .feed-result2 .ensures, c .before .put-continued .ensures, c .before .before .before .before .before .before .before .before .before .before .before .before .before .before .before .place-after .ensures, c .before .before .before .before .before .before .before .before .before .before .before .before .push .ensures, c .before .before .count-after .ensures) (continued (c .before .before .before .before .before .before .before .before .before .before .before .before .before .before .before .before .before .args .reader .now) (c .before .before .before .before .before .before .before .before .before .before .before .before .before .before .before .before .before .args .symbol) (c .before .before .before .before .before .before .before .before .before .before .before .before .before .before .before .before .before .args .n) (c .before .before .before .before .before .before .before .before .before .before .before .before .before .before .before .before .before .pre .0) (c .before .before .before .before .before .before .before .before .before .before .before .before .before .before .before .before .before .pre .1) (rw (← c .before .before .before .before .before .before .before .before .before .format-in .ensures) (sym (c .before .before .before .before .before .before .before .opens-frame .ensures) ∙ c .before .before .before .before .before .before .if1 .left)) (c .before .before .before .before .before .if2 .taken) (c .before .before .before .before .if3 .taken))
+
+put-begun-requires-2 : tie.Need-put-begun-requires-2
+put-begun-requires-2 c κs = search needs
+
+feed-result-requires-3 : tie.Need-feed-result-requires-3
+feed-result-requires-3 c κs = search needs
+
+returns-3 : tie.Need-returns-3
+returns-3 c = rw (c .feed-result3 .ensures, c .before .put-begun2 .ensures, c .before .before .before .before .before .before .before .before .before .before .before .before .before .before .place-after .ensures, c .before .before .before .before .before .before .before .before .before .before .before .push .ensures) (after-whole (c .before .before .before .before .before .before .before .before .before .before .before .before .before .before .before .before .args .reader .now) (c .before .before .before .before .before .before .before .before .before .before .before .before .before .before .before .before .args .symbol) (c .before .before .before .before .before .before .before .before .before .before .before .before .before .before .before .before .args .n) (c .before .before .before .before .before .before .before .before .before .before .before .before .before .before .before .before .pre .0) (c .before .before .before .before .before .before .before .before .before .before .before .before .before .before .before .before .pre .1) (rw (← c .before .before .before .before .before .before .before .before .format-in .ensures) (sym (c .before .before .before .before .before .before .opens-frame .ensures) ∙ c .before .before .before .before .before .if1 .left)) (c .before .before .before .if4 .taken))
+
+feed-by-value-requires : tie.Need-feed-by-value-requires
+feed-by-value-requires c κs = search needs
+
+feed-result-requires-4 : tie.Need-feed-result-requires-4
+feed-result-requires-4 c κs = search needs
+
+returns-4 : tie.Need-returns-4
+returns-4 c = (rw (← c .before .feed-by-value .ensures .0) (c .feed-result4 .ensures), c .before .feed-by-value .ensures .1)
+
+pub feed-ready-spec : {M : Type 1} → statement M
+feed-ready-spec =
+    tie.close
+    (tie.spec
+    element-copy-out-place-after
+    place-after-requires
+    element-copy-out-count
+    element-copy-out-push
+    push-requires
+    element-copy-out-format-in
+    element-copy-out-format-in-2
+    format-in-requires
+    element-copy-out-opens-frame
+    opens-frame-requires
+    element-copy-out-row-before
+    row-before-requires
+    put-begun-requires
+    feed-result-requires
+    returns
+    sub-if2
+    count-after-requires
+    put-continued-requires
+    feed-result-requires-2
+    returns-2
+    put-begun-requires-2
+    feed-result-requires-3
+    returns-3
+    feed-by-value-requires
+    feed-result-requires-4
+    returns-4)
