@@ -1,3 +1,4 @@
--- Tape is the frame of letter X by its runs; Readings what Read says of one.
+-- Tape is the frame of letter X by its runs; Readings what Read says of one; InWord the same of a frame in a word.
 pub mod Tape
 pub mod Readings
+pub mod InWord

@@ -71,6 +71,9 @@ daytime hours minutes seconds = record { year = 0; day = 1; hundredths = ((hours
 abbrev pub daytimeIn : List ℕ → Time
 daytimeIn frame = daytime (digitOf frame 3 4 + 10 * digitOf frame 1 2) (digitOf frame 10 4 + 10 * digitOf frame 7 3) (digitOf frame 17 4 + 10 * digitOf frame 14 3)
 
+abbrev pub digitsMeaning : ℕ → ℕ → ℕ → ℕ → ℕ → ℕ → Reading
+digitsMeaning ht hu mt mu st su = check Reading.Refused InvalidDigit (isNumber ht hu 23 && (isNumber mt mu 59 && isNumber st su 59)) (Accepted (daytime (hu + 10 * ht) (mu + 10 * mt) (su + 10 * st)) 0)
+
 -- 7, or the time
 abbrev pub meaningOf : List ℕ → Reading
 meaningOf frame = check Reading.Refused InvalidDigit (isDaytime frame) (Accepted (daytimeIn frame) 0)

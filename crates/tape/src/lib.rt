@@ -8,7 +8,8 @@ ghost use Rattle.timecode.specs.Formats.{isX, known};
 ghost use Rattle.timecode.specs.Frames.{written, areSymbols, readOf, Valid};
 ghost use Rattle.timecode.specs.declared.Format.{Format};
 ghost use Rattle.tape.specs.Tape.{DigitPut, RunsPut, numberRuns, numberDigits, blankAt, blank};
-ghost use Rattle.tape.specs.Readings.{digitOf, isNumber, daytime, meaningOf, markFits, elementIs, checkFrom};
+ghost use Rattle.tape.specs.Readings.{digitOf, isNumber, daytime, digitsMeaning, meaningOf, markFits, elementIs, checkFrom};
+ghost use Rattle.tape.specs.InWord.{elementIn, elementsIn};
 use timecode::MARK;
 use timecode::Reading;
 use timecode::Refusal;
@@ -121,16 +122,17 @@ fn time_of(hours: u32, minutes: u32, seconds: u32) -> Time
 }
 
 // What the digits say.
-fn meaning(frame: &[u8]) -> Reading
-    requires { ⌜ length (now frame) ≡ 25 ⌝ }
-    ensures { λ r. ⌜ r ≡ meaningOf (now (frame .entry)) ⌝ }
+fn meaning_of(
+    hour_tens: u32,
+    hour_units: u32,
+    minute_tens: u32,
+    minute_units: u32,
+    second_tens: u32,
+    second_units: u32,
+) -> Reading
+    requires { ⌜ («hour_tens» ≤ 3825) × («hour_units» ≤ 3825) × («minute_tens» ≤ 3825) × («minute_units» ≤ 3825) × («second_tens» ≤ 3825) × («second_units» ≤ 3825) ⌝ }
+    ensures { λ r. ⌜ r ≡ digitsMeaning «hour_tens» «hour_units» «minute_tens» «minute_units» «second_tens» «second_units» ⌝ }
 {
-    let hour_tens = digit_at(frame, 1, 2);
-    let hour_units = digit_at(frame, 3, 4);
-    let minute_tens = digit_at(frame, 7, 3);
-    let minute_units = digit_at(frame, 10, 4);
-    let second_tens = digit_at(frame, 14, 3);
-    let second_units = digit_at(frame, 17, 4);
     if !is_number(hour_tens, hour_units, 23) {
         return Reading::Refused(Refusal::InvalidDigit);
     }
@@ -147,6 +149,20 @@ fn meaning(frame: &[u8]) -> Reading
         time: time_of(hours, minutes, seconds),
         control: 0,
     }
+}
+
+fn meaning(frame: &[u8]) -> Reading
+    requires { ⌜ length (now frame) ≡ 25 ⌝ }
+    ensures { λ r. ⌜ r ≡ meaningOf (now (frame .entry)) ⌝ }
+{
+    meaning_of(
+        digit_at(frame, 1, 2),
+        digit_at(frame, 3, 4),
+        digit_at(frame, 7, 3),
+        digit_at(frame, 10, 4),
+        digit_at(frame, 14, 3),
+        digit_at(frame, 17, 4),
+    )
 }
 
 // A mark stands at 0, and nowhere else.
@@ -213,4 +229,73 @@ pub fn read_tape(frame: &[u8]) -> Reading
         return Reading::Refused(Refusal::UnknownSymbol);
     }
     check_elements(frame, meaning(frame))
+}
+
+// An element of the frame in a word, two bits for each, the last one lowest.
+fn element_in(word: u64, index: usize) -> u8
+    requires { ⌜ index < 25 ⌝ }
+    ensures { λ r. ⌜ r ≡ elementIn word index ⌝ }
+{
+    ((word >> (48 - index * 2)) % 4) as u8
+}
+
+fn digit_in(word: u64, start: usize, width: usize) -> u32
+    requires { ⌜ (start + width ≤ 25) × (width ≤ 4) ⌝ }
+    ensures { λ r. ⌜ (r ≡ digitOf (elementsIn word) start width) × (r ≤ 3825) ⌝ }
+{
+    let mut digit = 0u32;
+    let mut j = 0;
+    while j < width {
+        digit = wide(element_in(word, start + j)) + 2 * digit;
+        j += 1;
+    }
+    digit
+}
+
+fn meaning_in(word: u64) -> Reading
+    ensures { λ r. ⌜ r ≡ meaningOf (elementsIn word) ⌝ }
+{
+    meaning_of(
+        digit_in(word, 1, 2),
+        digit_in(word, 3, 4),
+        digit_in(word, 7, 3),
+        digit_in(word, 10, 4),
+        digit_in(word, 14, 3),
+        digit_in(word, 17, 4),
+    )
+}
+
+// What offends at the lowest index of the frame in a word, or the answer.
+fn check_word(word: u64, answer: Reading) -> Reading
+    ensures { λ r. ⌜ r ≡ checkFrom (elementsIn word) 0 answer ⌝ }
+{
+    let mut index = 0;
+    while index < ELEMENTS {
+        let symbol = element_in(word, index);
+        if !mark_fits(index, symbol) {
+            return Reading::Refused(Refusal::MisplacedMark(index));
+        }
+        if !element_is(index, symbol) {
+            return Reading::Refused(Refusal::InvalidElement(index));
+        }
+        index += 1;
+    }
+    answer
+}
+
+// The bits that are the same in every frame: both of element 0 and of 21-24, the higher one of 1-20; and what they are there, a mark, no
+// mark and nothing spoiled, four spoiled elements.
+const FIXED_BITS: u64 = 0x3_AAAA_AAAA_AAFF;
+
+const FIXED: u64 = 0x2_0000_0000_00FF;
+
+// The time that the elements of the frame in a word say. Where every element fits, one comparison says so.
+pub fn read_word(word: u64) -> Reading
+    ensures { λ r. ⌜ ((f : Format) → isX f ≡ true → known f ≡ true → r ≡ readOf f (elementsIn word)) ⌝ }
+{
+    let answer = meaning_in(word);
+    if word & FIXED_BITS == FIXED {
+        return answer;
+    }
+    check_word(word, answer)
 }
