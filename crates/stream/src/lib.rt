@@ -9,6 +9,7 @@ ghost use Rattle.timecode.specs.Frames.{readOf};
 ghost use Rattle.timecode.specs.Stream.{isSetting};
 ghost use Rattle.following.specs.Following.{rowAfter};
 ghost use Rattle.register.specs.Receiving.{frameOf};
+ghost use Rattle.stream.specs.Tapes.{isTape};
 ghost use Rattle.stream.specs.Feeding.{isValid, madeOf, withRow, withRegister, readerWithReading, whenWhole, withSymbolOf, nextOf, answerAfter, answerOf, feedOf};
 use clock::next_after;
 use frame::read;
@@ -17,6 +18,7 @@ use layout::is_known;
 use register::Register;
 use register::frame_symbols;
 use register::receive;
+use tape::read_word;
 use timecode::Answer;
 use timecode::Format;
 use timecode::Reading;
@@ -141,10 +143,25 @@ fn read_part(format: Format, bytes: &[u8], n: usize) -> Reading
     read(format, &bytes[32..32 + n])
 }
 
+// The frame of letter X, all of which the newest word holds.
+fn is_tape(format: Format, n: usize) -> bool
+    ensures { λ r. ⌜ r ≡ isTape format n ⌝ }
+{
+    if format.letter == b'X' {
+        if format.expression == 2 {
+            return n == 25;
+        }
+    }
+    false
+}
+
 fn read_received(format: Format, register: Register, n: usize) -> Reading
     requires { ⌜ n ≤ 100 ⌝ }
     ensures { λ r. ⌜ r ≡ readOf format (frameOf register n) ⌝ }
 {
+    if is_tape(format, n) {
+        return read_word(register.newest);
+    }
     let bytes = frame_symbols(register, n);
     read_part(format, &bytes, n)
 }
