@@ -1,15 +1,15 @@
 -- One Feed stored in the caller's words by cases: where no frame becomes whole, the symbol brings nothing, and only the place and the register change.
-use mathlib.Core.Path.{_≡_, sym}
+use mathlib.Core.Path.{_≡_, refl, sym, ap, subst, _∙_}
 use mathlib.Core.Bool.{Bool, true, false, cond, _&&_}
 use mathlib.Core.List.{List}
-use Prim.Native.Nat.{ℕ, suc, _+_, _-_, _%_, _<_, _≤_}
+use Prim.Native.Nat.{ℕ, zero, suc, _+_, _*_, _-_, _/_, _%_, _<_, _≤_}
 use native.Mathlib.Nat.{mod-eq-of-lt}
 use native.Mathlib.Omega.{arith}
 use borrow.Author.Tests.{lt-ltb, le-leb, lt-leb, ltb-true, ltb-false, leb-true, eqb-true, eqb-false, eq-eqb, ne-eqb}
 use lib.Dec.{leb, ltb, eqb}
 use lib.ListN.{getD, set}
-use lib.Seq.{set-getD}
-use Rattle.timecode.specs.Formats.{isSymbol, table, lookUp, rowOf, known, size}
+use lib.Seq.{set-getD, getD-set-other}
+use Rattle.timecode.specs.Formats.{A, B, D, E, G, H, X, isSymbol, table, lookUp, rowOf, known, size}
 use Rattle.timecode.specs.Laws.Table.{size-range}
 use Rattle.timecode.specs.Laws.Tests.{by-test, clash, and-left, and-right}
 use Rattle.timecode.specs.Layout.{tabulate}
@@ -18,7 +18,7 @@ use Rattle.timecode.specs.declared.Answer.the-variants.{Quiet}
 use Rattle.timecode.specs.declared.Format.{Format}
 use Rattle.layout.specs.Letters.{in-row, Other, other-row}
 use Rattle.following.specs.Rows.{opensFrame}
-use Rattle.register.specs.Receiving.{pushOf, begunOf, continuedOf, receiveOf}
+use Rattle.register.specs.Receiving.{pushOf, begunOf, continuedOf, withWordOf, receiveOf}
 use Rattle.register.specs.declared.Register.{Register}
 use Rattle.stream.specs.Feeding.{isValid, withRegister, whenWhole, withSymbolOf, nextOf, answerAfter, answerOf, feedOf}
 use Rattle.stream.specs.declared.Reader.{Reader}
@@ -39,6 +39,10 @@ timeFits year day hundredths = ltb year 256 && (ltb day 65536 && ltb hundredths 
 -- n of a known format, else 0
 unfoldable pub knownSize : ℕ → ℕ → ℕ
 knownSize letter expression = cond (known (formatIn letter expression)) (size (formatIn letter expression)) 0
+
+-- n of the letters that take expressions 1 and 2, 0 of any other but A, B and X
+unfoldable pub otherSize : ℕ → ℕ
+otherSize letter = cond (eqb letter D) 60 (cond (eqb letter E) 100 (cond (eqb letter G) 100 (cond (eqb letter H) 60 0)))
 
 -- numbers 13 and 26 pass, and the words of the time fit their widths
 pub record Ready (words : List ℕ) (n : ℕ) : Type 0 where
@@ -99,9 +103,30 @@ no-byte : (l e : ℕ) → ltb l 256 ≡ false → known (formatIn l e) ≡ false
 unfolding byteIn
 no-byte l e n = rw n (no-letter (byteIn e))
 
-pub other-size : (l e : ℕ) → Other l → knownSize l e ≡ 0
+none-size : (l e : ℕ) → Other l → knownSize l e ≡ 0
 unfolding knownSize
-other-size l e o = by-test (ltb l 256) (λ y. rw (other-known l e y o)) (λ n. rw (no-byte l e n))
+none-size l e o = by-test (ltb l 256) (λ y. rw (other-known l e y o)) (λ n. rw (no-byte l e n))
+
+module _ (l e : ℕ) (not-a : l ≡ A → ⊥) (not-b : l ≡ B → ⊥) (not-x : l ≡ X → ⊥) where
+  abbrev Sized : ℕ → Type 0
+  Sized l = knownSize l e ≡ cond (leb 1 e && leb e 2) (otherSize l) 0
+
+  or-else : (k : ℕ) → Sized k → ((l ≡ k → ⊥) → Sized l) → Sized l
+  or-else k h o = by-test (eqb l k) (λ y. subst Sized (sym (eqb-true l k y)) h) (λ n. o (eqb-false l k n))
+
+  pub other-sizes : Sized l
+  unfolding otherSize lookUp table byteIn
+  other-sizes =
+      or-else D (letter-size D e 2 1 2 60 refl refl refl refl (omega arith) (omega arith))
+      (λ not-d.
+      or-else E (letter-size E e 2 1 2 100 refl refl refl refl (omega arith) (omega arith))
+      (λ not-e.
+      or-else G (letter-size G e 2 1 2 100 refl refl refl refl (omega arith) (omega arith))
+      (λ not-g.
+      or-else H (letter-size H e 2 1 2 60 refl refl refl refl (omega arith) (omega arith))
+      (λ not-h.
+      none-size l e (record { not-a = not-a; not-b = not-b; not-d = not-d; not-e = not-e; not-g = not-g; not-h = not-h; not-x = not-x })
+      ∙ rw (ne-eqb l D not-d, ne-eqb l E not-e, ne-eqb l G not-g, ne-eqb l H not-h) (by-test (leb 1 e && leb e 2) (λ y. rw y) (λ n. rw n))))))
 
 pub setting-within : (k : ℕ) → isSetting (byteIn k) ≡ (leb 2 k && leb k 5)
 unfolding isSetting
@@ -168,17 +193,30 @@ module _ (words : List ℕ) (s n : ℕ) (at : Ready words n) where
         let x = next-is (readerIn words) s n h (at .is-known) (at .size-is) (at .inside) (at .is-set) small got not-whole in
         (rw a, rw (a, x) (sym (into-ready ((getD words 3 0 + 1) % n) h)))
 
+    -- a word beside the one that is set is put back as it was
+    as-it-was : (i j x : ℕ) → (j ≡ i → ⊥) → set (set words i x) j (getD words j 0) ≡ set words i x
+    as-it-was i j x other = ap (set (set words i x) j) (sym (getD-set-other words i j x 0 other)) ∙ set-getD (set words i x) j 0
+
     continued-into : (place newest count : ℕ) → registerInto words place (continuedOf (registerIn words) newest count) ≡ set (set (set words 5 newest) 4 count) 3 place
     continued-into place newest count = rw (set-getD words 9 0, set-getD words 8 0, set-getD words 7 0, set-getD words 6 0)
 
-    -- ---- the three ways
+    -- a word that has just become full stands in its place
+    full-into : (place newest count k : ℕ) → 1 ≤ k → k ≤ 3 → count ≡ 32 * k → registerInto words place (withWordOf (registerIn words) newest count) ≡ set (set (set (set words (5 + k) newest) 5 newest) 4 count) 3 place
+    full-into place newest count zero a b e = let no : ⊥ = omega arith in absurd no
+    full-into place newest count (suc zero) a b e = rw (e, set-getD words 9 0, set-getD words 8 0, set-getD words 7 0)
+    full-into place newest count (suc (suc zero)) a b e = rw (e, set-getD words 9 0, set-getD words 8 0) (ap (λ (ws : List ℕ). set (set (set ws 5 newest) 4 64) 3 place) (as-it-was 7 6 newest (λ q. omega arith)))
+    full-into place newest count (suc (suc (suc zero))) a b e =
+        rw (e, set-getD words 9 0) (ap (λ (ws : List ℕ). set (set (set ws 5 newest) 4 96) 3 place) (ap (λ (ws : List ℕ). set ws 6 (getD words 6 0)) (as-it-was 8 7 newest (λ q. omega arith)) ∙ as-it-was 8 6 newest (λ q. omega arith)))
+    full-into place newest count (suc (suc (suc (suc k)))) a b e = let no : ⊥ = omega arith in absurd no
+
+    -- ---- the five ways
 
     pub opened : opensFrame f (getD words 5 0 % 4) s ≡ true → Left (registerInto words ((getD words 3 0 + 1) % n) (begunOf (pushOf (getD words 5 0) s) 1 (cond (eqb (getD words 4 0) n) (getD words 9 0) 0)))
     unfolding receiveOf
     opened o = let b = size-range f in let z = at .size-is in not-whole-left (begunOf (pushOf (getD words 5 0) s) 1 (cond (eqb (getD words 4 0) n) (getD words 9 0) 0)) (rw o) (λ e. omega arith)
 
     module _ (shut : opensFrame f (getD words 5 0 % 4) s ≡ false) where
-      none-under-way : getD words 4 0 ≡ 0 → Left (set (set (set words 5 (pushOf (getD words 5 0) s)) 4 0) 3 ((getD words 3 0 + 1) % n))
+      pub none-under-way : getD words 4 0 ≡ 0 → Left (set (set (set words 5 (pushOf (getD words 5 0) s)) 4 0) 3 ((getD words 3 0 + 1) % n))
       unfolding receiveOf
       none-under-way e =
           let b = size-range f in
@@ -186,17 +224,20 @@ module _ (words : List ℕ) (s n : ℕ) (at : Ready words n) where
           let l = not-whole-left (continuedOf (registerIn words) (pushOf (getD words 5 0) s) 0) (rw (shut, eq-eqb (getD words 4 0) 0 e)) (λ e. omega arith) in
           rw (← continued-into ((getD words 3 0 + 1) % n) (pushOf (getD words 5 0) s) 0) l
 
-      joined : (getD words 4 0 ≡ 0 → ⊥) → getD words 4 0 + 1 < n → ((getD words 4 0 + 1) % 32 ≡ 0 → ⊥) → Left (set (set (set words 5 (pushOf (getD words 5 0) s)) 4 (getD words 4 0 + 1)) 3 ((getD words 3 0 + 1) % n))
-      unfolding receiveOf
-      joined some l not-full =
-          let j = not-whole-left (continuedOf (registerIn words) (pushOf (getD words 5 0) s) (getD words 4 0 + 1)) (rw (shut, ne-eqb (getD words 4 0) 0 some, lt-leb n (getD words 4 0) (omega arith), ne-eqb ((getD words 4 0 + 1) % 32) 0 not-full)) (λ e. omega arith) in
-          rw (← continued-into ((getD words 3 0 + 1) % n) (pushOf (getD words 5 0) s) (getD words 4 0 + 1)) j
+      module _ (some : getD words 4 0 ≡ 0 → ⊥) (inside : getD words 4 0 < n - 1) where
+        pub joined : (getD words 4 0 % 32 ≡ 31 → ⊥) → Left (set (set (set words 5 (pushOf (getD words 5 0) s)) 4 (getD words 4 0 + 1)) 3 ((getD words 3 0 + 1) % n))
+        unfolding receiveOf
+        joined not-full =
+            let j = not-whole-left (continuedOf (registerIn words) (pushOf (getD words 5 0) s) (getD words 4 0 + 1)) (rw (shut, ne-eqb (getD words 4 0) 0 some, lt-leb n (getD words 4 0) (omega arith), ne-eqb ((getD words 4 0 + 1) % 32) 0 (λ e. not-full (omega arith)))) (λ e. omega arith) in
+            rw (← continued-into ((getD words 3 0 + 1) % n) (pushOf (getD words 5 0) s) (getD words 4 0 + 1)) j
 
-      pub continued : getD words 4 0 < n - 1 → (getD words 4 0 % 32 ≡ 31 → ⊥) → Left (set (set (set words 5 (pushOf (getD words 5 0) s)) 4 (cond (eqb (getD words 4 0) 0) 0 (getD words 4 0 + 1))) 3 ((getD words 3 0 + 1) % n))
-      continued l not-full =
-          by-test (eqb (getD words 4 0) 0)
-          (λ y. rw y (none-under-way (eqb-true (getD words 4 0) 0 y)))
-          (λ m. rw m (joined (eqb-false (getD words 4 0) 0 m) (omega arith) (λ e. not-full (omega arith))))
+        pub filled : getD words 4 0 % 32 ≡ 31 → Left (set (set (set (set words (5 + (getD words 4 0 + 1) / 32) (pushOf (getD words 5 0) s)) 5 (pushOf (getD words 5 0) s)) 4 (getD words 4 0 + 1)) 3 ((getD words 3 0 + 1) % n))
+        unfolding receiveOf
+        filled full =
+            let b = size-range f in
+            let z = at .size-is in
+            let w = not-whole-left (withWordOf (registerIn words) (pushOf (getD words 5 0) s) (getD words 4 0 + 1)) (rw (shut, ne-eqb (getD words 4 0) 0 some, lt-leb n (getD words 4 0) (omega arith), eq-eqb ((getD words 4 0 + 1) % 32) 0 (omega arith))) (λ e. omega arith) in
+            rw (← full-into ((getD words 3 0 + 1) % n) (pushOf (getD words 5 0) s) (getD words 4 0 + 1) ((getD words 4 0 + 1) / 32) (omega arith) (omega arith) (omega arith)) w
 
       pub after-whole : n ≤ getD words 4 0 → Left (registerInto words ((getD words 3 0 + 1) % n) (begunOf (pushOf (getD words 5 0) s) 0 0))
       unfolding receiveOf

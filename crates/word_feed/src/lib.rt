@@ -1,16 +1,16 @@
 // One Feed of a reader's fourteen words. Most symbols bring nothing and end no frame: for them the words that change are stored, and no reader is unpacked.
-// Every other Feed goes by value: the end of a frame, each 32nd symbol of it, and what is refused.
+// Every other Feed goes by value: the end of a frame, and what is refused.
 ghost use mathlib.Core.Path.{_≡_};
 ghost use mathlib.Core.Bool.{cond, _&&_};
-ghost use Prim.Native.Nat.{_+_, _<_, _≤_};
-ghost use lib.Dec.{leb, eqb};
+ghost use Prim.Native.Nat.{_+_, _/_, _≤_};
+ghost use lib.Dec.{leb};
 ghost use lib.ListN.{set};
 ghost use Rattle.timecode.specs.Formats.{isSymbol};
 ghost use Rattle.timecode.specs.Stream.{isSetting};
 ghost use Rattle.register.specs.Receiving.{begunOf};
 ghost use Rattle.ffi.specs.Structs.{feedResultOf};
 ghost use Rattle.reader_words.specs.Words.{byteIn, registerInto, feedWords, wordsLeft};
-ghost use Rattle.word_feed.specs.InPlace.{formatIn, knownSize, timeFits, Ready};
+ghost use Rattle.word_feed.specs.InPlace.{formatIn, otherSize, knownSize, timeFits, Ready};
 use ffi::FeedResult;
 use ffi::feed_result;
 use reader_words::byte_in;
@@ -61,6 +61,25 @@ fn size_within(first: u64, last: u64, expression: u64, n: u64) -> u64
     0
 }
 
+// n of the letters that take expressions 1 and 2.
+fn other_size(letter: u64) -> u64
+    ensures { λ r. ⌜ r ≡ otherSize letter ⌝ }
+{
+    if letter == D {
+        return 60;
+    }
+    if letter == E {
+        return 100;
+    }
+    if letter == G {
+        return 100;
+    }
+    if letter == H {
+        return 60;
+    }
+    0
+}
+
 // n of a known format, 0 for any other. Every Feed asks this: the words are compared as they are, and no row is looked up.
 fn known_size(letter: u64, expression: u64) -> u64
     ensures { λ r. ⌜ r ≡ knownSize letter expression ⌝ }
@@ -74,17 +93,10 @@ fn known_size(letter: u64, expression: u64) -> u64
     if letter == B {
         return size_within(0, 7, expression, 100);
     }
-    if letter == D {
-        return size_within(1, 2, expression, 60);
-    }
-    if letter == E {
-        return size_within(1, 2, expression, 100);
-    }
-    if letter == G {
-        return size_within(1, 2, expression, 100);
-    }
-    if letter == H {
-        return size_within(1, 2, expression, 60);
+    if 1 <= expression {
+        if expression <= 2 {
+            return other_size(letter);
+        }
     }
     0
 }
@@ -132,15 +144,15 @@ fn put_continued(reader: &mut [u64; 14], place: u64, newest: u64, count: u64)
     reader[3] = place;
 }
 
-// One symbol more, where a frame is under way.
-fn count_after(count: u64) -> u64
-    requires { ⌜ count < 100 ⌝ }
-    ensures { λ r. ⌜ r ≡ cond (eqb count 0) 0 (count + 1) ⌝ }
+// The symbol fills a word of the frame, its first, second or third 32.
+fn put_full(reader: &mut [u64; 14], place: u64, newest: u64, count: u64)
+    requires { ⌜ (1 ≤ count / 32) × (count / 32 ≤ 3) ⌝ }
+    ensures { λ _. ⌜ now (reader .exit) ≡ set (set (set (set (now (reader .entry)) (5 + count / 32) newest) 5 newest) 4 count) 3 place ⌝ }
 {
-    if count == 0 {
-        return 0;
-    }
-    count + 1
+    reader[5 + (count / 32) as usize] = newest;
+    reader[5] = newest;
+    reader[4] = count;
+    reader[3] = place;
 }
 
 fn feed_by_value(reader: &mut [u64; 14], symbol: u8) -> Answer
@@ -168,11 +180,17 @@ fn feed_ready(reader: &mut [u64; 14], symbol: u8, n: u64) -> FeedResult
         put_begun(reader, place, newest, 1, row);
         return feed_result(Answer::Quiet);
     }
+    if count == 0 {
+        put_continued(reader, place, newest, 0);
+        return feed_result(Answer::Quiet);
+    }
     if count < n - 1 {
         if count % 32 != 31 {
-            put_continued(reader, place, newest, count_after(count));
+            put_continued(reader, place, newest, count + 1);
             return feed_result(Answer::Quiet);
         }
+        put_full(reader, place, newest, count + 1);
+        return feed_result(Answer::Quiet);
     }
     if n <= count {
         put_begun(reader, place, newest, 0, 0);

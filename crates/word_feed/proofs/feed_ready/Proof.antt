@@ -2,7 +2,7 @@
 use borrow.Author.Needs.{needs}
 use mathlib.Core.Path.{sym, _∙_}
 use native.Mathlib.Omega.{arith}
-use Rattle.word_feed.specs.InPlace.{ready-place, opened, continued, after-whole}
+use Rattle.word_feed.specs.InPlace.{ready-place, opened, none-under-way, joined, filled, after-whole}
 use Rattle.word_feed.proofs.feed_ready.Statement.{statement}
 use Rattle.word_feed.proofs.feed_ready.Tie as tie
 
@@ -51,12 +51,6 @@ feed-result-requires c κs = search needs
 returns : tie.Need-returns
 returns c = rw (c .feed-result .ensures, c .before .put-begun .ensures, c .before .before .before .before .before .before .before .before .before .before .before .before .before .before .place-after .ensures, c .before .before .before .before .before .before .before .before .before .before .before .push .ensures, c .before .before .before .row-before .ensures) (opened (c .before .before .before .before .before .before .before .before .before .before .before .before .before .before .before .before .args .reader .now) (c .before .before .before .before .before .before .before .before .before .before .before .before .before .before .before .before .args .symbol) (c .before .before .before .before .before .before .before .before .before .before .before .before .before .before .before .before .args .n) (c .before .before .before .before .before .before .before .before .before .before .before .before .before .before .before .before .pre .0) (c .before .before .before .before .before .before .before .before .before .before .before .before .before .before .before .before .pre .1) (rw (← c .before .before .before .before .before .before .before .before .format-in .ensures) (sym (c .before .before .before .before .before .before .opens-frame .ensures) ∙ c .before .before .before .before .before .if1 .taken)))
 
-sub-if2 : tie.Need-sub-if2
-sub-if2 c = search needs
-
-count-after-requires : tie.Need-count-after-requires
-count-after-requires c κs = omega (arith, ready-place (c .before .before .before .before .before .before .before .before .before .before .before .before .before .before .args .reader .now) (c .before .before .before .before .before .before .before .before .before .before .before .before .before .before .args .n) (c .before .before .before .before .before .before .before .before .before .before .before .before .before .before .pre .0), c .before .before .if2 .taken)
-
 put-continued-requires : tie.Need-put-continued-requires
 put-continued-requires c κs = search needs
 
@@ -64,25 +58,52 @@ feed-result-requires-2 : tie.Need-feed-result-requires-2
 feed-result-requires-2 c κs = search needs
 
 returns-2 : tie.Need-returns-2
-returns-2 c = rw (c .feed-result2 .ensures, c .before .put-continued .ensures, c .before .before .before .before .before .before .before .before .before .before .before .before .before .before .before .place-after .ensures, c .before .before .before .before .before .before .before .before .before .before .before .before .push .ensures, c .before .before .count-after .ensures) (continued (c .before .before .before .before .before .before .before .before .before .before .before .before .before .before .before .before .before .args .reader .now) (c .before .before .before .before .before .before .before .before .before .before .before .before .before .before .before .before .before .args .symbol) (c .before .before .before .before .before .before .before .before .before .before .before .before .before .before .before .before .before .args .n) (c .before .before .before .before .before .before .before .before .before .before .before .before .before .before .before .before .before .pre .0) (c .before .before .before .before .before .before .before .before .before .before .before .before .before .before .before .before .before .pre .1) (rw (← c .before .before .before .before .before .before .before .before .before .format-in .ensures) (sym (c .before .before .before .before .before .before .before .opens-frame .ensures) ∙ c .before .before .before .before .before .before .if1 .left)) (c .before .before .before .before .before .if2 .taken) (c .before .before .before .before .if3 .taken))
+returns-2 c = rw (c .feed-result2 .ensures, c .before .put-continued .ensures, c .before .before .before .before .before .before .before .before .before .before .before .before .before .place-after .ensures, c .before .before .before .before .before .before .before .before .before .before .push .ensures) (none-under-way (c .before .before .before .before .before .before .before .before .before .before .before .before .before .before .before .args .reader .now) (c .before .before .before .before .before .before .before .before .before .before .before .before .before .before .before .args .symbol) (c .before .before .before .before .before .before .before .before .before .before .before .before .before .before .before .args .n) (c .before .before .before .before .before .before .before .before .before .before .before .before .before .before .before .pre .0) (c .before .before .before .before .before .before .before .before .before .before .before .before .before .before .before .pre .1) (rw (← c .before .before .before .before .before .before .before .format-in .ensures) (sym (c .before .before .before .before .before .opens-frame .ensures) ∙ c .before .before .before .before .if1 .left)) (c .before .before .before .if2 .taken))
 
-put-begun-requires-2 : tie.Need-put-begun-requires-2
-put-begun-requires-2 c κs = search needs
+sub-if3 : tie.Need-sub-if3
+sub-if3 c = search needs
+
+add-put-continued : tie.Need-add-put-continued
+add-put-continued c = search needs
+
+put-continued-requires-2 : tie.Need-put-continued-requires-2
+put-continued-requires-2 c κs = search needs
 
 feed-result-requires-3 : tie.Need-feed-result-requires-3
 feed-result-requires-3 c κs = search needs
 
 returns-3 : tie.Need-returns-3
-returns-3 c = rw (c .feed-result3 .ensures, c .before .put-begun2 .ensures, c .before .before .before .before .before .before .before .before .before .before .before .before .before .before .place-after .ensures, c .before .before .before .before .before .before .before .before .before .before .before .push .ensures) (after-whole (c .before .before .before .before .before .before .before .before .before .before .before .before .before .before .before .before .args .reader .now) (c .before .before .before .before .before .before .before .before .before .before .before .before .before .before .before .before .args .symbol) (c .before .before .before .before .before .before .before .before .before .before .before .before .before .before .before .before .args .n) (c .before .before .before .before .before .before .before .before .before .before .before .before .before .before .before .before .pre .0) (c .before .before .before .before .before .before .before .before .before .before .before .before .before .before .before .before .pre .1) (rw (← c .before .before .before .before .before .before .before .before .format-in .ensures) (sym (c .before .before .before .before .before .before .opens-frame .ensures) ∙ c .before .before .before .before .before .if1 .left)) (c .before .before .before .if4 .taken))
+returns-3 c = rw (c .feed-result3 .ensures, c .before .put-continued2 .ensures, c .before .before .before .before .before .before .before .before .before .before .before .before .before .before .before .place-after .ensures, c .before .before .before .before .before .before .before .before .before .before .before .before .push .ensures) (joined (c .before .before .before .before .before .before .before .before .before .before .before .before .before .before .before .before .before .args .reader .now) (c .before .before .before .before .before .before .before .before .before .before .before .before .before .before .before .before .before .args .symbol) (c .before .before .before .before .before .before .before .before .before .before .before .before .before .before .before .before .before .args .n) (c .before .before .before .before .before .before .before .before .before .before .before .before .before .before .before .before .before .pre .0) (c .before .before .before .before .before .before .before .before .before .before .before .before .before .before .before .before .before .pre .1) (rw (← c .before .before .before .before .before .before .before .before .before .format-in .ensures) (sym (c .before .before .before .before .before .before .before .opens-frame .ensures) ∙ c .before .before .before .before .before .before .if1 .left)) (c .before .before .before .before .before .if2 .left) (c .before .before .before .before .if3 .taken) (c .before .before .before .if4 .taken))
 
-feed-by-value-requires : tie.Need-feed-by-value-requires
-feed-by-value-requires c κs = search needs
+add-put-full : tie.Need-add-put-full
+add-put-full c = search needs
+
+put-full-requires : tie.Need-put-full-requires
+put-full-requires c κs = (omega (arith, c .before .if4 .left), omega (arith, c .before .before .if3 .taken, ready-place (c .before .before .before .before .before .before .before .before .before .before .before .before .before .before .before .args .reader .now) (c .before .before .before .before .before .before .before .before .before .before .before .before .before .before .before .args .n) (c .before .before .before .before .before .before .before .before .before .before .before .before .before .before .before .pre .0)))
 
 feed-result-requires-4 : tie.Need-feed-result-requires-4
 feed-result-requires-4 c κs = search needs
 
 returns-4 : tie.Need-returns-4
-returns-4 c = (rw (← c .before .feed-by-value .ensures .0) (c .feed-result4 .ensures), c .before .feed-by-value .ensures .1)
+returns-4 c = rw (c .feed-result4 .ensures, c .before .put-full .ensures, c .before .before .before .before .before .before .before .before .before .before .before .before .before .before .before .place-after .ensures, c .before .before .before .before .before .before .before .before .before .before .before .before .push .ensures) (filled (c .before .before .before .before .before .before .before .before .before .before .before .before .before .before .before .before .before .args .reader .now) (c .before .before .before .before .before .before .before .before .before .before .before .before .before .before .before .before .before .args .symbol) (c .before .before .before .before .before .before .before .before .before .before .before .before .before .before .before .before .before .args .n) (c .before .before .before .before .before .before .before .before .before .before .before .before .before .before .before .before .before .pre .0) (c .before .before .before .before .before .before .before .before .before .before .before .before .before .before .before .before .before .pre .1) (rw (← c .before .before .before .before .before .before .before .before .before .format-in .ensures) (sym (c .before .before .before .before .before .before .before .opens-frame .ensures) ∙ c .before .before .before .before .before .before .if1 .left)) (c .before .before .before .before .before .if2 .left) (c .before .before .before .before .if3 .taken) (c .before .before .before .if4 .left))
+
+put-begun-requires-2 : tie.Need-put-begun-requires-2
+put-begun-requires-2 c κs = search needs
+
+feed-result-requires-5 : tie.Need-feed-result-requires-5
+feed-result-requires-5 c κs = search needs
+
+returns-5 : tie.Need-returns-5
+returns-5 c = rw (c .feed-result5 .ensures, c .before .put-begun2 .ensures, c .before .before .before .before .before .before .before .before .before .before .before .before .before .before .before .place-after .ensures, c .before .before .before .before .before .before .before .before .before .before .before .before .push .ensures) (after-whole (c .before .before .before .before .before .before .before .before .before .before .before .before .before .before .before .before .before .args .reader .now) (c .before .before .before .before .before .before .before .before .before .before .before .before .before .before .before .before .before .args .symbol) (c .before .before .before .before .before .before .before .before .before .before .before .before .before .before .before .before .before .args .n) (c .before .before .before .before .before .before .before .before .before .before .before .before .before .before .before .before .before .pre .0) (c .before .before .before .before .before .before .before .before .before .before .before .before .before .before .before .before .before .pre .1) (rw (← c .before .before .before .before .before .before .before .before .before .format-in .ensures) (sym (c .before .before .before .before .before .before .before .opens-frame .ensures) ∙ c .before .before .before .before .before .before .if1 .left)) (c .before .before .before .if5 .taken))
+
+feed-by-value-requires : tie.Need-feed-by-value-requires
+feed-by-value-requires c κs = search needs
+
+feed-result-requires-6 : tie.Need-feed-result-requires-6
+feed-result-requires-6 c κs = search needs
+
+returns-6 : tie.Need-returns-6
+returns-6 c = (rw (← c .before .feed-by-value .ensures .0) (c .feed-result6 .ensures), c .before .feed-by-value .ensures .1)
 
 pub feed-ready-spec : {M : Type 1} → statement M
 feed-ready-spec =
@@ -103,14 +124,21 @@ feed-ready-spec =
     put-begun-requires
     feed-result-requires
     returns
-    sub-if2
-    count-after-requires
     put-continued-requires
     feed-result-requires-2
     returns-2
-    put-begun-requires-2
+    sub-if3
+    add-put-continued
+    put-continued-requires-2
     feed-result-requires-3
     returns-3
-    feed-by-value-requires
+    add-put-full
+    put-full-requires
     feed-result-requires-4
-    returns-4)
+    returns-4
+    put-begun-requires-2
+    feed-result-requires-5
+    returns-5
+    feed-by-value-requires
+    feed-result-requires-6
+    returns-6)

@@ -2,9 +2,10 @@
 use borrow.Author.Needs.{needs}
 use mathlib.Core.Path.{refl, sym, _∙_}
 use native.Mathlib.Omega.{arith}
-use Rattle.timecode.specs.Formats.{A, B, D, E, G, H, X, table, lookUp}
+use borrow.Author.Tests.{le-leb, lt-leb}
+use Rattle.timecode.specs.Formats.{A, B, X, table, lookUp}
 use Rattle.reader_words.specs.Words.{byteIn}
-use Rattle.word_feed.specs.InPlace.{letter-size, other-size}
+use Rattle.word_feed.specs.InPlace.{letter-size, other-sizes}
 use Rattle.word_feed.proofs.known_size.Statement.{statement}
 use Rattle.word_feed.proofs.known_size.Tie as tie
 
@@ -29,36 +30,17 @@ returns-3 : tie.Need-returns-3
 unfolding lookUp table byteIn
 returns-3 c = rw (c .before .if3 .taken) (c .size-within3 .ensures ∙ sym (letter-size B (c .before .before .before .before .args .expression) 8 0 7 100 refl refl refl refl (omega arith) (omega arith)))
 
-size-within-requires-4 : tie.Need-size-within-requires-4
-size-within-requires-4 c κs = search needs
+other-size-requires : tie.Need-other-size-requires
+other-size-requires c κs = search needs
 
 returns-4 : tie.Need-returns-4
-unfolding lookUp table byteIn
-returns-4 c = rw (c .before .if4 .taken) (c .size-within4 .ensures ∙ sym (letter-size D (c .before .before .before .before .before .args .expression) 2 1 2 60 refl refl refl refl (omega arith) (omega arith)))
-
-size-within-requires-5 : tie.Need-size-within-requires-5
-size-within-requires-5 c κs = search needs
+returns-4 c = c .other-size .ensures ∙ sym (other-sizes (c .before .before .before .before .before .before .args .letter) (c .before .before .before .before .before .before .args .expression) (c .before .before .before .before .if2 .left) (c .before .before .before .if3 .left) (c .before .before .before .before .before .if1 .left) ∙ rw (le-leb _ _ (c .before .before .if4 .taken), le-leb _ _ (c .before .if5 .taken)))
 
 returns-5 : tie.Need-returns-5
-unfolding lookUp table byteIn
-returns-5 c = rw (c .before .if5 .taken) (c .size-within5 .ensures ∙ sym (letter-size E (c .before .before .before .before .before .before .args .expression) 2 1 2 100 refl refl refl refl (omega arith) (omega arith)))
-
-size-within-requires-6 : tie.Need-size-within-requires-6
-size-within-requires-6 c κs = search needs
+returns-5 c = sym (other-sizes (c .before .before .before .before .before .args .letter) (c .before .before .before .before .before .args .expression) (c .before .before .before .if2 .left) (c .before .before .if3 .left) (c .before .before .before .before .if1 .left) ∙ rw (le-leb _ _ (c .before .if4 .taken), lt-leb _ _ (c .if5 .left)))
 
 returns-6 : tie.Need-returns-6
-unfolding lookUp table byteIn
-returns-6 c = rw (c .before .if6 .taken) (c .size-within6 .ensures ∙ sym (letter-size G (c .before .before .before .before .before .before .before .args .expression) 2 1 2 100 refl refl refl refl (omega arith) (omega arith)))
-
-size-within-requires-7 : tie.Need-size-within-requires-7
-size-within-requires-7 c κs = search needs
-
-returns-7 : tie.Need-returns-7
-unfolding lookUp table byteIn
-returns-7 c = rw (c .before .if7 .taken) (c .size-within7 .ensures ∙ sym (letter-size H (c .before .before .before .before .before .before .before .before .args .expression) 2 1 2 60 refl refl refl refl (omega arith) (omega arith)))
-
-returns-8 : tie.Need-returns-8
-returns-8 c = sym (other-size (c .before .before .before .before .before .before .before .args .letter) (c .before .before .before .before .before .before .before .args .expression) (record { not-a = c .before .before .before .before .before .if2 .left; not-b = c .before .before .before .before .if3 .left; not-d = c .before .before .before .if4 .left; not-e = c .before .before .if5 .left; not-g = c .before .if6 .left; not-h = c .if7 .left; not-x = c .before .before .before .before .before .before .if1 .left }))
+returns-6 c = sym (other-sizes (c .before .before .before .before .args .letter) (c .before .before .before .before .args .expression) (c .before .before .if2 .left) (c .before .if3 .left) (c .before .before .before .if1 .left) ∙ rw (lt-leb _ _ (c .if4 .left)))
 
 pub known-size-spec : {M : Type 1} → statement M
 known-size-spec =
@@ -70,12 +52,7 @@ known-size-spec =
     returns-2
     size-within-requires-3
     returns-3
-    size-within-requires-4
+    other-size-requires
     returns-4
-    size-within-requires-5
     returns-5
-    size-within-requires-6
-    returns-6
-    size-within-requires-7
-    returns-7
-    returns-8)
+    returns-6)
