@@ -5,11 +5,11 @@ ghost use mathlib.Core.Bool.{true};
 ghost use Prim.Native.Nat.{_+_, _%_, _≤_, _<_};
 ghost use lib.ListN.{length, take, drop};
 ghost use Rattle.timecode.specs.Formats.{size};
-ghost use Rattle.timecode.specs.Frames.{readOf};
+ghost use Rattle.timecode.specs.Frames.{nextAfter, readOf};
 ghost use Rattle.timecode.specs.Stream.{isSetting};
 ghost use Rattle.following.specs.Following.{rowAfter};
 ghost use Rattle.register.specs.Receiving.{frameOf};
-ghost use Rattle.stream.specs.Tapes.{isTape};
+ghost use Rattle.stream.specs.Tapes.{isTape, isFirstDay, areSeconds, isSecondLater};
 ghost use Rattle.stream.specs.Feeding.{isValid, madeOf, withRow, withRegister, readerWithReading, whenWhole, withSymbolOf, nextOf, answerAfter, answerOf, feedOf};
 use clock::next_after;
 use frame::read;
@@ -120,6 +120,63 @@ pub fn place_after(place: usize, n: usize) -> usize
     place + 1
 }
 
+// The format of letter X, with its frame of 25: the newest word holds all of it.
+fn is_tape(format: Format, n: usize) -> bool
+    ensures { λ r. ⌜ r ≡ isTape format n ⌝ }
+{
+    if format.letter == b'X' {
+        if format.expression == 2 {
+            return n == 25;
+        }
+    }
+    false
+}
+
+// Day 1 and no year, as in every time of letter X.
+fn is_first_day(time: Time) -> bool
+    ensures { λ r. ⌜ r ≡ isFirstDay time ⌝ }
+{
+    if time.year == 0 {
+        return time.day == 1;
+    }
+    false
+}
+
+// A whole second, and the next one of the same day.
+fn are_seconds(before: u32, after: u32) -> bool
+    ensures { λ r. ⌜ r ≡ areSeconds before after ⌝ }
+{
+    if before < 8_639_900 {
+        if before % 100 == 0 {
+            return after == before + 100;
+        }
+    }
+    false
+}
+
+fn is_second_later(before: Time, time: Time) -> bool
+    ensures { λ r. ⌜ r ≡ isSecondLater before time ⌝ }
+{
+    if is_first_day(before) {
+        if is_first_day(time) {
+            return are_seconds(before.hundredths, time.hundredths);
+        }
+    }
+    false
+}
+
+// The time is next after the one before. In X the next second of the day is, and nothing else needs to be asked.
+fn is_next(format: Format, before: Time, time: Time) -> bool
+    ensures { λ r. ⌜ r ≡ nextAfter format before time ⌝ }
+{
+    if is_tape(format, 25) {
+        if is_second_later(before, time) {
+            return true;
+        }
+    }
+    next_after(format, before, time)
+}
+
 // One accepted frame more in the row; it begins anew where the time is not next after the last one's.
 fn row_after(format: Format, row: usize, before: Time, time: Time) -> usize
     ensures { λ r. ⌜ r ≡ rowAfter format row before time ⌝ }
@@ -127,7 +184,7 @@ fn row_after(format: Format, row: usize, before: Time, time: Time) -> usize
     if row == 0 {
         return 1;
     }
-    if next_after(format, before, time) {
+    if is_next(format, before, time) {
         if row < LONGEST_ROW {
             return row + 1;
         }
@@ -141,18 +198,6 @@ fn read_part(format: Format, bytes: &[u8], n: usize) -> Reading
     ensures { λ r. ⌜ r ≡ readOf format (take n (drop 32 (now (bytes .entry)))) ⌝ }
 {
     read(format, &bytes[32..32 + n])
-}
-
-// The frame of letter X, all of which the newest word holds.
-fn is_tape(format: Format, n: usize) -> bool
-    ensures { λ r. ⌜ r ≡ isTape format n ⌝ }
-{
-    if format.letter == b'X' {
-        if format.expression == 2 {
-            return n == 25;
-        }
-    }
-    false
 }
 
 fn read_received(format: Format, register: Register, n: usize) -> Reading
