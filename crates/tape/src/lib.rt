@@ -9,7 +9,7 @@ ghost use Rattle.timecode.specs.Frames.{written, areSymbols, readOf, Valid};
 ghost use Rattle.timecode.specs.declared.Format.{Format};
 ghost use Rattle.tape.specs.Tape.{DigitPut, RunsPut, numberRuns, numberDigits, blankAt, blank};
 ghost use Rattle.tape.specs.Readings.{digitOf, isNumber, daytime, digitsMeaning, meaningOf, markFits, elementIs, checkFrom};
-ghost use Rattle.tape.specs.InWord.{elementIn, elementsIn};
+ghost use Rattle.tape.specs.InWord.{elementIn, elementsIn, wordFits};
 use timecode::MARK;
 use timecode::Reading;
 use timecode::Refusal;
@@ -252,7 +252,21 @@ fn digit_in(word: u64, start: usize, width: usize) -> u32
     digit
 }
 
-fn meaning_in(word: u64) -> Reading
+// The bits that are the same in every frame: both of element 0 and of 21-24, the higher one of 1-20; and what they are there, a mark, no
+// mark and nothing spoiled, four spoiled elements.
+const FIXED_BITS: u64 = 0x3_AAAA_AAAA_AAFF;
+
+const FIXED: u64 = 0x2_0000_0000_00FF;
+
+// Every element of the frame in a word fits: where one does not, Read refuses the frame.
+pub fn word_fits(word: u64) -> bool
+    ensures { λ r. ⌜ r ≡ wordFits word ⌝ }
+{
+    word & FIXED_BITS == FIXED
+}
+
+// What the digits of the frame in a word say: where every element fits, Read's answer.
+pub fn word_meaning(word: u64) -> Reading
     ensures { λ r. ⌜ r ≡ meaningOf (elementsIn word) ⌝ }
 {
     meaning_of(
@@ -263,39 +277,4 @@ fn meaning_in(word: u64) -> Reading
         digit_in(word, 14, 3),
         digit_in(word, 17, 4),
     )
-}
-
-// What offends at the lowest index of the frame in a word, or the answer.
-fn check_word(word: u64, answer: Reading) -> Reading
-    ensures { λ r. ⌜ r ≡ checkFrom (elementsIn word) 0 answer ⌝ }
-{
-    let mut index = 0;
-    while index < ELEMENTS {
-        let symbol = element_in(word, index);
-        if !mark_fits(index, symbol) {
-            return Reading::Refused(Refusal::MisplacedMark(index));
-        }
-        if !element_is(index, symbol) {
-            return Reading::Refused(Refusal::InvalidElement(index));
-        }
-        index += 1;
-    }
-    answer
-}
-
-// The bits that are the same in every frame: both of element 0 and of 21-24, the higher one of 1-20; and what they are there, a mark, no
-// mark and nothing spoiled, four spoiled elements.
-const FIXED_BITS: u64 = 0x3_AAAA_AAAA_AAFF;
-
-const FIXED: u64 = 0x2_0000_0000_00FF;
-
-// The time that the elements of the frame in a word say. Where every element fits, one comparison says so.
-pub fn read_word(word: u64) -> Reading
-    ensures { λ r. ⌜ ((f : Format) → isX f ≡ true → known f ≡ true → r ≡ readOf f (elementsIn word)) ⌝ }
-{
-    let answer = meaning_in(word);
-    if word & FIXED_BITS == FIXED {
-        return answer;
-    }
-    check_word(word, answer)
 }

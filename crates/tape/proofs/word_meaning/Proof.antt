@@ -1,7 +1,7 @@
--- `meaning_in` meets its contract: what the six digits say.
+-- `word_meaning` meets its contract: what the six digits say.
 use borrow.Author.Needs.{needs}
-use Rattle.tape.proofs.meaning_in.Statement.{statement}
-use Rattle.tape.proofs.meaning_in.Tie as tie
+use Rattle.tape.proofs.word_meaning.Statement.{statement}
+use Rattle.tape.proofs.word_meaning.Tie as tie
 
 digit-in-requires : tie.Need-digit-in-requires
 digit-in-requires c κs = search needs
@@ -27,8 +27,8 @@ meaning-of-requires c κs = search needs
 returns : tie.Need-returns
 returns c = rw (← c .before .before .before .before .before .before .digit-in .ensures .0, ← c .before .before .before .before .before .digit-in2 .ensures .0, ← c .before .before .before .before .digit-in3 .ensures .0, ← c .before .before .before .digit-in4 .ensures .0, ← c .before .before .digit-in5 .ensures .0, ← c .before .digit-in6 .ensures .0) (c .meaning-of .ensures)
 
-pub meaning-in-spec : {M : Type 1} → statement M
-meaning-in-spec =
+pub word-meaning-spec : {M : Type 1} → statement M
+word-meaning-spec =
     tie.close
     (tie.spec
     digit-in-requires
