@@ -4,9 +4,10 @@ ghost use mathlib.Core.Path.{_≡_};
 ghost use mathlib.Core.Bool.{true};
 ghost use Prim.Native.Nat.{_+_, _%_, _≤_, _<_};
 ghost use lib.ListN.{length, take, drop};
-ghost use Rattle.timecode.specs.Formats.{size};
+ghost use Rattle.timecode.specs.Formats.{isX, known, size};
 ghost use Rattle.timecode.specs.Frames.{nextAfter, readOf};
 ghost use Rattle.timecode.specs.Stream.{isSetting};
+ghost use Rattle.tape.specs.InWord.{elementsIn};
 ghost use Rattle.following.specs.Following.{rowAfter};
 ghost use Rattle.register.specs.Receiving.{frameOf};
 ghost use Rattle.stream.specs.Tapes.{isTape, isFirstDay, areSeconds, isSecondLater};
@@ -18,7 +19,8 @@ use layout::is_known;
 use register::Register;
 use register::frame_symbols;
 use register::receive;
-use tape::read_word;
+use tape::word_fits;
+use tape::word_meaning;
 use timecode::Answer;
 use timecode::Format;
 use timecode::Reading;
@@ -204,9 +206,6 @@ fn read_received(format: Format, register: Register, n: usize) -> Reading
     requires { ⌜ n ≤ 100 ⌝ }
     ensures { λ r. ⌜ r ≡ readOf format (frameOf register n) ⌝ }
 {
-    if is_tape(format, n) {
-        return read_word(register.newest);
-    }
     let bytes = frame_symbols(register, n);
     read_part(format, &bytes, n)
 }
@@ -255,12 +254,27 @@ pub fn reader_with_reading(reader: Reader, reading: Reading) -> Reader
     }
 }
 
+// A whole frame of letter X, in the newest word: where an element does not fit it is refused, and which one is not asked.
+fn with_tape(reader: Reader, word: u64) -> Reader
+    requires { ⌜ (isX (reader .format) ≡ true) × (known (reader .format) ≡ true) ⌝ }
+    ensures { λ r. ⌜ r ≡ readerWithReading reader (readOf (reader .format) (elementsIn word)) ⌝ }
+{
+    if word_fits(word) {
+        return reader_with_reading(reader, word_meaning(word));
+    }
+    let time = reader.time;
+    with_row(reader, 0, time, reader.control)
+}
+
 // A whole frame is read, once.
 fn with_reading(reader: Reader, n: usize) -> Reader
     requires { ⌜ n ≤ 100 ⌝ }
     ensures { λ r. ⌜ r ≡ readerWithReading reader (readOf (reader .format) (frameOf (reader .received) n)) ⌝ }
 {
     let received = reader.received;
+    if is_tape(reader.format, n) {
+        return with_tape(reader, received.newest);
+    }
     let reading = read_received(reader.format, received, n);
     reader_with_reading(reader, reading)
 }
