@@ -1,0 +1,3 @@
+-- Due is what the contracts say; Moves its laws.
+pub mod Due
+pub mod Moves
