@@ -3,7 +3,6 @@
 // or that a call failed.
 ghost use mathlib.Core.Path.{_≡_};
 ghost use mathlib.Core.Bool.{false};
-ghost use lib.ListN.{length};
 ghost use Rattle.progress.specs.Progress.{runningAt};
 ghost use Rattle.printing.specs.Printing.{stopped, Prints, AfterRead, Reads, ReadsAll};
 use listing::begin;
@@ -13,6 +12,7 @@ use listing::start;
 use output::print_refused;
 use output::write_first;
 use progress::Progress;
+use recording_head::read_head;
 use stream::Made;
 use stream::Reader;
 
@@ -20,13 +20,6 @@ use stream::Reader;
 struct Printed {
     progress: Progress,
     more: bool,
-}
-
-// The next byte of the input, or why there is none.
-enum Next {
-    Byte(u8),
-    End,
-    Failed,
 }
 
 // Where a read or a write has failed, no other line follows.
@@ -110,42 +103,6 @@ fn print_recording(fd: i32, reader: Reader) {
     let progress = print_reads(fd, reader, &mut out);
     let filled = finish(progress, &mut out);
     write_first(&mut out, filled);
-}
-
-fn next_byte(fd: i32) -> Next {
-    let mut byte = [0u8; 1];
-    let got = libc::read(fd, &mut byte);
-    if got < 0 {
-        os::fail(b"input");
-        return Next::Failed;
-    }
-    if got == 0 {
-        return Next::End;
-    }
-    Next::Byte(byte[0])
-}
-
-// The input's first three bytes, fewer where it ends: how many there are, or -1 where a read failed.
-fn read_head(fd: i32, head: &mut [u8]) -> isize
-    requires { ⌜ length (now head) ≡ 3 ⌝ }
-{
-    let mut n = 0;
-    while n < 3 {
-        let next = next_byte(fd);
-        match next {
-            Next::Byte(byte) => {
-                head[n] = byte;
-                n += 1;
-            }
-            Next::End => {
-                return n as isize;
-            }
-            Next::Failed => {
-                return -1;
-            }
-        }
-    }
-    3
 }
 
 // The whole listing of what the descriptor gives; nothing where the first line cannot be read.

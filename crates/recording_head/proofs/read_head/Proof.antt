@@ -1,16 +1,13 @@
--- `read_head` ends after three bytes at most.
+-- `read_head` is safe and ends.
 use borrow.Author.Needs.{needs}
-use mathlib.Core.Path.{_≡_}
 use Prim.Native.Nat.{_-_, _≤_}
 use lib.ListN.{length}
-use Rattle.printing.proofs.read_head.Statement.{statement}
-use Rattle.printing.proofs.read_head.Tie as tie
-use Rattle.printing.proofs.read_head.Reads as reads
-use Rattle.printing.proofs.read_head.Lts as lts
-use Rattle.printing.proofs.next_byte.Reads as next-byte-reads
+use mathlib.Core.Path.{_≡_}
+use Rattle.recording_head.proofs.read_head.Statement.{statement}
+use Rattle.recording_head.proofs.read_head.Tie as tie
 
 abbrev Inv-loop : tie.InvT-loop
-Inv-loop fd head₀ n₀ head n = (n ≤ 3) × (length head ≡ 3)
+Inv-loop fd head₀ n₀ head n = (n ≤ 3) × (length head ≡ length head₀)
 
 abbrev μ-loop : tie.MeasureT-loop
 μ-loop fd head₀ n₀ head n = 3 - n
@@ -57,6 +54,9 @@ same-length-2 c = search needs
 returns-2 : tie.Need-returns-2 Inv-loop μ-loop
 returns-2 c = search needs
 
+cast-result-2 : tie.Need-cast-result-2 Inv-loop μ-loop
+cast-result-2 c = search needs
+
 same-length-3 : tie.Need-same-length-3 Inv-loop μ-loop
 same-length-3 c = search needs
 
@@ -83,5 +83,6 @@ read-head-spec =
     enum-told-2
     same-length-2
     returns-2
+    cast-result-2
     same-length-3
     returns-3)
