@@ -26,6 +26,23 @@ pub fn put_decimal(out: &mut [u8; 65536], at: usize, number: u64) -> usize {
     put_bytes(out, at, &digits[..k])
 }
 
+// Two numbers, with a text before each and one behind both.
+pub fn put_numbers(
+    out: &mut [u8; 65536],
+    at: usize,
+    before: &[u8],
+    first: u64,
+    between: &[u8],
+    second: u64,
+    behind: &[u8],
+) -> usize {
+    let mut end = put_bytes(out, at, before);
+    end = put_decimal(out, end, first);
+    end = put_bytes(out, end, between);
+    end = put_decimal(out, end, second);
+    put_bytes(out, end, behind)
+}
+
 // 0 for a negative number.
 fn unsigned(number: i64) -> u64 {
     if 0 <= number {

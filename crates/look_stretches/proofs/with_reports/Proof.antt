@@ -1,7 +1,7 @@
 -- `with_reports` is safe and ends.
 use borrow.Author.Needs.{needs}
-use Rattle.timelook.proofs.looking.with_reports.Statement.{statement}
-use Rattle.timelook.proofs.looking.with_reports.Tie as tie
+use Rattle.look_stretches.proofs.with_reports.Statement.{statement}
+use Rattle.look_stretches.proofs.with_reports.Tie as tie
 
 abbrev Inv-loop : tie.InvT-loop
 Inv-loop out₀ recording format current₀ hearing₀ from₀ left₀ out current hearing from left = Unit {0}
