@@ -18,8 +18,8 @@ use timecode::Refusal;
 use timecode::SPOILED;
 use timecode::Time;
 
-// A line fits while no more than this is filled.
-const LAST_WITH_ROOM: usize = 65_024;
+// The longest lines, those of all formats, fit while no more than this is filled.
+const LAST_WITH_ROOM: usize = 64_000;
 
 // So many refused frames one behind another have a line each.
 const LINES_IN_A_ROW: u64 = 3;

@@ -6,8 +6,10 @@ use look_frames::Look;
 use look_frames::with_frames;
 use look_frames::with_line;
 use look_times::Stretch;
+use look_times::longer_by;
 use look_times::put_gap;
 use look_times::put_stretch;
+use look_times::stretch_from;
 use report_counts::Reported;
 use report_counts::next_report;
 use std::num::wrapping_add_u64;
@@ -56,24 +58,6 @@ fn with_stretch(look: Look, stretch: Stretch) -> Look {
     let mut next = look;
     next.stretch = stretch;
     next
-}
-
-fn longer_by(stretch: Stretch, element: u64, time: Time) -> Stretch {
-    let mut longer = stretch;
-    longer.reports = wrapping_add_u64(stretch.reports, 1);
-    longer.last = element;
-    longer.end = time;
-    longer
-}
-
-fn stretch_from(element: u64, time: Time) -> Stretch {
-    Stretch {
-        reports: 1,
-        first: element,
-        start: time,
-        last: element,
-        end: time,
-    }
 }
 
 fn with_report(

@@ -1,6 +1,7 @@
 // Lines of reports and gaps, as timelook prints them behind what its output has. Elements are counted from 1.
 // Nothing says which bytes a write moves, so these promise to be safe and to end, and no more.
 use lines::report_line;
+use std::num::wrapping_add_u64;
 use texts::put_byte;
 use texts::put_bytes;
 use texts::put_decimal;
@@ -17,6 +18,26 @@ pub struct Stretch {
     pub start: Time,
     pub last: u64,
     pub end: Time,
+}
+
+// With a report more.
+pub fn longer_by(stretch: Stretch, element: u64, time: Time) -> Stretch {
+    let mut longer = stretch;
+    longer.reports = wrapping_add_u64(stretch.reports, 1);
+    longer.last = element;
+    longer.end = time;
+    longer
+}
+
+// With a report alone.
+pub fn stretch_from(element: u64, time: Time) -> Stretch {
+    Stretch {
+        reports: 1,
+        first: element,
+        start: time,
+        last: element,
+        end: time,
+    }
 }
 
 fn put_part(out: &mut [u8; 65536], at: usize, text: &[u8], from: usize, to: usize) -> usize {
