@@ -12,6 +12,7 @@ use std::num::wrapping_add_usize;
 use stream::Made;
 use stream::Reader;
 use timecode::Refusal;
+use version::print_version;
 
 // So many elements are looked at; a read more is held.
 const MOST: usize = 4_194_304;
@@ -142,6 +143,9 @@ fn look_read(reader: Reader) {
 }
 
 fn main() {
+    if print_version(b"timelook") {
+        return;
+    }
     let mut head = [0u8; 3];
     let got = read_head(libc::STDIN_FILENO, &mut head);
     if got < 0 {

@@ -27,6 +27,7 @@ use timecode::Classified;
 use timecode::Format;
 use timecode::Refusal;
 use timecode::WidthSettings;
+use version::print_version;
 
 // A line of output fits while no more than this is filled.
 const LAST_WITH_ROOM: usize = 65_408;
@@ -412,6 +413,9 @@ fn print_checked(request: Request) {
 }
 
 fn main() {
+    if print_version(b"timepulse") {
+        return;
+    }
     let asked = asked_for();
     match asked {
         Asked::Pulses(request) => print_checked(request),
