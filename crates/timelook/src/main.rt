@@ -12,6 +12,7 @@ use std::num::wrapping_add_usize;
 use stream::Made;
 use stream::Reader;
 use timecode::Refusal;
+use version::print_help;
 use version::print_version;
 
 // So many elements are looked at; a read more is held.
@@ -144,6 +145,9 @@ fn look_read(reader: Reader) {
 
 fn main() {
     if print_version(b"timelook") {
+        return;
+    }
+    if print_help(b"usage: timelook < RECORDING\n") {
         return;
     }
     let mut head = [0u8; 3];
