@@ -1,9 +1,10 @@
 -- Worked rows, by computation: the leap rule, the lengths of the months and the ends of windows, which the theorems leave free.
 use mathlib.Core.Path.{_≡_, refl}
+use mathlib.Core.Bool.{true, false}
 use mathlib.Core.List.{List, [], _∷_}
 use Prim.Native.Nat.{ℕ}
 use Rattle.timecode.specs.Formats.{daysIn}
-use Rattle.timecode.specs.declared.Refusal.the-variants.{InvalidYear, InvalidDate, InvalidWindow}
+use Rattle.timecode.specs.declared.Refusal.the-variants.{InvalidTime, InvalidYear, InvalidDate, InvalidWindow}
 use Rattle.timecode.specs.declared.Time.{Time}
 use Rattle.timecode.specs.declared.Written.{Written}
 use Rattle.calendar.specs.Dates.{monthLengths, placeIn, dayIn, hasDay, hasDate, dateOf, dayNumber, dayOf}
@@ -108,3 +109,45 @@ no-length = refl
 pub no-33rd : addAnswer 32 (on 28) (on 29) ≡ Written.Refused InvalidWindow
 unfolding addAnswer hasDate dayIn monthLengths daysIn earlier
 no-33rd = refl
+
+-- ---- the order of moments: by year before day, by day before hundredth
+
+abbrev pub moment : ℕ → ℕ → ℕ → Time
+moment y d c = record { year = y; day = d; hundredths = c }
+
+pub year-first : earlier (moment 24 366 8640099) (moment 25 1 0) ≡ true
+unfolding earlier
+year-first = refl
+
+pub day-next : earlier (moment 24 60 8640099) (moment 24 61 0) ≡ true
+unfolding earlier
+day-next = refl
+
+pub not-year-last : earlier (moment 25 1 0) (moment 24 366 8640099) ≡ false
+unfolding earlier
+not-year-last = refl
+
+-- ---- the order of the numbers, each asked of both ends before the next
+
+abbrev pub at : ℕ → ℕ → ℕ → ℕ → DateTime
+at y m d c = record { date = date y m d; hundredths = c }
+
+pub end-17-before-2 : addAnswer 32 (at 24 2 30 8640100) (at 100 2 30 8640100) ≡ Written.Refused InvalidYear
+unfolding addAnswer hasDate dayIn monthLengths daysIn earlier
+end-17-before-2 = refl
+
+pub end-2-before-22 : addAnswer 32 (at 24 2 30 0) (at 24 2 30 8640100) ≡ Written.Refused InvalidTime
+unfolding addAnswer hasDate dayIn monthLengths daysIn earlier
+end-2-before-22 = refl
+
+pub end-22-before-21 : addAnswer 32 (at 24 2 29 0) (at 24 2 30 0) ≡ Written.Refused InvalidDate
+unfolding addAnswer hasDate dayIn monthLengths daysIn earlier
+end-22-before-21 = refl
+
+pub ask-17-before-2 : askOf both (moment 100 0 8640100) ≡ Asked.Refused InvalidYear
+unfolding askOf hasDay daysIn
+ask-17-before-2 = refl
+
+pub ask-2-before-22 : askOf both (moment 99 366 8640100) ≡ Asked.Refused InvalidTime
+unfolding askOf hasDay daysIn
+ask-2-before-22 = refl
