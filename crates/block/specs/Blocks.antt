@@ -5,7 +5,7 @@ use Prim.Native.Nat.{ℕ, zero, suc}
 use lib.Dec.{eqb}
 use lib.IntN.{pos}
 use lib.ListN.{getD, length, take, drop}
-use Rattle.timecode.specs.Answers.{check, Result, success, refusalResult}
+use Rattle.timecode.specs.Answers.{Result, success, refusalResult, checks}
 use Rattle.timecode.specs.Layout.{tabulate}
 use Rattle.timecode.specs.Stream.{isSetting}
 use Rattle.timecode.specs.declared.Answer.{Answer}
@@ -119,10 +119,12 @@ blockFor r ss l = cond (isValid r && (isSetting (r .setting) && areRecords l)) (
 
 unfoldable pub blockAnswer : Reader → List ℕ → Lists → BlockAnswer
 blockAnswer r ss l =
-    check BlockAnswer.Refused InvalidReader (isValid r)  -- 13
-    (check BlockAnswer.Refused InvalidSetting (isSetting (r .setting))  -- 26
-    (check BlockAnswer.Refused WrongLength (areRecords l)  -- 3
-    (BlockAnswer.Taken (blockOf r (roomIn l) ss .taken) (length (blockOf r (roomIn l) ss .reports)) (blockOf r (roomIn l) ss .stop))))
+    checks BlockAnswer.Refused
+    ((InvalidReader, isValid r)  -- 13
+    ∷ (InvalidSetting, isSetting (r .setting))  -- 26
+    ∷ (WrongLength, areRecords l)  -- 3
+    ∷ [])
+    (BlockAnswer.Taken (blockOf r (roomIn l) ss .taken) (length (blockOf r (roomIn l) ss .reports)) (blockOf r (roomIn l) ss .stop))
 
 -- what the answer says: the symbols taken, the reports put in, and why it stopped (0 all taken, 1 before a symbol above 3, 2 no room)
 abbrev pub stopNumber : Stop → ℕ

@@ -1,27 +1,25 @@
 -- Windows added one by one to an empty calendar: it holds those that were taken, in their order, and at most 32; a refused one leaves it as it was.
 use mathlib.Core.Path.{_≡_, refl, sym, ap, _∙_}
-use mathlib.Core.Bool.{true, _&&_}
+use mathlib.Core.Bool.{true}
 use mathlib.Core.List.{List, [], _∷_, _++_, append-nil, append-assoc}
-use Prim.Native.Nat.{ℕ, suc, _+_, _%_, _<_, _≤_}
+use Prim.Native.Nat.{ℕ, _%_, _<_, _≤_}
 use native.Mathlib.Numerals.{add-one}
 use native.Mathlib.Omega.{arith}
 use borrow.Author.Tests.{leb-true, ltb-true}
 use lib.Dec.{ltb, eqb}
-use lib.ListN.{length, take, set, length-set, length-replicate}
+use lib.ListN.{length, take, length-set, length-replicate}
 use lib.Seq.{take-suc-set, length-take-le}
-use Rattle.timecode.specs.Answers.{check}
 use Rattle.timecode.specs.Formats.{daysIn}
-use Rattle.timecode.specs.Laws.Checks.{passed, done}
+use Rattle.timecode.specs.Laws.Checks.{done, all-passed}
 use Rattle.timecode.specs.Laws.Tests.{by-test, and-left, and-right}
 use Rattle.timecode.specs.declared.Refusal.{Refusal}
-use Rattle.timecode.specs.declared.Refusal.the-variants.{InvalidTime, InvalidYear, InvalidWindow, InvalidDate}
 use Rattle.timecode.specs.declared.Written.{Written}
 use Rattle.timecode.specs.declared.Written.the-variants.{Done}
 use Rattle.calendar.specs.Dates.{isYear, hasDate}
 use Rattle.calendar.specs.Inverse.{has, number-range}
 use Rattle.calendar.specs.Keys.{Small, key-back}
 use Rattle.calendar.specs.Moments.{earlier, isHundredth}
-use Rattle.calendar.specs.Windows.{keyOf, timeOf, windowsIn, windowsOf, momentOf, windowOf, addAnswer, addOf, emptyCalendar}
+use Rattle.calendar.specs.Windows.{keyOf, timeOf, windowsIn, windowsOf, momentOf, windowOf, addAnswer, addOf, emptyCalendar, windowChecks}
 use Rattle.calendar.specs.declared.Calendar.{Calendar}
 use Rattle.calendar.specs.declared.DateTime.{DateTime}
 use Rattle.calendar.specs.declared.Window.{Window}
@@ -68,21 +66,12 @@ pub record Passes (count : ℕ) (s e : DateTime) : Type 0 where
 pub passes-all : (count : ℕ) (s e : DateTime) → addAnswer count s e ≡ Done → Passes count s e
 unfolding addAnswer
 passes-all count s e h =
-    let years = isYear (s .date .year) && isYear (e .date .year) in
-    let cs = isHundredth (s .hundredths) && isHundredth (e .hundredths) in
-    let dates = hasDate (s .date) && hasDate (e .date) in
-    let last = ltb count 32 && earlier (momentOf s) (momentOf e) in
-    let after-22 = check Written.Refused InvalidWindow last Done in
-    let after-2 = check Written.Refused InvalidDate dates after-22 in
-    let c17 = passed Written.Refused InvalidYear years (check Written.Refused InvalidTime cs after-2) Done done h in
-    let c2 = passed Written.Refused InvalidTime cs after-2 Done done (c17 .1) in
-    let c22 = passed Written.Refused InvalidDate dates after-22 Done done (c2 .1) in
-    let c21 = passed Written.Refused InvalidWindow last Done Done done (c22 .1) in
+    let passed = all-passed Written.Refused (windowChecks count s e) Done Done done h .0 in
     record {
-      start = moment-small s (and-left (isYear (s .date .year)) (isYear (e .date .year)) (c17 .0)) (and-left (isHundredth (s .hundredths)) (isHundredth (e .hundredths)) (c2 .0)) (and-left (hasDate (s .date)) (hasDate (e .date)) (c22 .0));
-      end = moment-small e (and-right (isYear (s .date .year)) (isYear (e .date .year)) (c17 .0)) (and-right (isHundredth (s .hundredths)) (isHundredth (e .hundredths)) (c2 .0)) (and-right (hasDate (s .date)) (hasDate (e .date)) (c22 .0));
-      room = ltb-true count 32 (and-left (ltb count 32) (earlier (momentOf s) (momentOf e)) (c21 .0));
-      order = and-right (ltb count 32) (earlier (momentOf s) (momentOf e)) (c21 .0);
+      start = moment-small s (and-left (isYear (s .date .year)) (isYear (e .date .year)) (passed 0)) (and-left (isHundredth (s .hundredths)) (isHundredth (e .hundredths)) (passed 1)) (and-left (hasDate (s .date)) (hasDate (e .date)) (passed 2));
+      end = moment-small e (and-right (isYear (s .date .year)) (isYear (e .date .year)) (passed 0)) (and-right (isHundredth (s .hundredths)) (isHundredth (e .hundredths)) (passed 1)) (and-right (hasDate (s .date)) (hasDate (e .date)) (passed 2));
+      room = ltb-true count 32 (and-left (ltb count 32) (earlier (momentOf s) (momentOf e)) (passed 3));
+      order = and-right (ltb count 32) (earlier (momentOf s) (momentOf e)) (passed 3);
     }
 
 -- ---- one window added

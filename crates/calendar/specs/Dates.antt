@@ -5,7 +5,7 @@ use Prim.Native.Nat.{ℕ, zero, suc, _+_, _-_}
 use lib.Dec.{leb, eqb}
 use lib.IntN.{pos}
 use lib.ListN.{getD}
-use Rattle.timecode.specs.Answers.{check, Result, success, refusalResult}
+use Rattle.timecode.specs.Answers.{Result, success, refusalResult, checks}
 use Rattle.timecode.specs.Formats.{daysIn, lastYear}
 use Rattle.timecode.specs.declared.Refusal.the-variants.{InvalidYear, InvalidDate}
 use Rattle.calendar.specs.declared.Counted.{Counted}
@@ -51,18 +51,22 @@ dateAt year p = record { year = year; month = 1 + p .months; day = p .day }
 
 unfoldable pub dateOf : ℕ → ℕ → Dated
 dateOf year day =
-    check Dated.Refused InvalidYear (isYear year)  -- 17
-    (check Dated.Refused InvalidDate (hasDay year day)  -- 22
-    (On (dateAt year (placeIn (monthLengths year) day))))
+    checks Dated.Refused
+    ((InvalidYear, isYear year)  -- 17
+    ∷ (InvalidDate, hasDay year day)  -- 22
+    ∷ [])
+    (On (dateAt year (placeIn (monthLengths year) day)))
 
 abbrev pub dayNumber : Date → ℕ
 dayNumber d = dayIn (monthLengths (d .year)) (d .month - 1) (d .day)
 
 unfoldable pub dayOf : Date → Counted
 dayOf d =
-    check Counted.Refused InvalidYear (isYear (d .year))  -- 17
-    (check Counted.Refused InvalidDate (hasDate d)  -- 22
-    (Day (dayNumber d)))
+    checks Counted.Refused
+    ((InvalidYear, isYear (d .year))  -- 17
+    ∷ (InvalidDate, hasDate d)  -- 22
+    ∷ [])
+    (Day (dayNumber d))
 
 -- ---- what the answers say
 

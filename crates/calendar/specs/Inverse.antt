@@ -1,15 +1,14 @@
 -- Month and day from day of year, and back: each undoes the other, by induction over the lengths of the months.
-use mathlib.Core.Path.{_≡_, refl, sym, ap, _∙_, subst}
-use mathlib.Core.Bool.{Bool, true, false, cond, _&&_}
+use mathlib.Core.Path.{_≡_, refl, ap, _∙_, subst}
+use mathlib.Core.Bool.{true, _&&_}
 use mathlib.Core.List.{List, [], _∷_}
 use Prim.Native.Nat.{ℕ, zero, suc, _+_, _-_, _%_, _<_, _≤_}
 use native.Mathlib.Omega.{arith}
 use borrow.Author.Tests.{leb-true, leb-false, le-leb, lt-leb}
 use lib.Dec.{leb, eqb}
 use lib.ListN.{getD, length}
-use Rattle.timecode.specs.Answers.{check}
 use Rattle.timecode.specs.Formats.{daysIn}
-use Rattle.timecode.specs.Laws.Checks.{Taken, passed}
+use Rattle.timecode.specs.Laws.Checks.{Taken, all-passed}
 use Rattle.timecode.specs.Laws.Tests.{by-test, and-left, and-right}
 use Rattle.timecode.specs.declared.Refusal.the-variants.{InvalidYear, InvalidDate}
 use Rattle.calendar.specs.Dates.{isYear, isLeap, monthLengths, placeIn, dayIn, hasDay, hasDate, dateAt, dateOf, dayNumber, dayOf}
@@ -151,12 +150,11 @@ pub date-and-back : (year day : ℕ) (d : Date) → dateOf year day ≡ On d →
 unfolding dateOf hasDay
 date-and-back year day d h =
     let p = placeIn (monthLengths year) day in
-    let c17 = passed Dated.Refused InvalidYear (isYear year) (check Dated.Refused InvalidDate (hasDay year day) (On (dateAt year p))) (On d) (dated d) h in
-    let c22 = passed Dated.Refused InvalidDate (hasDay year day) (On (dateAt year p)) (On d) (dated d) (c17 .1) in
-    let low = leb-true 1 day (and-left (leb 1 day) (leb day (daysIn year)) (c22 .0)) in
-    let high = leb-true day (daysIn year) (and-right (leb 1 day) (leb day (daysIn year)) (c22 .0)) in
-    let same : dateAt year p ≡ d = on (dateAt year p) d (c22 .1) in
-    subst (λ (x : Date). dayOf x ≡ Day day) same (date-placed year day p (c17 .0) (placed (monthLengths year) day low (omega (arith, year-sum year))))
+    let all = all-passed Dated.Refused ((InvalidYear, isYear year) ∷ (InvalidDate, hasDay year day) ∷ []) (On (dateAt year p)) (On d) (dated d) h in
+    let low = leb-true 1 day (and-left (leb 1 day) (leb day (daysIn year)) (all .0 1)) in
+    let high = leb-true day (daysIn year) (and-right (leb 1 day) (leb day (daysIn year)) (all .0 1)) in
+    let same : dateAt year p ≡ d = on (dateAt year p) d (all .1) in
+    subst (λ (x : Date). dayOf x ≡ Day day) same (date-placed year day p (all .0 0) (placed (monthLengths year) day low (omega (arith, year-sum year))))
   where
     on : (a b : Date) → On a ≡ On b → a ≡ b
     on a b e = cc
@@ -165,14 +163,13 @@ date-and-back year day d h =
 pub day-and-back : (d : Date) (day : ℕ) → dayOf d ≡ Day day → dateOf (d .year) day ≡ On d
 unfolding dayOf dateOf hasDay
 day-and-back d day h =
-    let c17 = passed Counted.Refused InvalidYear (isYear (d .year)) (check Counted.Refused InvalidDate (hasDate d) (Day (dayNumber d))) (Day day) (counted day) h in
-    let c22 = passed Counted.Refused InvalidDate (hasDate d) (Day (dayNumber d)) (Day day) (counted day) (c17 .1) in
-    let e : dayNumber d ≡ day = one (dayNumber d) day (c22 .1) in
-    let g = has d (c22 .0) in
+    let all = all-passed Counted.Refused ((InvalidYear, isYear (d .year)) ∷ (InvalidDate, hasDate d) ∷ []) (Day (dayNumber d)) (Day day) (counted day) h in
+    let e : dayNumber d ≡ day = one (dayNumber d) day (all .1) in
+    let g = has d (all .0 1) in
     let r = number-range d g in
     let n = numbered (monthLengths (d .year)) (d .month - 1) (d .day) (omega (arith, g .month, g .last-month, twelve (d .year))) (g .day) (g .last-day) in
     let month : 1 + (d .month - 1) ≡ d .month = omega (arith, g .month) in
-    rw (← e, c17 .0, le-leb 1 (dayNumber d) (r .0), le-leb (dayNumber d) (daysIn (d .year)) (r .1), n .place, month)
+    rw (← e, all .0 0, le-leb 1 (dayNumber d) (r .0), le-leb (dayNumber d) (daysIn (d .year)) (r .1), n .place, month)
   where
     one : (a b : ℕ) → Day a ≡ Day b → a ≡ b
     one a b e = cc

@@ -4,7 +4,7 @@ use mathlib.Core.List.{List, [], _∷_}
 use Prim.Native.Nat.{ℕ, _+_, _*_}
 use lib.Dec.{leb, ltb, eqb}
 use lib.IntN.{pos}
-use Rattle.timecode.specs.Answers.{check, Result, success, refusalResult, timeValues}
+use Rattle.timecode.specs.Answers.{Result, success, refusalResult, timeValues, checks}
 use Rattle.timecode.specs.Formats.{lastHundredth}
 use Rattle.timecode.specs.declared.Refusal.the-variants.{InvalidTime, InvalidYear, InvalidDate}
 use Rattle.timecode.specs.declared.Time.{Time}
@@ -57,10 +57,12 @@ isHundredth c = leb c lastHundredth
 -- what windows answer a time
 unfoldable pub askOf : List Window → Time → Asked
 askOf ws t =
-    check Asked.Refused InvalidYear (isYear (t .year))  -- 17
-    (check Asked.Refused InvalidTime (isHundredth (t .hundredths))  -- 2
-    (check Asked.Refused InvalidDate (hasDay (t .year) (t .day))  -- 22
-    (Asked.Windows (maskOf ws t) (nextOf t (edgesOf ws)))))
+    checks Asked.Refused
+    ((InvalidYear, isYear (t .year))  -- 17
+    ∷ (InvalidTime, isHundredth (t .hundredths))  -- 2
+    ∷ (InvalidDate, hasDay (t .year) (t .day))  -- 22
+    ∷ [])
+    (Asked.Windows (maskOf ws t) (nextOf t (edgesOf ws)))
 
 -- ---- what the answer says: the mask, and the moment of the next start or end where there is one
 

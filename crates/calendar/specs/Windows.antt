@@ -4,7 +4,7 @@ use mathlib.Core.List.{List, [], _∷_}
 use Prim.Native.Nat.{ℕ, _+_, _*_, _/_, _%_}
 use lib.Dec.{ltb}
 use lib.ListN.{take, set, replicate}
-use Rattle.timecode.specs.Answers.{check}
+use Rattle.timecode.specs.Answers.{Check, checks}
 use Rattle.timecode.specs.declared.Refusal.the-variants.{InvalidTime, InvalidYear, InvalidWindow, InvalidDate}
 use Rattle.timecode.specs.declared.Time.{Time}
 use Rattle.timecode.specs.declared.Written.{Written}
@@ -50,13 +50,16 @@ abbrev pub windowOf : DateTime → DateTime → Window
 windowOf s e = record { start = momentOf s; end = momentOf e }
 
 -- each number of the start and of the end, before the next number
+abbrev pub windowChecks : ℕ → DateTime → DateTime → List Check
+windowChecks count s e =
+    (InvalidYear, isYear (s .date .year) && isYear (e .date .year))  -- 17
+    ∷ (InvalidTime, isHundredth (s .hundredths) && isHundredth (e .hundredths))  -- 2
+    ∷ (InvalidDate, hasDate (s .date) && hasDate (e .date))  -- 22
+    ∷ (InvalidWindow, ltb count 32 && earlier (momentOf s) (momentOf e))  -- 21
+    ∷ []
+
 unfoldable pub addAnswer : ℕ → DateTime → DateTime → Written
-addAnswer count s e =
-    check Written.Refused InvalidYear (isYear (s .date .year) && isYear (e .date .year))  -- 17
-    (check Written.Refused InvalidTime (isHundredth (s .hundredths) && isHundredth (e .hundredths))  -- 2
-    (check Written.Refused InvalidDate (hasDate (s .date) && hasDate (e .date))  -- 22
-    (check Written.Refused InvalidWindow (ltb count 32 && earlier (momentOf s) (momentOf e))  -- 21
-    Done)))
+addAnswer count s e = checks Written.Refused (windowChecks count s e) Done
 
 abbrev pub withWindow : Calendar → Window → Calendar
 withWindow c w = record { count = c .count + 1; starts = set (c .starts) (c .count) (keyOf (w .start)); ends = set (c .ends) (c .count) (keyOf (w .end)) }

@@ -1,6 +1,6 @@
 -- The checks of encoding and decoding taken apart: what a call that was done has passed, and what a refused one is refused with.
 use mathlib.Core.Path.{_≡_, sym}
-use mathlib.Core.Bool.{true, _&&_}
+use mathlib.Core.Bool.{true}
 use mathlib.Core.List.{List}
 use Prim.Native.Nat.{ℕ, _*_}
 use borrow.Author.Tests.{eqb-true, eq-eqb}
@@ -8,14 +8,14 @@ use lib.Dec.{leb, eqb}
 use lib.ListN.{length}
 use Rattle.timecode.specs.Answers.{check}
 use Rattle.timecode.specs.Formats.{size}
-use Rattle.timecode.specs.Laws.Checks.{passed, same-check, done}
+use Rattle.timecode.specs.Laws.Checks.{passed, all-passed, refused-alike, done}
 use Rattle.timecode.specs.Laws.Tests.{and-left, and-right}
 use Rattle.timecode.specs.declared.Format.{Format}
 use Rattle.timecode.specs.declared.Refusal.{Refusal}
-use Rattle.timecode.specs.declared.Refusal.the-variants.{UnknownFormat, WrongLength, UnknownSymbol, InvalidCycleCount, UnknownCycle}
+use Rattle.timecode.specs.declared.Refusal.the-variants.{UnknownSymbol, UnknownCycle}
 use Rattle.timecode.specs.declared.Written.{Written}
 use Rattle.timecode.specs.declared.Written.the-variants.{Done}
-use Rattle.cycles.specs.Cycles.{isModulated, isCycleCount, checkFrame, unspoiled, encodeOf, firstImproper, decodeOf}
+use Rattle.cycles.specs.Cycles.{isModulated, isCycleCount, cycleChecks, checkFrame, unspoiled, encodeOf, firstImproper, decodeOf}
 
 pub record Checked (f : Format) (M symbols cycles : ℕ) : Type 0 where
   pub format : isModulated f ≡ true
@@ -26,17 +26,15 @@ pub record Checked (f : Format) (M symbols cycles : ℕ) : Type 0 where
 pub checked : (f : Format) (M symbols cycles : ℕ) (answer : Written) → checkFrame f M symbols cycles answer ≡ Done → Checked f M symbols cycles × (answer ≡ Done)
 unfolding checkFrame
 checked f M symbols cycles answer h =
-    let lengths = eqb symbols (size f) && eqb cycles (size f * M) in
-    let a = passed Written.Refused UnknownFormat (isModulated f) _ Done done h in
-    let b = passed Written.Refused InvalidCycleCount (isCycleCount M) _ Done done (a .1) in
-    let c = passed Written.Refused WrongLength lengths answer Done done (b .1) in (
+    let all = all-passed Written.Refused (cycleChecks f M symbols cycles) answer Done done h in
+    let lengths = all .0 2 in (
       record {
-        format = a .0;
-        count = b .0;
-        elements = eqb-true symbols (size f) (and-left (eqb symbols (size f)) (eqb cycles (size f * M)) (c .0));
-        all = eqb-true cycles (size f * M) (and-right (eqb symbols (size f)) (eqb cycles (size f * M)) (c .0));
+        format = all .0 0;
+        count = all .0 1;
+        elements = eqb-true symbols (size f) (and-left (eqb symbols (size f)) (eqb cycles (size f * M)) lengths);
+        all = eqb-true cycles (size f * M) (and-right (eqb symbols (size f)) (eqb cycles (size f * M)) lengths);
       },
-      c .1,
+      all .1,
     )
 
 pub checks-pass : (f : Format) (M symbols cycles : ℕ) (answer : Written) → Checked f M symbols cycles → checkFrame f M symbols cycles answer ≡ answer
@@ -45,11 +43,7 @@ checks-pass f M symbols cycles answer c = rw (c .format, c .count, eq-eqb symbol
 
 pub checks-refuse : (f : Format) (M symbols cycles : ℕ) (answer : Written) (r : Refusal) → checkFrame f M symbols cycles Done ≡ Written.Refused r → checkFrame f M symbols cycles answer ≡ Written.Refused r
 unfolding checkFrame
-checks-refuse f M symbols cycles answer r =
-    let lengths = eqb symbols (size f) && eqb cycles (size f * M) in
-    same-check Written.Refused UnknownFormat (isModulated f) _ _ (Written.Refused r)
-    (same-check Written.Refused InvalidCycleCount (isCycleCount M) _ _ (Written.Refused r)
-    (same-check Written.Refused WrongLength lengths Done answer (Written.Refused r) (λ h. absurd (done r (sym h)))))
+checks-refuse f M symbols cycles answer r h = refused-alike Written.Refused (cycleChecks f M symbols cycles) Done answer (Written.Refused r) (λ e. done r (sym e)) h
 
 pub encoded : (f : Format) (M : ℕ) (frame lent : List ℕ) → encodeOf f M frame lent ≡ Done → Checked f M (length frame) (length lent) × (unspoiled frame ≡ true)
 unfolding encodeOf

@@ -4,7 +4,7 @@ use mathlib.Core.List.{List, [], _∷_, _++_}
 use Prim.Native.Nat.{ℕ, suc, _*_, _-_, _/_, _%_}
 use lib.Dec.{leb, eqb}
 use lib.ListN.{length, take, drop, replicate}
-use Rattle.timecode.specs.Answers.{check}
+use Rattle.timecode.specs.Answers.{check, Check, checks}
 use Rattle.timecode.specs.Calls.{within}
 use Rattle.timecode.specs.Formats.{member, A, B, G, known, size}
 use Rattle.timecode.specs.Frames.{left}
@@ -25,12 +25,15 @@ unfoldable pub isCycleCount : ℕ → Bool
 isCycleCount M = within 10 100 M && eqb (M % 10) 0
 
 -- 1, 24, and 3 for a frame of so many symbols and so many cycles, before the answer
+abbrev pub cycleChecks : Format → ℕ → ℕ → ℕ → List Check
+cycleChecks f M symbols cycles =
+    (UnknownFormat, isModulated f)  -- 1
+    ∷ (InvalidCycleCount, isCycleCount M)  -- 24
+    ∷ (WrongLength, eqb symbols (size f) && eqb cycles (size f * M))  -- 3
+    ∷ []
+
 unfoldable pub checkFrame : Format → ℕ → ℕ → ℕ → Written → Written
-checkFrame f M symbols cycles answer =
-    check Written.Refused UnknownFormat (isModulated f)  -- 1
-    (check Written.Refused InvalidCycleCount (isCycleCount M)  -- 24
-    (check Written.Refused WrongLength (eqb symbols (size f) && eqb cycles (size f * M))  -- 3
-    answer))
+checkFrame f M symbols cycles answer = checks Written.Refused (cycleChecks f M symbols cycles) answer
 
 -- ---- an element
 

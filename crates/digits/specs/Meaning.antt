@@ -9,9 +9,9 @@ use native.Mathlib.Omega.{arith}
 use borrow.Author.Tests.{leb-true}
 use lib.Dec.{leb, eqb}
 use lib.ListN.{getD}
-use Rattle.timecode.specs.Answers.{check}
+use Rattle.timecode.specs.Answers.{checks}
 use Rattle.timecode.specs.Formats.{isX, carriesLeap, carriesYear, lastDay, daysIn, lastDayIn}
-use Rattle.timecode.specs.Frames.{areDigits, lastSecond, dayIn, isTime, timeIn, secondsAgree}
+use Rattle.timecode.specs.Frames.{areDigits, lastSecond, dayIn, isTime, timeIn, secondsAgree, digitChecks}
 use Rattle.timecode.specs.Laws.Tests.{by-test, and-left, and-right}
 use Rattle.timecode.specs.Laws.Times.{days-range}
 use Rattle.timecode.specs.Layout.{Run, seconds, minutes, hours, days, tenths, hundredthsDigit, hasSeconds, straightSeconds, control, years, timeFields, flatten, digitIn, numberIn, decode}
@@ -58,7 +58,12 @@ unfoldable pub controlFrom : List ℕ → List ℕ → ℕ
 controlFrom ws ds = getD ds 13 0 + 2 ^ getD ws 13 0 * (getD ds 14 0 + 2 ^ getD ws 14 0 * (getD ds 15 0 + 2 ^ getD ws 15 0 * (getD ds 16 0 + 2 ^ getD ws 16 0 * getD ds 17 0)))
 
 unfoldable pub meaningOf : Bool → Bool → List ℕ → List ℕ → Reading
-meaningOf leap year ws ds = check Reading.Refused InvalidDigit (isTimeOf leap year ds) (check Reading.Refused SecondsDiffer (agreeOf ws ds) (Accepted (timeFrom ds) (controlFrom ws ds)))
+meaningOf leap year ws ds =
+    checks Reading.Refused
+    ((InvalidDigit, isTimeOf leap year ds)  -- 7
+    ∷ (SecondsDiffer, agreeOf ws ds)  -- 8
+    ∷ [])
+    (Accepted (timeFrom ds) (controlFrom ws ds))
 
 -- ---- a frame's digits say what the frame says
 
@@ -147,7 +152,7 @@ module _ (f : Format) (frame : List ℕ) where
   unfolding agreeOf secondsAgree
   agree-is x = by-test (hasSeconds f) (λ y. rw (straight-width f, y, straight-is y, time-is x)) (λ m. rw (straight-width f, m))
 
-  pub meaning-is : isX f ≡ false → meaningOf (carriesLeap f) (carriesYear f) (widthsOf f) ds ≡ check Reading.Refused InvalidDigit (isTime f frame) (check Reading.Refused SecondsDiffer (secondsAgree f frame) (Accepted (timeIn f frame) (numberIn frame (control f))))
+  pub meaning-is : isX f ≡ false → meaningOf (carriesLeap f) (carriesYear f) (widthsOf f) ds ≡ checks Reading.Refused (digitChecks f frame) (Accepted (timeIn f frame) (numberIn frame (control f)))
   unfolding meaningOf
   meaning-is x = rw (is-time-is x, agree-is x, time-is x, control-is)
 

@@ -7,16 +7,15 @@ use native.Mathlib.Omega.{arith}
 use borrow.Author.Tests.{leb-true, le-leb}
 use lib.Dec.{leb}
 use lib.ListN.{length}
-use Rattle.timecode.specs.Editions.{withYear, withoutYear, timeInYear, nineBits, isEarlier, checkForward}
+use Rattle.timecode.specs.Editions.{withYear, withoutYear, timeInYear, nineBits, isEarlier, checkForward, forwardChecks}
 use Rattle.timecode.specs.Formats.{A, B, member, rowOf, size, carriesYear, carriesControl, lastYear, daysIn}
 use Rattle.timecode.specs.Frames.{Valid, writeOf, writeLeaves, written}
-use Rattle.timecode.specs.Laws.Checks.{passed, done}
+use Rattle.timecode.specs.Laws.Checks.{done, all-passed}
 use Rattle.timecode.specs.Laws.Editions.{Editions, editions, later-valid, earlier-valid, with-without}
 use Rattle.timecode.specs.Laws.Tests.{by-test, and-left}
 use Rattle.timecode.specs.Laws.Writing.{takes, leaves}
 use Rattle.timecode.specs.declared.Format.{Format}
 use Rattle.timecode.specs.declared.Reading.the-variants.{Accepted}
-use Rattle.timecode.specs.declared.Refusal.the-variants.{InvalidTime, InvalidYear}
 use Rattle.timecode.specs.declared.Time.{Time}
 use Rattle.timecode.specs.declared.Written.{Written}
 use Rattle.timecode.specs.declared.Written.the-variants.{Done}
@@ -52,10 +51,9 @@ module _ (f : Format) (t : Time) (w year : ℕ) (lent : List ℕ) (k : isEarlier
   later-taken : checkForward year (Accepted t w) ≡ Done → writeOf (withYear f) (timeInYear t year) (w / nineBits) lent ≡ Done
   unfolding checkForward
   later-taken h =
-      let a = passed Written.Refused InvalidYear (leb year lastYear) _ Done done h in
-      let b = passed Written.Refused InvalidTime (leb (t .day) (daysIn year)) _ Done done (a .1) in
+      let passed = all-passed Written.Refused (forwardChecks year t w) Done Done done h .0 in
       takes (withYear f) (timeInYear t year) (w / nineBits) lent
-      (later-valid f (editions f k) t w year v (leb-true year lastYear (a .0)) (leb-true (t .day) (daysIn year) (b .0))) (n ∙ sym (later-size f))
+      (later-valid f (editions f k) t w year v (leb-true year lastYear (passed 0)) (leb-true (t .day) (daysIn year) (passed 1))) (n ∙ sym (later-size f))
 
   pub forward-put : (g : Format) (u : Time) → g ≡ withYear f → u ≡ timeInYear t year → checkForward year (Accepted t w) ≡ Done
       → (writeOf g u (w / nineBits) lent ≡ Done) × (writeLeaves g u (w / nineBits) lent ≡ written (withYear f) (timeInYear t year) (w / nineBits))

@@ -5,7 +5,7 @@ use Prim.Native.Nat.{ℕ, zero, suc, _+_, _*_, _/_, _%_, _^_}
 use lib.Dec.{leb, ltb, eqb}
 use lib.IntN.{pos}
 use lib.ListN.{getD, length, take, drop}
-use Rattle.timecode.specs.Answers.{check, Result, success, refusalResult, timeValues}
+use Rattle.timecode.specs.Answers.{check, Result, success, refusalResult, timeValues, Check, checks}
 use Rattle.timecode.specs.Formats.{lastDay, lastYear, inRange}
 use Rattle.timecode.specs.Frames.{noTime}
 use Rattle.timecode.specs.declared.Refusal.{Refusal}
@@ -115,12 +115,15 @@ abbrev pub isControl : ℕ → Bool
 isControl w = ltb w (2 ^ 48)
 
 -- 2 for a day outside 1 to 366 or a c over 8,640,099, 17, and 9
+abbrev pub reportChecks : Report → List Check
+reportChecks r =
+    (InvalidTime, inRange lastDay (r .time))  -- 2
+    ∷ (InvalidYear, leb (r .time .year) lastYear)  -- 17
+    ∷ (ControlTooLong, isControl (r .control))  -- 9
+    ∷ []
+
 abbrev pub checkReport : {Any : Type 0} → (Refusal → Any) → Report → Any → Any
-checkReport refused r answer =
-    check refused InvalidTime (inRange lastDay (r .time))  -- 2
-    (check refused InvalidYear (leb (r .time .year) lastYear)  -- 17
-    (check refused ControlTooLong (isControl (r .control))  -- 9
-    answer))
+checkReport refused r answer = checks refused (reportChecks r) answer
 
 -- ---- reading
 
@@ -130,10 +133,11 @@ readRecord p bytes at =
     let map = getD bytes 0 0 in
     let size = 1 + sizeOf (fieldsAfter p) map in
     let fields = readFields (fieldsAfter p) map (drop 1 bytes) in
-    check LogReading.Refused RecordCutShort (leb size (length bytes))  -- 19
-    (check LogReading.Refused InvalidRecord (ltb map 16 && allDiffer fields map)  -- 20
-    (checkReport LogReading.Refused (reportIn fields)
-    (Record (reportIn fields) (at + size))))
+    checks LogReading.Refused
+    ((RecordCutShort, leb size (length bytes))  -- 19
+    ∷ (InvalidRecord, ltb map 16 && allDiffer fields map)  -- 20
+    ∷ reportChecks (reportIn fields))
+    (Record (reportIn fields) (at + size))
 
 -- Reading takes a place and the report before, and gives a report and the next place, or none at the log's end.
 unfoldable pub readLog : List ℕ → ℕ → Report → LogReading
@@ -150,9 +154,10 @@ fitOf log at bytes = cond (leb (at + length bytes) (length log)) (Next (at + len
 
 unfoldable pub writeLog : List ℕ → ℕ → Report → Report → LogWritten
 writeLog log at p r =
-    check LogWritten.Refused StartPastEnd (leb at (length log))  -- 12
-    (checkReport LogWritten.Refused r
-    (fitOf log at (recordOf p r)))
+    checks LogWritten.Refused
+    ((StartPastEnd, leb at (length log))  -- 12
+    ∷ reportChecks r)
+    (fitOf log at (recordOf p r))
 
 -- the bytes put in the middle of the log: all else is left
 unfoldable pub putAt : List ℕ → ℕ → List ℕ → List ℕ

@@ -9,13 +9,12 @@ use borrow.Author.Tests.{leb-true, eqb-true, eqb-false, le-leb, eq-eqb, ne-eqb}
 use lib.Dec.{leb, ltb, eqb}
 use lib.ListN.{getD, length, drop, length-append, length-drop}
 use lib.Seq.{drop-append-seam, drop-length, drop-drop, getD-drop}
-use Rattle.timecode.specs.Answers.{check}
-use Rattle.timecode.specs.Laws.Checks.{Taken, passed}
+use Rattle.timecode.specs.Laws.Checks.{Taken, passed, all-passed}
 use Rattle.timecode.specs.Laws.Tests.{by-test}
 use Rattle.timecode.specs.declared.Refusal.the-variants.{StartPastEnd, RecordCutShort, InvalidRecord}
-use Rattle.report_log.specs.Checks.{Valid, ranges-passed}
+use Rattle.report_log.specs.Checks.{Valid}
 use Rattle.report_log.specs.declared.Report.{Report}
-use Rattle.report_log.specs.Log.{noReport, recordOf, logAfter, logOf, sizeOf, readFields, reportIn, allDiffer, fieldsAfter, checkReport, readRecord, readLog}
+use Rattle.report_log.specs.Log.{noReport, recordOf, logAfter, logOf, sizeOf, readFields, reportIn, allDiffer, fieldsAfter, readRecord, readLog, reportChecks}
 use Rattle.report_log.specs.Numbers.{Bytes}
 use Rattle.report_log.specs.Records.{found, record-said, Found, record-read}
 use Rattle.report_log.specs.declared.LogReading.{LogReading}
@@ -46,10 +45,7 @@ record-some p bytes at h =
     let size = 1 + sizeOf (fieldsAfter p) map in
     let fs = readFields (fieldsAfter p) map (drop 1 bytes) in
     let q = reportIn fs in
-    let answer = Record q (at + size) in
-    let c19 = passed LogReading.Refused RecordCutShort (leb size (length bytes)) (check LogReading.Refused InvalidRecord (ltb map 16 && allDiffer fs map) (checkReport LogReading.Refused q answer)) LogReading.None none h in
-    let c20 = passed LogReading.Refused InvalidRecord (ltb map 16 && allDiffer fs map) (checkReport LogReading.Refused q answer) LogReading.None none (c19 .1) in
-    no-record q (at + size) (ranges-passed LogReading.Refused q answer LogReading.None none (c20 .1) .1)
+    no-record q (at + size) (all-passed LogReading.Refused ((RecordCutShort, leb size (length bytes)) ∷ (InvalidRecord, ltb map 16 && allDiffer fs map) ∷ reportChecks q) (Record q (at + size)) LogReading.None none h .1)
   where
     no-record : (q : Report) (n : ℕ) → Record q n ≡ LogReading.None → ⊥
     no-record q n e = no-path cc

@@ -8,9 +8,8 @@ use borrow.Author.Tests.{leb-true, ltb-true, le-leb, lt-ltb, eq-eqb, ne-eqb}
 use lib.Dec.{leb, ltb, eqb}
 use lib.ListN.{length, take, drop, length-append, take-append-drop}
 use lib.Seq.{length-take-le}
-use Rattle.timecode.specs.Answers.{check}
 use Rattle.timecode.specs.Formats.{lastDay, lastHundredth, lastYear, inRange}
-use Rattle.timecode.specs.Laws.Checks.{Taken, passed}
+use Rattle.timecode.specs.Laws.Checks.{Taken, all-passed}
 use Rattle.timecode.specs.Laws.Tests.{by-test, clash, and-left, and-right}
 use Rattle.timecode.specs.declared.Refusal.the-variants.{RecordCutShort, InvalidRecord}
 use Rattle.report_log.specs.Checks.{Valid, ranges-passed, valid-passes}
@@ -110,12 +109,11 @@ record-read p (b ∷ bs) at r n own some h =
     let fs = readFields (fieldsAfter p) b bs in
     let q = reportIn fs in
     let last = Record q (at + (1 + size)) in
-    let c19 = passed LogReading.Refused RecordCutShort (leb (1 + size) (suc (length bs))) (check LogReading.Refused InvalidRecord (ltb b 16 && allDiffer fs b) (checkReport LogReading.Refused q last)) (Record r n) (found r n) h in
-    let c20 = passed LogReading.Refused InvalidRecord (ltb b 16 && allDiffer fs b) (checkReport LogReading.Refused q last) (Record r n) (found r n) (c19 .1) in
-    let ranges = ranges-passed LogReading.Refused q last (Record r n) (found r n) (c20 .1) in
-    let room : size ≤ length bs = omega (arith, leb-true (1 + size) (suc (length bs)) (c19 .0)) in
-    let low = ltb-true b 16 (and-left (ltb b 16) (allDiffer fs b) (c20 .0)) in
-    let read = fields-read (fieldsAfter p) b bs (rw (length-fields p) low) room (λ i. own (suc i)) (and-right (ltb b 16) (allDiffer fs b) (c20 .0)) in
+    let first = all-passed LogReading.Refused ((RecordCutShort, leb (1 + size) (suc (length bs))) ∷ (InvalidRecord, ltb b 16 && allDiffer fs b) ∷ []) (checkReport LogReading.Refused q last) (Record r n) (found r n) h in
+    let ranges = ranges-passed LogReading.Refused q last (Record r n) (found r n) (first .1) in
+    let room : size ≤ length bs = omega (arith, leb-true (1 + size) (suc (length bs)) (first .0 0)) in
+    let low = ltb-true b 16 (and-left (ltb b 16) (allDiffer fs b) (first .0 1)) in
+    let read = fields-read (fieldsAfter p) b bs (rw (length-fields p) low) room (λ i. own (suc i)) (and-right (ltb b 16) (allDiffer fs b) (first .0 1)) in
     let same : q ≡ r = answered q r (at + (1 + size)) n (ranges .1) .0 in
     found-at p b bs at r n fs (subst Valid same (ranges .0)) (ap (fieldsOf p) (sym same) ∙ fields-again p b bs) (read .map-is) size (read .changed-is) (ap length (read .changed-is) ∙ length-take-le size bs room) (sym (answered q r (at + (1 + size)) n (ranges .1) .1))
   where

@@ -1,26 +1,25 @@
 -- The listeners of a simulation before the first frame and after each; and the result of the call.
-use mathlib.Core.Path.{_≡_, refl, sym, ap, subst, _∙_}
+use mathlib.Core.Path.{_≡_, refl, ap, subst, _∙_}
 use mathlib.Core.Bool.{true}
 use mathlib.Core.List.{List, [], _∷_, _++_, map}
-use Prim.Native.Nat.{ℕ, zero, suc, _+_, _*_, _-_, _<_, _≤_}
+use Prim.Native.Nat.{ℕ, zero, suc, _+_, _-_, _<_, _≤_}
 use native.Mathlib.Nat.{not-suc-le-zero}
 use native.Mathlib.Omega.{arith}
 use native.Mathlib.Decide.{ℕ-discrete}
 use lib.ListN.{getD, length, set, replicate, length-set, length-replicate, getD-replicate}
 use lib.Seq.{getD-set-same, getD-set-other}
-use Rattle.timecode.specs.Answers.{check}
+use Rattle.timecode.specs.Answers.{checks}
 use Rattle.timecode.specs.Formats.{known}
 use Rattle.timecode.specs.Frames.{usual, stepOf, Sent}
 use Rattle.timecode.specs.Stream.{isSetting}
 use Rattle.timecode.specs.declared.Format.{Format}
-use Rattle.timecode.specs.declared.Refusal.the-variants.{WrongLength, InvalidSetting, InvalidListener}
 use Rattle.timecode.specs.declared.Stepped.{Stepped}
 use Rattle.timecode.specs.declared.Stepped.the-variants.{To}
 use Rattle.timecode.specs.declared.Time.{Time}
 use Rattle.timecode.specs.declared.Written.{Written}
 use Rattle.timecode.specs.declared.Written.the-variants.{Done}
-use Rattle.simulation.specs.Lent.{startOf, listenersOf, areLists}
-use Rattle.simulation.specs.Simulation.{runOf, heard, countsOf, Simulated, Heard, haveSettings, areListeners}
+use Rattle.simulation.specs.Lent.{startOf, listenersOf, listChecks}
+use Rattle.simulation.specs.Simulation.{runOf, heard, countsOf, Simulated, Heard}
 use Rattle.simulation.specs.declared.Counts.{Counts}
 use Rattle.stream.specs.declared.Reader.{Reader}
 use Rattle.listening.specs.FrameDamages.{RisingBetween}
@@ -91,10 +90,7 @@ heardAll f start frames given settings ends numbers symbols = Heard (map (λ l. 
 
 unfoldable pub checkLent : Format → Time → ℕ → ℕ → List ℕ → List ℕ → List ℕ → List ℕ → Simulated
 checkLent f start frames given settings ends numbers symbols =
-    check Simulated.Refused InvalidSetting (haveSettings (listenersOf settings ends numbers symbols))
-    (check Simulated.Refused WrongLength (areLists settings ends numbers symbols)
-    (check Simulated.Refused InvalidListener (areListeners (listenersOf settings ends numbers symbols))
-    (heardAll f start frames given settings ends numbers symbols)))
+    checks Simulated.Refused (listChecks settings ends numbers symbols) (heardAll f start frames given settings ends numbers symbols)
 
 -- the result of an answer: the counts, and zeros past the last listener or where it was refused
 abbrev pub resultOf : Simulated → Simulation

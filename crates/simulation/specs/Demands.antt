@@ -1,21 +1,21 @@
 -- What document 02 says of a simulation, for every format, start, number of frames, year length and list of listeners.
-use mathlib.Core.Path.{_≡_, refl, sym, ap, subst, _∙_}
+use mathlib.Core.Path.{_≡_, refl, sym, ap, _∙_}
 use mathlib.Core.Bool.{Bool, true, false, _&&_}
 use mathlib.Core.List.{List, [], _∷_, map}
 use mathlib.Core.Logic.{_↔_, _⊎_, inl, inr}
 use Prim.Native.Nat.{ℕ, zero, suc, _+_, _*_, _-_, _<_, _≤_}
 use native.Mathlib.Nat.{not-suc-le-zero, zero-add, mul-le-mul-left}
 use native.Mathlib.Omega.{arith}
-use native.Mathlib.Decide.{ℕ-discrete, decLt}
+use native.Mathlib.Decide.{decLt}
 use borrow.Author.Tests.{leb-true}
 use lib.Dec.{leb}
 use lib.ListN.{length, getD, take, set, length-set, List·getD-eq-default}
 use lib.Seq.{ext-getD, getD-take, length-take-le, getD-set-other}
-use Rattle.timecode.specs.Answers.{check}
+use Rattle.timecode.specs.Answers.{Check, checks}
 use Rattle.timecode.specs.Demand3.{Demand3, demand-3, higher-setting-reports-a-part}
 use Rattle.timecode.specs.Formats.{isX, size}
 use Rattle.timecode.specs.Frames.{usual, stepOf, Sent, Generator, elements, sentAt, EndsFrame}
-use Rattle.timecode.specs.Laws.Checks.{quiet-no-report}
+use Rattle.timecode.specs.Laws.Checks.{quiet-no-report, all-passed}
 use Rattle.timecode.specs.Laws.Generators.{element-small}
 use Rattle.timecode.specs.Laws.Machine.{length-answers, all-elements}
 use Rattle.timecode.specs.Laws.Marks.{size-positive}
@@ -34,7 +34,7 @@ use Rattle.simulation.specs.Counting.{none-false, first-is, PartOf, fewe
 use Rattle.simulation.specs.Damages.{placesOf, length-damaged, damaged-places, damaged-small}
 use Rattle.simulation.specs.Run.{length-run, run-generator}
 use Rattle.simulation.specs.declared.Counts.{Counts}
-use Rattle.simulation.specs.Simulation.{runOf, Damage, replaceAt, damaged, areRising, haveSymbols, isReport, firstReport, reportCount, falseCount, Listener, heard, countsOf, Simulated, Heard, every, haveSettings, areListeners, stepped, simulateOf}
+use Rattle.simulation.specs.Simulation.{runOf, Damage, replaceAt, damaged, areRising, haveSymbols, isReport, firstReport, Listener, heard, countsOf, Simulated, Heard, every, haveSettings, areListeners, stepped, simulateOf}
 -- A report is right exactly where a frame of the generator ends with that element and its time is reported.
 pub use Rattle.simulation.specs.Counting.{ends-exactly-when}
 
@@ -178,10 +178,6 @@ countsIn (Simulated.Refused r) = []
 no-counts : {P : Type 0} (r : Refusal) (cs : List Counts) → Simulated.Refused r ≡ Heard cs → P
 no-counts r cs h = clash {b = isHeard (Heard cs)} refl (sym (ap isHeard h))
 
-passed : (r : Refusal) (b : Bool) (a : Simulated) (cs : List Counts) → check Simulated.Refused r b a ≡ Heard cs → (b ≡ true) × (a ≡ Heard cs)
-passed r true a cs h = (refl, h)
-passed r false a cs h = no-counts r cs h
-
 step-passed : (s : Stepped) (a : Simulated) (cs : List Counts) → stepped s a ≡ Heard cs → (u : Time) × (s ≡ To u) × (a ≡ Heard cs)
 step-passed (To u) a cs h = (u, refl, h)
 step-passed (Stepped.Refused r) a cs h = no-counts r cs h
@@ -191,10 +187,10 @@ module _ (f : Format) (start : Time) (frames given : ℕ) (ls : List Listener) (
   unfolding simulateOf
   took-place h =
       let answer = Heard (map (λ l. countsOf f (runOf f given frames start) (heard f (runOf f given frames start) l)) ls) in
-      let a = step-passed (stepOf f start given usual) (check Simulated.Refused InvalidSetting (haveSettings ls) (check Simulated.Refused InvalidListener (areListeners ls) answer)) counts h in
-      let b = passed InvalidSetting (haveSettings ls) (check Simulated.Refused InvalidListener (areListeners ls) answer) counts (a .2) in
-      let c = passed InvalidListener (areListeners ls) answer counts (b .1) in
-      record { after = a .0; steps = a .1; settings = b .0; listeners = c .0; are-plain = sym (ap countsIn (c .1)) }
+      let own : List Check = (InvalidSetting, haveSettings ls) ∷ (InvalidListener, areListeners ls) ∷ [] in
+      let a = step-passed (stepOf f start given usual) (checks Simulated.Refused own answer) counts h in
+      let b = all-passed Simulated.Refused own answer (Heard counts) (λ r e. no-counts r counts e) (a .2) in
+      record { after = a .0; steps = a .1; settings = b .0 0; listeners = b .0 1; are-plain = sym (ap countsIn (b .1)) }
 
   gives-counts : TookPlace f start frames given ls counts → simulateOf f start frames given ls ≡ Heard counts
   unfolding simulateOf

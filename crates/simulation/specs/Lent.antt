@@ -1,11 +1,11 @@
 -- The listeners as they are lent to a program: a list of settings, and for all of them together one list of element numbers and one of symbols, with an end for each listener.
 use mathlib.Core.Path.{_≡_}
-use mathlib.Core.Bool.{Bool, true, cond, _&&_}
+use mathlib.Core.Bool.{Bool, true, _&&_}
 use mathlib.Core.List.{List, [], _∷_, map}
 use Prim.Native.Nat.{ℕ, zero, suc, _-_}
 use lib.Dec.{leb, eqb}
 use lib.ListN.{getD, length}
-use Rattle.timecode.specs.Answers.{check}
+use Rattle.timecode.specs.Answers.{Check, checks}
 use Rattle.timecode.specs.Frames.{usual, stepOf}
 use Rattle.timecode.specs.Layout.{tabulate}
 use Rattle.timecode.specs.declared.Format.{Format}
@@ -41,13 +41,18 @@ unfoldable pub areLists : List ℕ → List ℕ → List ℕ → List ℕ → Bo
 areLists settings ends numbers symbols = eqb (length ends) (length settings) && (eqb (length symbols) (length numbers) && endsFit 0 ends (length numbers))
 
 -- The call checks 1, 17, 2, 14, 11, 15 as Step does for the start, then 26, 3, 27.
+abbrev pub listChecks : List ℕ → List ℕ → List ℕ → List ℕ → List Check
+listChecks settings ends numbers symbols =
+    (InvalidSetting, haveSettings (listenersOf settings ends numbers symbols))  -- 26
+    ∷ (WrongLength, areLists settings ends numbers symbols)  -- 3
+    ∷ (InvalidListener, areListeners (listenersOf settings ends numbers symbols))  -- 27
+    ∷ []
+
 unfoldable pub simulateLent : Format → Time → ℕ → ℕ → List ℕ → List ℕ → List ℕ → List ℕ → Simulated
 simulateLent f start frames length settings ends numbers symbols =
     stepped (stepOf f start length usual)
-    (check Refused InvalidSetting (haveSettings (listenersOf settings ends numbers symbols))  -- 26
-    (check Refused WrongLength (areLists settings ends numbers symbols)  -- 3
-    (check Refused InvalidListener (areListeners (listenersOf settings ends numbers symbols))  -- 27
-    (Heard (map (λ l. countsOf f (runOf f length frames start) (heard f (runOf f length frames start) l)) (listenersOf settings ends numbers symbols))))))
+    (checks Refused (listChecks settings ends numbers symbols)
+    (Heard (map (λ l. countsOf f (runOf f length frames start) (heard f (runOf f length frames start) l)) (listenersOf settings ends numbers symbols))))
 
 -- Of lists that are such lists it is the simulation of the listeners that they are.
 pub lent-simulates : (f : Format) (start : Time) (frames length : ℕ) (settings ends numbers symbols : List ℕ) → areLists settings ends numbers symbols ≡ true

@@ -1,12 +1,11 @@
 -- Document 02, "Trying the confirmation setting", from "Then simulate": a generator, listeners with their own setting k and their own damages, and what each counts.
 -- Elements are numbered from 1.
-use mathlib.Core.Path.{_≡_}
 use mathlib.Core.Bool.{Bool, true, false, cond, not, _&&_}
 use mathlib.Core.List.{List, [], _∷_, map}
 use Prim.Native.Nat.{ℕ, zero, suc, _-_, _/_, _%_}
 use lib.Dec.{leb, ltb, eqb}
 use lib.ListN.{length, set}
-use Rattle.timecode.specs.Answers.{check}
+use Rattle.timecode.specs.Answers.{checks}
 use Rattle.timecode.specs.Formats.{isSymbol, size}
 use Rattle.timecode.specs.Frames.{usual, sameTime, stepOf, Sent, elements, sentAt}
 use Rattle.timecode.specs.Stream.{isSetting, plainAnswers}
@@ -125,6 +124,8 @@ stepped (Stepped.Refused r) answer = Refused r
 unfoldable pub simulateOf : Format → Time → ℕ → ℕ → List Listener → Simulated
 simulateOf f start frames length ls =
     stepped (stepOf f start length usual)  -- 1, 17, 2, 14, 11, 15
-    (check Refused InvalidSetting (haveSettings ls)  -- 26
-    (check Refused InvalidListener (areListeners ls)  -- 27
-    (Heard (map (λ l. countsOf f (runOf f length frames start) (heard f (runOf f length frames start) l)) ls))))
+    (checks Refused
+    ((InvalidSetting, haveSettings ls)  -- 26
+    ∷ (InvalidListener, areListeners ls)  -- 27
+    ∷ [])
+    (Heard (map (λ l. countsOf f (runOf f length frames start) (heard f (runOf f length frames start) l)) ls)))

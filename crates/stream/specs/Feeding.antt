@@ -1,11 +1,11 @@
 -- What the program's reader is, and what a Feed makes of it, for every reader and symbol.
 use mathlib.Core.Path.{_≡_}
 use mathlib.Core.Bool.{Bool, true, cond, _&&_}
-use mathlib.Core.List.{[]}
+use mathlib.Core.List.{[], _∷_}
 use Prim.Native.Nat.{ℕ, _+_, _%_, _<_}
 use borrow.Author.Tests.{ltb-true}
 use lib.Dec.{leb, eqb, ltb}
-use Rattle.timecode.specs.Answers.{check, Result, success, refusalResult}
+use Rattle.timecode.specs.Answers.{Result, success, refusalResult, checks}
 use Rattle.timecode.specs.Formats.{isSymbol, known, size}
 use Rattle.timecode.specs.Frames.{noTime, readOf}
 use Rattle.timecode.specs.Laws.Tests.{and-right}
@@ -33,9 +33,11 @@ freshReader f k = record { format = f; setting = k; place = 0; received = freshR
 -- Making a fresh reader checks 1, 26.
 unfoldable pub madeOf : Format → ℕ → Made
 madeOf f k =
-    check Made.Refused UnknownFormat (known f)  -- 1
-    (check Made.Refused InvalidSetting (isSetting k)  -- 26
-    (Made.Fresh (freshReader f k)))
+    checks Made.Refused
+    ((UnknownFormat, known f)  -- 1
+    ∷ (InvalidSetting, isSetting k)  -- 26
+    ∷ [])
+    (Made.Fresh (freshReader f k))
 
 -- the result of making a reader: document 01 gives no value with it
 abbrev pub madeResult : Made → Result
@@ -75,10 +77,12 @@ answerAfter r = cond (eqb (r .received .count) (size (r .format)) && leb (r .set
 -- Feed checks 13, 26, 4.
 unfoldable pub answerOf : Reader → ℕ → Answer
 answerOf r s =
-    check Answer.Refused InvalidReader (isValid r)  -- 13
-    (check Answer.Refused InvalidSetting (isSetting (r .setting))  -- 26
-    (check Answer.Refused UnknownSymbol (isSymbol s)  -- 4
-    (answerAfter (nextOf r s))))
+    checks Answer.Refused
+    ((InvalidReader, isValid r)  -- 13
+    ∷ (InvalidSetting, isSetting (r .setting))  -- 26
+    ∷ (UnknownSymbol, isSymbol s)  -- 4
+    ∷ [])
+    (answerAfter (nextOf r s))
 
 unfoldable pub feedOf : Reader → ℕ → Fed
 feedOf r s = record { reader = nextOf r s; answer = answerOf r s }

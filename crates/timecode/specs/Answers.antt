@@ -84,6 +84,14 @@ abbrev pub check : {Any : Type 0} → (Refusal → Any) → Refusal → Bool →
 check refused r true answer = answer
 check refused r false answer = refused r
 
+-- All checks of a call from one list, in their order: each refusal with its test. The first test that fails decides; where none does, the answer.
+abbrev pub Check : Type 0
+Check = Refusal × Bool
+
+abbrev pub checks : {Any : Type 0} → (Refusal → Any) → List Check → Any → Any
+checks refused [] answer = answer
+checks refused ((r, test) ∷ cs) answer = check refused r test (checks refused cs answer)
+
 -- The result of an answer: 0 and its values, or the number of a refusal and the value beside it.
 pub record Result : Type 0 where
   pub number : ℕ

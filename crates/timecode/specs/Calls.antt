@@ -1,12 +1,12 @@
 -- Document 01, "Classifier, difference, scan, program": what the classifier, Difference and Scan answer.
 use mathlib.Core.Path.{_≡_}
 use mathlib.Core.Bool.{Bool, true, false, cond, _&&_}
-use mathlib.Core.List.{List, [], _∷_, map}
+use mathlib.Core.List.{List, [], _∷_, _++_, map}
 use Prim.Native.Nat.{ℕ, zero, suc, _+_, _*_, _-_, _<_, _≤_}
 use lib.Dec.{leb, eqb}
 use lib.IntN.{ℤ, pos, _+ℤ_, _-ℤ_, _*ℤ_}
 use lib.ListN.{getD, length, take, drop}
-use Rattle.timecode.specs.Answers.{check}
+use Rattle.timecode.specs.Answers.{Check, check, checks}
 use Rattle.timecode.specs.Formats.{isX, known, size, lastDay, dayLength, inRange}
 use Rattle.timecode.specs.Frames.{left, readOf}
 use Rattle.timecode.specs.Stream.{lead}
@@ -72,11 +72,14 @@ unfoldable pub pulseOf : WidthSettings → ℕ → ℕ → ℕ → Pulse
 pulseOf s T width period = cond (isPeriod T period) (pulseAmong (classes s) T width) spoiledPulse
 
 -- one pulse: 10, then 16
+abbrev pub pulseChecks : WidthSettings → ℕ → List Check
+pulseChecks s T =
+    (InvalidInterval, isInterval T)  -- 10
+    ∷ (InvalidWidthSetting, areWidthSettings s)  -- 16
+    ∷ []
+
 unfoldable pub classifyOf : WidthSettings → ℕ → ℕ → ℕ → Classified
-classifyOf s T width period =
-    check Classified.Refused InvalidInterval (isInterval T)  -- 10
-    (check Classified.Refused InvalidWidthSetting (areWidthSettings s)  -- 16
-    (Symbol (pulseOf s T width period .symbol) (pulseOf s T width period .deviation)))
+classifyOf s T width period = checks Classified.Refused (pulseChecks s T) (Symbol (pulseOf s T width period .symbol) (pulseOf s T width period .deviation))
 
 -- pulse by pulse
 unfoldable pub pulsesOf : WidthSettings → ℕ → List ℕ → List ℕ → List Pulse
@@ -85,12 +88,14 @@ pulsesOf s T (w ∷ ws) [] = []
 pulsesOf s T (w ∷ ws) (p ∷ ps) = pulseOf s T w p ∷ pulsesOf s T ws ps
 
 -- over lists 10, 16, then 3: all four of one length
+abbrev pub pulseListChecks : WidthSettings → ℕ → List ℕ → List ℕ → List ℕ → List ℤ → List Check
+pulseListChecks s T widths periods symbols deviations =
+    pulseChecks s T
+    ++ ((WrongLength, eqb (length widths) (length symbols) && (eqb (length periods) (length symbols) && eqb (length deviations) (length symbols)))  -- 3
+    ∷ [])
+
 unfoldable pub classifyListOf : WidthSettings → ℕ → List ℕ → List ℕ → List ℕ → List ℤ → Written
-classifyListOf s T widths periods symbols deviations =
-    check Written.Refused InvalidInterval (isInterval T)  -- 10
-    (check Written.Refused InvalidWidthSetting (areWidthSettings s)  -- 16
-    (check Written.Refused WrongLength (eqb (length widths) (length symbols) && (eqb (length periods) (length symbols) && eqb (length deviations) (length symbols)))  -- 3
-    Done))
+classifyListOf s T widths periods symbols deviations = checks Written.Refused (pulseListChecks s T widths periods symbols deviations) Done
 
 -- the lent symbols and the lent deviations afterwards
 unfoldable pub symbolsLeft : WidthSettings → ℕ → List ℕ → List ℕ → List ℕ → List ℤ → List ℕ
@@ -145,11 +150,14 @@ unfoldable pub firstPlace : Format → ℕ → ℕ
 firstPlace f start = cond (leb (lead f) start) start (lead f)
 
 -- Scan checks 1, 12; a frame at a has room where a + n is at most the recording's length.
+abbrev pub scanChecks : Format → List ℕ → ℕ → List Check
+scanChecks f recording start =
+    (UnknownFormat, known f)  -- 1
+    ∷ (StartPastEnd, leb start (length recording))  -- 12
+    ∷ []
+
 unfoldable pub scanOf : Format → List ℕ → ℕ → Scanned
-scanOf f recording start =
-    check Scanned.Refused UnknownFormat (known f)  -- 1
-    (check Scanned.Refused StartPastEnd (leb start (length recording))  -- 12
-    (lowestOf f recording (length recording + 1 - (firstPlace f start + size f)) (firstPlace f start)))
+scanOf f recording start = checks Scanned.Refused (scanChecks f recording start) (lowestOf f recording (length recording + 1 - (firstPlace f start + size f)) (firstPlace f start))
 
 -- element a - 1 is a mark, except in X, and the frame beginning at a is accepted
 pub record FrameAt (f : Format) (recording : List ℕ) (a : ℕ) (t : Time) (w : ℕ) : Type 0 where

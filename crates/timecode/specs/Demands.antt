@@ -1,9 +1,8 @@
 -- The demands, stated over the definitions and proved for every format, time, control word, list and length.
-use mathlib.Core.Path.{_≡_, sym, ap, _∙_, subst}
+use mathlib.Core.Path.{_≡_, refl, sym, ap, _∙_, subst}
 use mathlib.Core.Bool.{true, false}
 use mathlib.Core.List.{List, [], _∷_, _++_}
-use Prim.Native.Nat.{ℕ, suc, _-_, _*_, _/_, _%_, _^_, _<_, _≤_}
-use lib.Dec.{eqb}
+use Prim.Native.Nat.{ℕ, suc, _-_, _/_, _%_, _^_, _<_, _≤_}
 use lib.IntN.{ℤ}
 use lib.ListN.{getD, length, take, drop, replicate, length-replicate}
 use mathlib.Core.Logic.{_↔_, _⊎_, inl, inr}
@@ -13,9 +12,9 @@ use Rattle.timecode.specs.Answers.{refusalNumber}
 use Rattle.timecode.specs.Calls.{classifyListOf, symbolsLeft, deviationsLeft}
 use Rattle.timecode.specs.Editions.{withYear, withoutYear, timeInYear, nineBits, forwardOf, forwardLeaves, backwardOf, backwardLeaves}
 use Rattle.timecode.specs.Formats.{member, isX, rowOf, known, size, interval, carriesYear, lastHundredth, dayLength, yearCarried, onFormat, carriesLeap, secondCarried}
-use Rattle.timecode.specs.Frames.{newYear, turnDay, yearLengths, lengthIn, usual, kinds, dayEnd, sameDay, nextDay, stepOf, Follows, nextAfter, stepBackOf, Precedes, writeOf, writeLeaves, readOf, Sent, Generator, sentAt, dayBefore, yearOfTimeBefore, following, preceding, onDay, areSymbols, isTime, timeIn, secondsAgree}
+use Rattle.timecode.specs.Frames.{newYear, turnDay, yearLengths, lengthIn, usual, kinds, dayEnd, sameDay, nextDay, stepOf, Follows, nextAfter, stepBackOf, Precedes, writeOf, writeLeaves, readOf, Sent, Generator, sentAt, dayBefore, yearOfTimeBefore, following, preceding, onDay, timeIn, frameChecks, digitChecks}
 use Rattle.timecode.specs.Laws.Back.{step-back, lengthBefore, checks-alike, back-step, back-on-format, follows-precedes, precedes-follows, any-length-back}
-use Rattle.timecode.specs.Laws.Checks.{accepted, by-reading, refused-up-to}
+use Rattle.timecode.specs.Laws.Checks.{accepted, by-reading, all-refused-up-to}
 use Rattle.timecode.specs.Laws.Editions.{Forward, forward-done, forward-leaves, forward-reads, forward-back, back-forward, forward-keeps, backward-keeps, backward-year, with-without}
 use Rattle.timecode.specs.Laws.Existence.{frames, length-frames, control-at, first-time, generator, goes-on}
 use Rattle.timecode.specs.Laws.Reading.{accepted-was-written, elements-up-to}
@@ -27,7 +26,7 @@ use Rattle.timecode.specs.Layout.{second, minute, hour, filler, runs, co
 use Rattle.timecode.specs.declared.Format.{Format}
 use Rattle.timecode.specs.declared.Reading.{Reading}
 use Rattle.timecode.specs.declared.Reading.the-variants.{Accepted}
-use Rattle.timecode.specs.declared.Refusal.the-variants.{UnknownFormat, WrongLength, UnknownSymbol, InvalidDigit, SecondsDiffer, InvalidYearLength}
+use Rattle.timecode.specs.declared.Refusal.the-variants.{InvalidYearLength}
 use Rattle.timecode.specs.declared.Refusal.{Refusal}
 use Rattle.timecode.specs.declared.Stepped.{Stepped}
 use Rattle.timecode.specs.declared.Stepped.the-variants.{To}
@@ -96,13 +95,10 @@ refused-exactly-when-unwritten f bytes = (
 pub read-refuses-up-to-8 : (f : Format) (frame : List ℕ) (r : Refusal) → readOf f frame ≡ Reading.Refused r → refusalNumber r ≤ 8
 unfolding readOf
 read-refuses-up-to-8 f frame r =
-    refused-up-to 8 UnknownFormat (known f) _ r (omega arith)
-    (refused-up-to 8 WrongLength (eqb (length frame) (size f)) _ r (omega arith)
-    (refused-up-to 8 UnknownSymbol (areSymbols frame) _ r (omega arith)
+    all-refused-up-to 8 (frameChecks f frame) _ r refl
     (elements-up-to (filler f) (runs f) frame 0 _ r
-    (refused-up-to 8 InvalidDigit (isTime f frame) _ r (omega arith)
-    (refused-up-to 8 SecondsDiffer (secondsAgree f frame) _ r (omega arith)
-    (λ h. absurd (accepted (timeIn f frame) (numberIn frame (control f)) r (sym h))))))))
+    (all-refused-up-to 8 (digitChecks f frame) _ r refl
+    (λ h. absurd (accepted (timeIn f frame) (numberIn frame (control f)) r (sym h)))))
 
 -- The added second is written and read as 23:59:60 and SBS 86,400.
 pub added-second-is-the-61st : (c : ℕ) → dayLength ≤ c → c ≤ lastHundredth → (hour c ≡ 23) × (minute c ≡ 59) × (second c ≡ 60) × (c / 100 ≡ 86400)

@@ -4,7 +4,7 @@ use mathlib.Core.List.{List, [], _∷_}
 use Prim.Native.Nat.{ℕ, _+_, _-_, _*_, _/_, _%_}
 use lib.Dec.{leb, eqb}
 use lib.ListN.{length}
-use Rattle.timecode.specs.Answers.{check}
+use Rattle.timecode.specs.Answers.{Check, checks}
 use Rattle.timecode.specs.Formats.{A, B, member, size, carriesYear, lastYear, daysIn}
 use Rattle.timecode.specs.Frames.{written, left, readOf}
 use Rattle.timecode.specs.declared.Format.{Format}
@@ -40,20 +40,27 @@ nineBits = 512
 unfoldable pub isEarlier : Format → Bool
 isEarlier f = member (f .expression) (0 ∷ 1 ∷ 2 ∷ 3 ∷ []) && member (f .letter) (A ∷ B ∷ [])
 
+-- both ways 1, 3: the format is of the edition that is converted, and both frames have its length
+abbrev pub editionChecks : Format → Bool → List ℕ → List ℕ → List Check
+editionChecks f right frame lent =
+    (UnknownFormat, right)  -- 1
+    ∷ (WrongLength, bothFit f frame lent)  -- 3
+    ∷ []
+
 -- what Read refuses, and then 17, 2, 18
+abbrev pub forwardChecks : ℕ → Time → ℕ → List Check
+forwardChecks year t w =
+    (InvalidYear, leb year lastYear)  -- 17
+    ∷ (InvalidTime, leb (t .day) (daysIn year))  -- 2
+    ∷ (YearPlaceTaken, eqb (w % nineBits) 0)  -- 18
+    ∷ []
+
 unfoldable pub checkForward : ℕ → Reading → Written
-checkForward year (Accepted t w) =
-    check Written.Refused InvalidYear (leb year lastYear)  -- 17
-    (check Written.Refused InvalidTime (leb (t .day) (daysIn year))  -- 2
-    (check Written.Refused YearPlaceTaken (eqb (w % nineBits) 0)  -- 18
-    Done))
+checkForward year (Accepted t w) = checks Written.Refused (forwardChecks year t w) Done
 checkForward year (Reading.Refused r) = Written.Refused r
 
 unfoldable pub forwardOf : Format → List ℕ → ℕ → List ℕ → Written
-forwardOf f frame year lent =
-    check Written.Refused UnknownFormat (isEarlier f)  -- 1
-    (check Written.Refused WrongLength (bothFit f frame lent)  -- 3
-    (checkForward year (readOf f frame)))
+forwardOf f frame year lent = checks Written.Refused (editionChecks f (isEarlier f) frame lent) (checkForward year (readOf f frame))
 
 -- the time in that year, and the 18 later control bits in place
 abbrev pub forwarded : Format → ℕ → Reading → List ℕ → List ℕ
@@ -71,10 +78,7 @@ checkBackward (Accepted t w) = Done
 checkBackward (Reading.Refused r) = Written.Refused r
 
 unfoldable pub backwardOf : Format → List ℕ → List ℕ → Written
-backwardOf f frame lent =
-    check Written.Refused UnknownFormat (carriesYear f)  -- 1
-    (check Written.Refused WrongLength (bothFit f frame lent)  -- 3
-    (checkBackward (readOf f frame)))
+backwardOf f frame lent = checks Written.Refused (editionChecks f (carriesYear f) frame lent) (checkBackward (readOf f frame))
 
 -- the time without the year, and control bits 1 to 9 zero
 abbrev pub backwarded : Format → Reading → List ℕ → List ℕ

@@ -7,7 +7,7 @@ use mathlib.Core.Logic.{_⊎_}
 use Prim.Native.Nat.{ℕ, suc, _+_, _-_, _*_, _/_, _^_, _<_}
 use lib.Dec.{leb, ltb, eqb}
 use lib.ListN.{getD, length}
-use Rattle.timecode.specs.Answers.{check}
+use Rattle.timecode.specs.Answers.{Check, check, checks}
 use Rattle.timecode.specs.Formats.{member, isSymbol, isX, known, size, interval, carriesYear, dayLength, lastYear, daysIn, yearCarried, lastDayIn, onFormat, carriesLeap, secondCarried, OnFormat}
 use Rattle.timecode.specs.Layout.{Run, Field, seconds, minutes, hours, days, tenths, hundredthsDigit, hasSeconds, straightSeconds, control, years, timeFields, fields, flatten, runs, numbers, allDigits, inRun, filler, encode, digitIn, numberIn}
 use Rattle.timecode.specs.declared.Format.{Format}
@@ -103,16 +103,25 @@ nextDay f t length = record { year = yearOfDayAfter f t length; day = dayAfter (
 unfoldable pub following : Format → Time → ℕ → ℕ → Time
 following f t length kind = cond (eqb (t .hundredths + interval f) (dayEnd f kind)) (nextDay f t length) (sameDay f t)
 
--- Both steps check the time that is given with 1, 17, 2, 14, 11, 15. The kind is that of the earlier time's day.
+-- Both steps, and Write, check the time that is given with 1, 17, 2, 14.
+abbrev pub timeChecks : Format → Time → List Check
+timeChecks f t =
+    (UnknownFormat, known f)  -- 1
+    ∷ (InvalidYear, yearCarried f (t .year))  -- 17
+    ∷ (InvalidTime, onFormat f t)  -- 2
+    ∷ (SecondNotCarried, secondCarried f t)  -- 14
+    ∷ []
+
+-- Both steps go on with 11, 15. The kind is that of the earlier time's day.
+abbrev pub stepChecks : Format → Time → ℕ → ℕ → List Check
+stepChecks f t length kind =
+    timeChecks f t
+    ++ ((InvalidYearLength, inYear t length)  -- 11
+    ∷ (InvalidKind, onDay f t kind)  -- 15
+    ∷ [])
+
 abbrev pub checkStep : Format → Time → ℕ → ℕ → Stepped → Stepped
-checkStep f t length kind answer =
-    check Stepped.Refused UnknownFormat (known f)  -- 1
-    (check Stepped.Refused InvalidYear (yearCarried f (t .year))  -- 17
-    (check Stepped.Refused InvalidTime (onFormat f t)  -- 2
-    (check Stepped.Refused SecondNotCarried (secondCarried f t)  -- 14
-    (check Stepped.Refused InvalidYearLength (inYear t length)  -- 11
-    (check Stepped.Refused InvalidKind (onDay f t kind)  -- 15
-    answer)))))
+checkStep f t length kind answer = checks Stepped.Refused (stepChecks f t length kind) answer
 
 -- Step in a year of that length
 abbrev pub stepBy : Format → Time → ℕ → ℕ → Stepped
@@ -212,16 +221,16 @@ pub record Valid (f : Format) (t : Time) (w : ℕ) : Type 0 where
   pub time : OnFormat f t
   pub room : w < 2 ^ totalWidth (control f)
 
--- Write checks 1, 17, 2, 14, 9, 3.
+-- Write checks 1, 17, 2, 14, then 9, 3.
+abbrev pub writeChecks : Format → Time → ℕ → List ℕ → List Check
+writeChecks f t w lent =
+    timeChecks f t
+    ++ ((ControlTooLong, controlFits f w)  -- 9
+    ∷ (WrongLength, eqb (length lent) (size f))  -- 3
+    ∷ [])
+
 unfoldable pub writeOf : Format → Time → ℕ → List ℕ → Written
-writeOf f t w lent =
-    check Written.Refused UnknownFormat (known f)  -- 1
-    (check Written.Refused InvalidYear (yearCarried f (t .year))  -- 17
-    (check Written.Refused InvalidTime (onFormat f t)  -- 2
-    (check Written.Refused SecondNotCarried (secondCarried f t)  -- 14
-    (check Written.Refused ControlTooLong (controlFits f w)  -- 9
-    (check Written.Refused WrongLength (eqb (length lent) (size f))  -- 3
-    Done)))))
+writeOf f t w lent = checks Written.Refused (writeChecks f t w lent) Done
 
 -- lent memory after a call: new contents where it was done, and the old where it was refused
 abbrev pub left : {Any : Type 0} → Written → List Any → List Any → List Any
@@ -305,15 +314,25 @@ unfoldable pub secondsAgree : Format → List ℕ → Bool
 secondsAgree f frame = cond (hasSeconds f) (eqb (numberIn frame (straightSeconds f)) (timeIn f frame .hundredths / 100)) true
 
 -- Read checks 1, 3, 4, then the lowest index that offends with 5 or 6, then 7, 8.
+abbrev pub frameChecks : Format → List ℕ → List Check
+frameChecks f frame =
+    (UnknownFormat, known f)  -- 1
+    ∷ (WrongLength, eqb (length frame) (size f))  -- 3
+    ∷ (UnknownSymbol, areSymbols frame)  -- 4
+    ∷ []
+
+abbrev pub digitChecks : Format → List ℕ → List Check
+digitChecks f frame =
+    (InvalidDigit, isTime f frame)  -- 7
+    ∷ (SecondsDiffer, secondsAgree f frame)  -- 8
+    ∷ []
+
 unfoldable pub readOf : Format → List ℕ → Reading
 readOf f frame =
-    check Reading.Refused UnknownFormat (known f)  -- 1
-    (check Reading.Refused WrongLength (eqb (length frame) (size f))  -- 3
-    (check Reading.Refused UnknownSymbol (areSymbols frame)  -- 4
+    checks Reading.Refused (frameChecks f frame)
     (checkElements (filler f) (runs f) 0 frame
-    (check Reading.Refused InvalidDigit (isTime f frame)  -- 7
-    (check Reading.Refused SecondsDiffer (secondsAgree f frame)  -- 8
-    (Accepted (timeIn f frame) (numberIn frame (control f))))))))
+    (checks Reading.Refused (digitChecks f frame)
+    (Accepted (timeIn f frame) (numberIn frame (control f)))))
 
 -- ---- Generator
 

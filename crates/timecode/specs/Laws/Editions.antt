@@ -7,10 +7,10 @@ use native.Mathlib.Omega.{arith}
 use borrow.Author.Tests.{leb-true, eqb-true, le-leb, eq-eqb, not-true}
 use lib.Dec.{leb, eqb}
 use lib.ListN.{length, take, drop, replicate}
-use Rattle.timecode.specs.Editions.{withYear, withoutYear, timeInYear, bothFit, nineBits, isEarlier, checkForward, forwardOf, forwardLeaves, backwardOf, backwardLeaves}
+use Rattle.timecode.specs.Editions.{withYear, withoutYear, timeInYear, nineBits, isEarlier, checkForward, checkBackward, forwardOf, forwardLeaves, backwardOf, backwardLeaves, forwardChecks, editionChecks}
 use Rattle.timecode.specs.Formats.{A, B, isX, member, table, lookUp, rowOf, known, size, interval, carriesControl, carriesSeconds, carriesYear, controlPlaces, lastYear, daysIn, carriesLeap}
 use Rattle.timecode.specs.Frames.{written, totalWidth, readOf, Valid}
-use Rattle.timecode.specs.Laws.Checks.{passed, done, by-reading}
+use Rattle.timecode.specs.Laws.Checks.{done, by-reading, all-passed}
 use Rattle.timecode.specs.Laws.Reading.{accepted-was-written}
 use Rattle.timecode.specs.Laws.Stepping.{every, one-of}
 use Rattle.timecode.specs.Laws.Table.{year-not-x}
@@ -19,9 +19,7 @@ use Rattle.timecode.specs.Laws.Times.{time-path, year-small, year-none, 
 use Rattle.timecode.specs.Laws.Writing.{length-written, written-is-accepted}
 use Rattle.timecode.specs.Layout.{dayCarried, seconds, minutes, hours, days, tenths, hundredthsDigit, hasSeconds, straightSeconds, control, years, timeFields, fields, runs, timeNumbers, numbers, isMark, filler, symbolAt, encode}
 use Rattle.timecode.specs.declared.Format.{Format}
-use Rattle.timecode.specs.declared.Reading.{Reading}
 use Rattle.timecode.specs.declared.Reading.the-variants.{Accepted}
-use Rattle.timecode.specs.declared.Refusal.the-variants.{UnknownFormat, InvalidTime, WrongLength, InvalidYear, YearPlaceTaken}
 use Rattle.timecode.specs.declared.Time.{Time}
 use Rattle.timecode.specs.declared.Written.{Written}
 use Rattle.timecode.specs.declared.Written.the-variants.{Done}
@@ -161,25 +159,22 @@ forward-checked f frame year both h =
     (λ r q. absurd (done r (rw q at h)))
     (λ t w q.
     let k : checkForward year (Accepted t w) ≡ Done = rw q at h in
-    let a = passed Written.Refused InvalidYear (leb year lastYear) _ Done done k in
-    let b = passed Written.Refused InvalidTime (leb (t .day) (daysIn year)) _ Done done (a .1) in
-    let c = passed Written.Refused YearPlaceTaken (eqb (w % nineBits) 0) _ Done done (b .1) in
+    let passed = all-passed Written.Refused (forwardChecks year t w) Done Done done k .0 in
     record {
       both = both;
       time = t;
       word = w;
       reads = q;
-      year-is = leb-true year lastYear (a .0);
-      in-year = leb-true (t .day) (daysIn year) (b .0);
-      free = eqb-true (w % nineBits) 0 (c .0);
+      year-is = leb-true year lastYear (passed 0);
+      in-year = leb-true (t .day) (daysIn year) (passed 1);
+      free = eqb-true (w % nineBits) 0 (passed 2);
     })
 
 pub forward-done : (f : Format) (frame : List ℕ) (year : ℕ) (lent : List ℕ) → forwardOf f frame year lent ≡ Done → Forward f frame year
 unfolding forwardOf
 forward-done f frame year lent h =
-    let a = passed Written.Refused UnknownFormat (isEarlier f) _ Done done h in
-    let b = passed Written.Refused WrongLength (bothFit f frame lent) _ Done done (a .1) in
-    forward-checked f frame year (editions f (a .0)) (b .1)
+    let all = all-passed Written.Refused (editionChecks f (isEarlier f) frame lent) (checkForward year (readOf f frame)) Done done h in
+    forward-checked f frame year (editions f (all .0 0)) (all .1)
 
 pub forward-leaves : (f : Format) (frame : List ℕ) (year : ℕ) (lent : List ℕ) → forwardOf f frame year lent ≡ Done → (d : Forward f frame year)
     → forwardLeaves f frame year lent ≡ written (withYear f) (timeInYear (d .time) year) (d .word / nineBits)
@@ -292,16 +287,15 @@ pub forward-keeps : (f : Format) (frame : List ℕ) (year : ℕ) (lent : List �
 unfolding forwardOf
 forward-keeps f frame year lent h =
     let d = forward-done f frame year lent h in
-    let rest = same-rest f (passed Written.Refused UnknownFormat (isEarlier f) _ Done done h .0) (d .time) year (d .word) in
+    let rest = same-rest f (all-passed Written.Refused (editionChecks f (isEarlier f) frame lent) (checkForward year (readOf f frame)) Done done h .0 0) (d .time) year (d .word) in
     let was = was-written f frame year d .1 in
     rw (forward-leaves f frame year lent h d) (rest .0 ∙ ap (take 50) was, rest .1 ∙ ap (drop 59) was)
 
 backward-read : (f : Format) (frame lent : List ℕ) → backwardOf f frame lent ≡ Done → (carriesYear f ≡ true) × (t : Time) × (w : ℕ) × (readOf f frame ≡ Accepted t w)
 unfolding backwardOf
 backward-read f frame lent h =
-    let a = passed Written.Refused UnknownFormat (carriesYear f) _ Done done h in
-    let b = passed Written.Refused WrongLength (bothFit f frame lent) _ Done done (a .1) in
-    by-reading (readOf f frame) (λ r q. absurd (done r (rw q at (b .1)))) (λ t w q. (a .0, t, w, q))
+    let all = all-passed Written.Refused (editionChecks f (carriesYear f) frame lent) (checkBackward (readOf f frame)) Done done h in
+    by-reading (readOf f frame) (λ r q. absurd (done r (rw q at (all .1)))) (λ t w q. (all .0 0, t, w, q))
 
 pub backward-year : (f : Format) (frame lent : List ℕ) → backwardOf f frame lent ≡ Done → carriesYear f ≡ true
 backward-year f frame lent h = backward-read f frame lent h .0

@@ -10,9 +10,9 @@ use borrow.Author.Tests.{leb-true, leb-false, eqb-true}
 use lib.Dec.{leb, eqb}
 use lib.ListN.{getD, length}
 use Rattle.timecode.specs.Answers.{refusalNumber}
-use Rattle.timecode.specs.Formats.{isX, known, size, carriesYear, controlPlaces, lastYear, yearCarried, lastDayIn, lastHundredth, dayLength, carriesControl, carriesLeap, OnFormat}
-use Rattle.timecode.specs.Frames.{dayIn, written, areSymbols, marksAgree, elementFits, checkElements, areDigits, lastSecond, isTime, timeIn, secondsAgree, readOf, Valid}
-use Rattle.timecode.specs.Laws.Checks.{passed, accepted, refused-up-to}
+use Rattle.timecode.specs.Formats.{isX, known, size, carriesYear, controlPlaces, yearCarried, lastDayIn, lastHundredth, dayLength, carriesControl, carriesLeap, OnFormat}
+use Rattle.timecode.specs.Frames.{dayIn, written, marksAgree, elementFits, checkElements, areDigits, lastSecond, isTime, timeIn, secondsAgree, readOf, Valid, frameChecks, digitChecks}
+use Rattle.timecode.specs.Laws.Checks.{passed, all-passed, accepted, refused-up-to}
 use Rattle.timecode.specs.Laws.Digits.{Below, capacity, joined, joined-lt, digits-agree, number-joined}
 use Rattle.timecode.specs.Laws.Fields.{fields-together, digits-back, AreDigits, are-digits, Binary, binary-positive, binary-capacity, binary-below}
 use Rattle.timecode.specs.Laws.Runs.{Clean, fits-agree, clean-bits, encode-decode, small-decoded, small-front, small-back}
@@ -23,7 +23,7 @@ use Rattle.timecode.specs.Layout.{dayCarried, Run, binaryIf, seconds, mi
 use Rattle.timecode.specs.declared.Format.{Format}
 use Rattle.timecode.specs.declared.Reading.{Reading}
 use Rattle.timecode.specs.declared.Reading.the-variants.{Accepted}
-use Rattle.timecode.specs.declared.Refusal.the-variants.{UnknownFormat, WrongLength, UnknownSymbol, MisplacedMark, InvalidElement, InvalidDigit, SecondsDiffer}
+use Rattle.timecode.specs.declared.Refusal.the-variants.{MisplacedMark, InvalidElement}
 use Rattle.timecode.specs.declared.Refusal.{Refusal}
 use Rattle.timecode.specs.declared.Time.{Time}
 
@@ -234,19 +234,16 @@ module _ (f : Format) (frame : List ℕ) (k : known f ≡ true) (n : length fram
 pub accepted-was-written : (f : Format) (frame : List ℕ) (t : Time) (w : ℕ) → readOf f frame ≡ Accepted t w → Valid f t w × (written f t w ≡ frame)
 unfolding readOf
 accepted-was-written f frame t w h =
-    let a = passed Reading.Refused UnknownFormat (known f) _ (Accepted t w) (accepted t w) h in
-    let b = passed Reading.Refused WrongLength (eqb (length frame) (size f)) _ (Accepted t w) (accepted t w) (a .1) in
-    let c = passed Reading.Refused UnknownSymbol (areSymbols frame) _ (Accepted t w) (accepted t w) (b .1) in
-    let d = elements-passed (filler f) (runs f) frame 0 _ t w (c .1) in
-    let e = passed Reading.Refused InvalidDigit (isTime f frame) _ (Accepted t w) (accepted t w) (d .1) in
-    let g = passed Reading.Refused SecondsDiffer (secondsAgree f frame) _ (Accepted t w) (accepted t w) (e .1) in
-    let last = g .1 in
+    let a = all-passed Reading.Refused (frameChecks f frame) _ (Accepted t w) (accepted t w) h in
+    let d = elements-passed (filler f) (runs f) frame 0 _ t w (a .1) in
+    let e = all-passed Reading.Refused (digitChecks f frame) _ (Accepted t w) (accepted t w) (d .1) in
+    let last = e .1 in
     let same-time : timeIn f frame ≡ t = cc in
     let same-control : numberIn frame (control f) ≡ w = cc in
-    let n = eqb-true (length frame) (size f) (b .0) in
+    let n = eqb-true (length frame) (size f) (a .0 1) in
     let clean : Clean (size f) (filler f) (runs f) frame = λ i l. rw (zero-add i) at (d .0 i (omega arith)) in
     subst₂ (λ (x : Time) (y : ℕ). Valid f x y × (written f x y ≡ frame)) same-time same-control
-    (read-valid f frame (a .0) n clean (is-time f frame (e .0)) (g .0), read-written f frame (a .0) n clean (is-time f frame (e .0)) (g .0))
+    (read-valid f frame (a .0 0) n clean (is-time f frame (e .0 0)) (e .0 1), read-written f frame (a .0 0) n clean (is-time f frame (e .0 0)) (e .0 1))
 
 -- ---- the numbers that Read refuses with
 

@@ -8,15 +8,14 @@ use native.Mathlib.Decide.{ℕ-discrete}
 use borrow.Author.Tests.{leb-true, leb-false, le-leb}
 use lib.Dec.{leb}
 use lib.ListN.{length, drop, length-take, length-drop}
-use Rattle.timecode.specs.Calls.{partAt, leadAt, found, lowestOf, firstPlace, scanOf, FrameAt, Looks, LowestAt, NowhereAt}
-use Rattle.timecode.specs.Formats.{known, size}
+use Rattle.timecode.specs.Calls.{partAt, leadAt, found, lowestOf, firstPlace, scanOf, FrameAt, Looks, LowestAt, NowhereAt, scanChecks}
+use Rattle.timecode.specs.Formats.{size}
 use Rattle.timecode.specs.Frames.{readOf}
-use Rattle.timecode.specs.Laws.Checks.{passed, passes, accepted, by-reading}
+use Rattle.timecode.specs.Laws.Checks.{accepted, by-reading, all-passed, all-pass}
 use Rattle.timecode.specs.Laws.Marks.{size-positive, accepted-length}
 use Rattle.timecode.specs.Laws.Tests.{by-test, clash}
 use Rattle.timecode.specs.Stream.{lead}
 use Rattle.timecode.specs.declared.Format.{Format}
-use Rattle.timecode.specs.declared.Refusal.the-variants.{UnknownFormat, StartPastEnd}
 use Rattle.timecode.specs.declared.Refusal.{Refusal}
 use Rattle.timecode.specs.declared.Scanned.{Scanned}
 use Rattle.timecode.specs.declared.Scanned.the-variants.{Found, None}
@@ -129,13 +128,12 @@ module _ (f : Format) (recording : List ℕ) (start : ℕ) where
   looked : (x : Scanned) → ((r : Refusal) → Scanned.Refused r ≡ x → ⊥) → scanOf f recording start ≡ x → Looks f recording start × (lowestOf f recording places (firstPlace f start) ≡ x)
   unfolding scanOf
   looked x taken h =
-      let a = passed Scanned.Refused UnknownFormat (known f) _ x taken h in
-      let b = passed Scanned.Refused StartPastEnd (leb start (length recording)) _ x taken (a .1) in
-      (record { format = a .0; inside = leb-true start (length recording) (b .0) }, b .1)
+      let all = all-passed Scanned.Refused (scanChecks f recording start) _ x taken h in
+      (record { format = all .0 0; inside = leb-true start (length recording) (all .0 1) }, all .1)
 
   looks : Looks f recording start → scanOf f recording start ≡ lowestOf f recording places (firstPlace f start)
   unfolding scanOf
-  looks l = passes Scanned.Refused UnknownFormat (known f) _ (l .format) ∙ passes Scanned.Refused StartPastEnd (leb start (length recording)) _ (le-leb start (length recording) (l .inside))
+  looks l = all-pass Scanned.Refused (scanChecks f recording start) _ (l .format, (le-leb start (length recording) (l .inside), tt))
 
   pub scan-finds-the-lowest : (a : ℕ) (t : Time) (w : ℕ) → (scanOf f recording start ≡ Found a t w) ↔ LowestAt f recording start a t w
   scan-finds-the-lowest a t w = (

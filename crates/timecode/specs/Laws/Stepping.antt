@@ -6,16 +6,17 @@ use mathlib.Core.Logic.{_⊎_, inl, inr}
 use Prim.Native.Nat.{ℕ, suc, _+_, _*_, _/_, _%_, _≤_, _<_}
 use native.Mathlib.Nat.{add-mod-right, zero-mod, div-add-mod, lt-of-mul-lt-mul-left, mul-le-mul-left}
 use native.Mathlib.Omega.{arith}
-use borrow.Author.Tests.{leb-true, ltb-true, eqb-true, eqb-false, le-leb, lt-ltb, eq-eqb, ne-eqb}
+use borrow.Author.Tests.{leb-true, ltb-true, eqb-true, eqb-false, le-leb, lt-ltb, ne-eqb}
 use lib.Dec.{leb, ltb, eqb}
-use Rattle.timecode.specs.Formats.{member, isX, table, lookUp, rowOf, known, interval, carriesYear, lastDay, dayLength, lastYear, daysIn, yearCarried, lastDayIn, onFormat, carriesLeap, secondCarried, OnFormat}
-use Rattle.timecode.specs.Frames.{yearLengths, lengthIn, inYear, dayAfter, turnDay, yearAfter, yearOfDayAfter, secondAdded, secondTaken, kinds, dayLengthOf, dayEnd, onDay, sameDay, nextDay, following, checkStep, stepBy, stepOf, Follows, stepsTo, any, nextAfter, LeapTurn, Turn}
-use Rattle.timecode.specs.Laws.Checks.{passed, same-check, refused-later, next}
+use Rattle.timecode.specs.Formats.{member, isX, table, lookUp, rowOf, known, interval, carriesYear, lastDay, dayLength, lastYear, daysIn, yearCarried, lastDayIn, onFormat, carriesLeap, OnFormat}
+use Rattle.timecode.specs.Answers.{checks}
+use Rattle.timecode.specs.Frames.{yearLengths, lengthIn, inYear, dayAfter, turnDay, yearAfter, yearOfDayAfter, secondAdded, secondTaken, kinds, dayLengthOf, dayEnd, onDay, sameDay, nextDay, following, checkStep, stepBy, stepOf, Follows, stepsTo, any, nextAfter, LeapTurn, Turn, timeChecks, stepChecks}
+use Rattle.timecode.specs.Laws.Checks.{all-passed, refused-alike, refused-later, next}
 use Rattle.timecode.specs.Laws.Table.{year-not-x, everyFormat, of-every}
 use Rattle.timecode.specs.Laws.Tests.{by-test, clash, and-left, and-right, or-other, or-first, or-second}
-use Rattle.timecode.specs.Laws.Times.{same-is, same-self, last-range, day-in-year, on-format, is-on-format, is-carried, year-small, year-none, year-carried, last-known, last-unknown, last-x, only-day}
+use Rattle.timecode.specs.Laws.Times.{same-is, same-self, last-range, day-in-year, on-format, is-on-format, is-carried, year-small, year-carried, last-known, last-unknown, last-x, only-day}
 use Rattle.timecode.specs.declared.Format.{Format}
-use Rattle.timecode.specs.declared.Refusal.the-variants.{UnknownFormat, InvalidTime, InvalidYearLength, SecondNotCarried, InvalidKind, InvalidYear}
+use Rattle.timecode.specs.declared.Refusal.the-variants.{InvalidYearLength, InvalidKind}
 use Rattle.timecode.specs.declared.Refusal.{Refusal}
 use Rattle.timecode.specs.declared.Stepped.{Stepped}
 use Rattle.timecode.specs.declared.Stepped.the-variants.{To}
@@ -36,20 +37,16 @@ pub record Went (f : Format) (t : Time) (length kind : ℕ) (v u : Time) : Type 
 pub went-to : (f : Format) (t : Time) (length kind : ℕ) (v u : Time) → checkStep f t length kind (To v) ≡ To u → Went f t length kind v u
 unfolding inYear onDay
 went-to f t length kind v u h =
-    let a = passed Stepped.Refused UnknownFormat (known f) _ (To u) (next u) h in
-    let y = passed Stepped.Refused InvalidYear (yearCarried f (t .year)) _ (To u) (next u) (a .1) in
-    let b = passed Stepped.Refused InvalidTime (onFormat f t) _ (To u) (next u) (y .1) in
-    let s = passed Stepped.Refused SecondNotCarried (secondCarried f t) _ (To u) (next u) (b .1) in
-    let c = passed Stepped.Refused InvalidYearLength (member length yearLengths && leb (t .day) length) _ (To u) (next u) (s .1) in
-    let d = passed Stepped.Refused InvalidKind (member kind kinds && ltb (t .hundredths) (dayEnd f kind)) _ (To u) (next u) (c .1) in
-    let last = d .1 in
+    let all = all-passed Stepped.Refused (stepChecks f t length kind) (To v) (To u) (next u) h in
+    let passed = all .0 in
+    let last = all .1 in
     record {
-      format = a .0;
-      from = on-format f t (y .0) (b .0) (s .0);
-      length-is = and-left (member length yearLengths) (leb (t .day) length) (c .0);
-      inside = leb-true (t .day) length (and-right (member length yearLengths) (leb (t .day) length) (c .0));
-      kind-is = and-left (member kind kinds) (ltb (t .hundredths) (dayEnd f kind)) (d .0);
-      before = ltb-true (t .hundredths) (dayEnd f kind) (and-right (member kind kinds) (ltb (t .hundredths) (dayEnd f kind)) (d .0));
+      format = passed 0;
+      from = on-format f t (passed 1) (passed 2) (passed 3);
+      length-is = and-left (member length yearLengths) (leb (t .day) length) (passed 4);
+      inside = leb-true (t .day) length (and-right (member length yearLengths) (leb (t .day) length) (passed 4));
+      kind-is = and-left (member kind kinds) (ltb (t .hundredths) (dayEnd f kind)) (passed 5);
+      before = ltb-true (t .hundredths) (dayEnd f kind) (and-right (member kind kinds) (ltb (t .hundredths) (dayEnd f kind)) (passed 5));
       to = cc;
     }
 
@@ -66,14 +63,7 @@ answers-alike f t length kind v u h answer =
 
 -- and refuse alike where one is not
 pub refuses-alike : (f : Format) (t : Time) (length kind : ℕ) (v : Time) (r : Refusal) → checkStep f t length kind (To v) ≡ Stepped.Refused r → (answer : Stepped) → checkStep f t length kind answer ≡ Stepped.Refused r
-refuses-alike f t length kind v r h answer =
-    same-check Stepped.Refused UnknownFormat (known f) _ _ (Stepped.Refused r)
-    (same-check Stepped.Refused InvalidYear (yearCarried f (t .year)) _ _ (Stepped.Refused r)
-    (same-check Stepped.Refused InvalidTime (onFormat f t) _ _ (Stepped.Refused r)
-    (same-check Stepped.Refused SecondNotCarried (secondCarried f t) _ _ (Stepped.Refused r)
-    (same-check Stepped.Refused InvalidYearLength (inYear t length) _ _ (Stepped.Refused r)
-    (same-check Stepped.Refused InvalidKind (onDay f t kind) (To v) answer (Stepped.Refused r) (λ e. absurd (next v r (sym e))))))))
-    h
+refuses-alike f t length kind v r h answer = refused-alike Stepped.Refused (stepChecks f t length kind) (To v) answer (Stepped.Refused r) (λ e. next v r (sym e)) h
 
 -- ---- the length of the year
 
@@ -110,12 +100,10 @@ pub never-refuses-length : (f : Format) (t : Time) (given kind : ℕ) → carrie
 unfolding stepOf
 never-refuses-length f t given kind y h =
     let length = lengthFor f t given in
-    let a = refused-later UnknownFormat (known f) _ InvalidYearLength (λ e. omega arith) h in
-    let b = refused-later InvalidYear (yearCarried f (t .year)) _ InvalidYearLength (λ e. omega arith) (a .1) in
-    let c = refused-later InvalidTime (onFormat f t) _ InvalidYearLength (λ e. omega arith) (b .1) in
-    let d = refused-later SecondNotCarried (secondCarried f t) _ InvalidYearLength (λ e. omega arith) (c .1) in
-    let g = refused-later InvalidKind (onDay f t kind) (To (following f t length kind)) InvalidYearLength (λ e. omega arith) (rw (own-length f t given y (c .0)) at (d .1)) in
-    next (following f t length kind) InvalidYearLength (sym (g .1))
+    let answer = To (following f t length kind) in
+    let first = refused-later (timeChecks f t) (checks Stepped.Refused ((InvalidYearLength, inYear t length) ∷ (InvalidKind, onDay f t kind) ∷ []) answer) InvalidYearLength refl h in
+    let later = refused-later ((InvalidKind, onDay f t kind) ∷ []) answer InvalidYearLength refl (rw (own-length f t given y (first .0 2)) at (first .1)) in
+    next (following f t length kind) InvalidYearLength (sym (later .1))
 
 -- the year's last day is in its length where 366 is given
 last-in-length : (f : Format) (year : ℕ) → lastDayIn f year ≤ lengthIn f year 366

@@ -7,11 +7,11 @@ use native.Mathlib.Nat.{zero-add}
 use native.Mathlib.Omega.{arith}
 use native.Mathlib.Decide.{decLt}
 use borrow.Author.Tests.{ltb-true, eqb-true, lt-ltb, le-leb, eq-eqb}
-use lib.Dec.{leb, ltb, eqb}
+use lib.Dec.{leb, eqb}
 use lib.ListN.{length}
-use Rattle.timecode.specs.Formats.{isX, known, size, carriesYear, yearCarried, lastDayIn, lastHundredth, dayLength, onFormat, carriesLeap, secondCarried, OnFormat}
-use Rattle.timecode.specs.Frames.{totalWidth, controlFits, written, writeOf, writeLeaves, areSymbols, areDigits, lastSecond, dayIn, isTime, timeIn, secondsAgree, readOf, Valid}
-use Rattle.timecode.specs.Laws.Checks.{passed, passes, done}
+use Rattle.timecode.specs.Formats.{isX, size, carriesYear, lastDayIn, lastHundredth, dayLength, carriesLeap, OnFormat}
+use Rattle.timecode.specs.Frames.{totalWidth, controlFits, written, writeOf, writeLeaves, areSymbols, areDigits, lastSecond, dayIn, isTime, timeIn, secondsAgree, readOf, Valid, writeChecks, frameChecks, digitChecks}
+use Rattle.timecode.specs.Laws.Checks.{done, all-passed, all-pass}
 use Rattle.timecode.specs.Laws.Fields.{Each, fields-apart, fields-together, number-back, AreDigits, digits-are, binary-positive, binary-capacity, binary-small}
 use Rattle.timecode.specs.Laws.Reading.{elements-pass, straight-binary, control-binary, straight-wide}
 use Rattle.timecode.specs.Laws.Runs.{length-encode, small-length, small-append, decode-encode, encode-clean}
@@ -22,7 +22,6 @@ use Rattle.timecode.specs.Layout.{Run, dayCarried, seconds, minutes, hou
 use Rattle.timecode.specs.declared.Format.{Format}
 use Rattle.timecode.specs.declared.Reading.{Reading}
 use Rattle.timecode.specs.declared.Reading.the-variants.{Accepted}
-use Rattle.timecode.specs.declared.Refusal.the-variants.{UnknownFormat, InvalidTime, WrongLength, UnknownSymbol, InvalidDigit, SecondsDiffer, ControlTooLong, SecondNotCarried, InvalidYear}
 use Rattle.timecode.specs.declared.Time.{Time}
 use Rattle.timecode.specs.declared.Written.{Written}
 use Rattle.timecode.specs.declared.Written.the-variants.{Done}
@@ -184,12 +183,9 @@ module _ (f : Format) (t : Time) (w : ℕ) (v : Valid f t w) where
   pub written-is-accepted : readOf f frame ≡ Accepted t w
   unfolding readOf written
   written-is-accepted =
-      passes Reading.Refused UnknownFormat (known f) _ (v .format)
-      ∙ passes Reading.Refused WrongLength (eqb (length frame) (size f)) _ (eq-eqb (length frame) (size f) (length-written f t w))
-      ∙ passes Reading.Refused UnknownSymbol (areSymbols frame) _ (written-symbols f t w)
+      all-pass Reading.Refused (frameChecks f frame) _ (v .format, (eq-eqb (length frame) (size f) (length-written f t w), (written-symbols f t w, tt)))
       ∙ elements-pass (filler f) (runs f) frame 0 _ (λ i h. rw (zero-add i) (encode-clean (size f) (filler f) (runs f) (allDigits (fields f) (numbers f t w)) (small-length (runs f) (allDigits (fields f) (numbers f t w)) written-small) i (rw (length-written f t w) at h)))
-      ∙ passes Reading.Refused InvalidDigit (isTime f frame) _ time-passes
-      ∙ passes Reading.Refused SecondsDiffer (secondsAgree f frame) _ seconds-pass
+      ∙ all-pass Reading.Refused (digitChecks f frame) _ (time-passes, (seconds-pass, tt))
       ∙ ap₂ Accepted time-back control-back
 
 -- ---- Write's answer
@@ -197,14 +193,9 @@ module _ (f : Format) (t : Time) (w : ℕ) (v : Valid f t w) where
 pub taken : (f : Format) (t : Time) (w : ℕ) (lent : List ℕ) → writeOf f t w lent ≡ Done → Valid f t w × (length lent ≡ size f)
 unfolding writeOf controlFits
 taken f t w lent h =
-    let a = passed Written.Refused UnknownFormat (known f) _ Done done h in
-    let y = passed Written.Refused InvalidYear (yearCarried f (t .year)) _ Done done (a .1) in
-    let b = passed Written.Refused InvalidTime (onFormat f t) _ Done done (y .1) in
-    let s = passed Written.Refused SecondNotCarried (secondCarried f t) _ Done done (b .1) in
-    let c = passed Written.Refused ControlTooLong (ltb w (2 ^ totalWidth (control f))) _ Done done (s .1) in
-    let d = passed Written.Refused WrongLength (eqb (length lent) (size f)) _ Done done (c .1) in (
-      record { format = a .0; time = on-format f t (y .0) (b .0) (s .0); room = ltb-true w (2 ^ totalWidth (control f)) (c .0) },
-      eqb-true (length lent) (size f) (d .0),
+    let passed = all-passed Written.Refused (writeChecks f t w lent) Done Done done h .0 in (
+      record { format = passed 0; time = on-format f t (passed 1) (passed 2) (passed 3); room = ltb-true w (2 ^ totalWidth (control f)) (passed 4) },
+      eqb-true (length lent) (size f) (passed 5),
     )
 
 pub takes : (f : Format) (t : Time) (w : ℕ) (lent : List ℕ) → Valid f t w → length lent ≡ size f → writeOf f t w lent ≡ Done
