@@ -1,15 +1,16 @@
 -- The loops of encoding, turn by turn.
-use mathlib.Core.Path.{_≡_, refl, sym, ap, _∙_}
+use mathlib.Core.Path.{_≡_, refl, sym, ap, ap₂, _∙_}
 use mathlib.Core.Bool.{true, false, _&&_}
 use mathlib.Core.List.{List, [], _∷_, _++_, append-assoc, append-nil}
 use Prim.Native.Nat.{ℕ, zero, suc, _+_, _*_, _-_, _<_, _≤_}
-use native.Mathlib.Nat.{add-zero, zero-add, suc-mul, mul-le-mul, mul-le-mul-right}
+use native.Mathlib.Nat.{add-zero}
 use native.Mathlib.Numerals.{add-one}
 use native.Mathlib.Omega.{arith}
 use borrow.Author.Tests.{leb-true, le-leb}
-use lib.Dec.{leb}
-use lib.ListN.{length, take, drop, getD, set, replicate, replicate-append-replicate, drop-of-length-le, length-set, length-drop}
-use lib.Seq.{take-suc, take-suc-set, take-length, take-take, take-add, take-append-add, length-take-le, drop-cons, drop-drop, getD-drop}
+use lib.Dec.{leb, eqb}
+use lib.ListN.{length, take, drop, getD, set, replicate, replicate-append-replicate, drop-of-length-le, length-append, length-replicate, length-set, length-drop}
+use lib.Seq.{take-suc, take-suc-set, take-length, take-take, take-add, take-append-add, length-take-le, drop-cons, drop-drop, drop-at, take-at, getD-drop}
+use Rattle.timecode.specs.Laws.Marks.{size-positive}
 use Rattle.timecode.specs.Laws.Tests.{by-test}
 use Rattle.timecode.specs.declared.Format.{Format}
 use Rattle.timecode.specs.declared.Refusal.{Refusal}
@@ -18,8 +19,7 @@ use Rattle.timecode.specs.declared.Written.{Written}
 use Rattle.timecode.specs.declared.Written.the-variants.{Done}
 use Rattle.cycles.specs.Checks.{checked, checks-pass, checks-refuse}
 use Rattle.cycles.specs.Cycles.{checkFrame, highs, element, cyclesOf, unspoiled, encodeOf, encodeLeaves}
-use Rattle.cycles.specs.Elements.{count-parts}
-use Rattle.cycles.specs.Frames.{cycles-at}
+use Rattle.cycles.specs.Elements.{count-parts, highs-within}
 
 -- ---- a run of one level: one more cycle
 
@@ -43,20 +43,6 @@ pub none-set : (M : ℕ) (frame : List ℕ) → [] ≡ cyclesOf M (take 0 frame)
 unfolding cyclesOf
 none-set M frame = refl
 
--- an element of its two runs
-pub element-runs : (M s at mid : ℕ) (xs ys zs : List ℕ) → mid ≡ at + highs M s → highs M s ≤ M
-    → take mid ys ≡ take at xs ++ replicate (mid - at) 1
-    → take (at + M) zs ≡ take mid ys ++ replicate (at + M - mid) 2
-    → take (at + M) zs ≡ take at xs ++ element M s
-unfolding element
-element-runs M s at mid xs ys zs m small b c =
-    let ups : mid - at ≡ highs M s = omega arith in
-    let downs : at + M - mid ≡ M - highs M s = omega arith in
-    c
-    ∙ ap (λ (l : List ℕ). l ++ replicate (at + M - mid) 2) b
-    ∙ append-assoc (take at xs) (replicate (mid - at) 1) (replicate (at + M - mid) 2)
-    ∙ rw (ups, downs)
-
 pub element-next : (M : ℕ) (frame xs zs : List ℕ) (e at : ℕ) → e < length frame
     → take at xs ≡ cyclesOf M (take e frame)
     → take (at + M) zs ≡ take at xs ++ element M (getD frame e 0)
@@ -69,48 +55,71 @@ element-next M frame xs zs e at h a b =
     ∙ sym (cycles-append M (take e frame) (getD frame e 0 ∷ []))
     ∙ ap (cyclesOf M) (sym (take-suc frame e 0 h) ∙ ap (λ (j : ℕ). take j frame) (sym (add-one e)))
 
--- ---- the three elements
+-- ---- the levels of which every element is a part
 
--- the element of a zero, of a one and of a mark, one after the other
-abbrev pub Three : ℕ → List ℕ → Type 0
-Three M es = take (3 * M) es ≡ cyclesOf M (0 ∷ 1 ∷ 2 ∷ [])
+-- 80 high ones, and 112 low ones
+unfoldable pub levels : List ℕ
+levels = replicate 80 1 ++ replicate 112 2
 
-pub three-put : (M : ℕ) (e₀ e₁ e₂ e₃ : List ℕ)
-    → take (0 + M) e₁ ≡ take 0 e₀ ++ element M 0
-    → take (M + M) e₂ ≡ take M e₁ ++ element M 1
-    → take (2 * M + M) e₃ ≡ take (2 * M) e₂ ++ element M 2
-    → Three M e₃
-three-put M e₀ e₁ e₂ e₃ a b c =
-    let ss : List ℕ = 0 ∷ 1 ∷ 2 ∷ [] in
-    let one : take M e₁ ≡ cyclesOf M (take 1 ss) = ap (λ (k : ℕ). take k e₁) (sym (zero-add M)) ∙ element-next M ss e₀ e₁ 0 0 (omega arith) (none-set M ss) a in
-    let two : take (M + M) e₂ ≡ cyclesOf M (take 2 ss) = element-next M ss e₁ e₂ 1 M (omega arith) one b in
-    let twice : 2 * M ≡ M + M = omega arith in
-    let thrice : 3 * M ≡ 2 * M + M = omega arith in
-    ap (λ (k : ℕ). take k e₃) thrice ∙ element-next M ss e₂ e₃ 2 (2 * M) (omega arith) (ap (λ (k : ℕ). take k e₂) twice ∙ two) c
+abbrev pub Levels : List ℕ → Type 0
+Levels ls = ls ≡ levels
 
-part-taken : (n m k : ℕ) (xs : List ℕ) → n + m ≤ k → take m (drop n (take k xs)) ≡ take m (drop n xs)
-part-taken zero m k xs h = take-take m k xs (omega arith)
-part-taken (suc n) m zero xs h = let no : ⊥ = omega arith in absurd no
-part-taken (suc n) m (suc k) [] h = refl
-part-taken (suc n) m (suc k) (x ∷ xs) h = part-taken n m k xs (omega arith)
+-- where the element of a zero, of a one and of a mark begins
+abbrev pub Starts : ℕ → List ℕ → Type 0
+Starts M ss = ss ≡ (80 - highs M 0) ∷ (80 - highs M 1) ∷ (80 - highs M 2) ∷ []
 
-of-three : (s : ℕ) → s ≤ 2 → getD (0 ∷ 1 ∷ 2 ∷ []) s 0 ≡ s
-of-three zero h = refl
-of-three (suc zero) h = refl
-of-three (suc (suc zero)) h = refl
-of-three (suc (suc (suc s))) h = let no : ⊥ = omega arith in absurd no
+pub levels-put : (new : List ℕ) → length new ≡ 192 → take 192 new ≡ take 80 (replicate 192 1) ++ replicate (192 - 80) 2 → Levels new
+unfolding levels
+levels-put new l e = sym (take-length new) ∙ ap (λ (n : ℕ). take n new) l ∙ e
 
-pub one-of-three : (M s : ℕ) (es : List ℕ) → s ≤ 2 → Three M es → take M (drop (s * M) es) ≡ element M s
-one-of-three M s es h t =
-    let m = suc-mul s M in
-    let most : suc s * M ≤ 3 * M = mul-le-mul-right M (omega arith) in
-    sym (part-taken (s * M) M (3 * M) es (omega arith))
-    ∙ ap (λ (l : List ℕ). take M (drop (s * M) l)) t
-    ∙ cycles-at M (0 ∷ 1 ∷ 2 ∷ []) s (omega arith)
-    ∙ ap (element M) (of-three s h)
+pub levels-length : (ls : List ℕ) → Levels ls → length ls ≡ 192
+unfolding levels
+levels-length ls e = ap length e
 
-pub three-room : (M s : ℕ) → M ≤ 100 → s ≤ 2 → s * M + M + 15 ≤ 320
-three-room M s h k = let most : s * M ≤ 2 * 100 = mul-le-mul k h in omega arith
+pub highs-most : (M s : ℕ) → M ≤ 100 → highs M s ≤ 80
+unfolding highs
+highs-most M s h = by-test (eqb s 0) (λ y. rw y (omega arith)) (λ n. rw n (by-test (eqb s 1) (λ y. rw y (omega arith)) (λ m. rw m (omega arith))))
+
+pub start-at : (M s : ℕ) (ss : List ℕ) → s ≤ 2 → Starts M ss → getD ss s 0 ≡ 80 - highs M s
+start-at M zero ss h e = ap (λ (l : List ℕ). getD l 0 0) e
+start-at M (suc zero) ss h e = ap (λ (l : List ℕ). getD l 1 0) e
+start-at M (suc (suc zero)) ss h e = ap (λ (l : List ℕ). getD l 2 0) e
+start-at M (suc (suc (suc s))) ss h e = let no : ⊥ = omega arith in absurd no
+
+pub starts-length : (M : ℕ) (ss : List ℕ) → Starts M ss → length ss ≡ 3
+starts-length M ss e = ap length e
+
+-- no part reaches past the levels
+pub part-room : (M s n : ℕ) (ss ls : List ℕ) → s ≤ 2 → Starts M ss → Levels ls → n ≤ 112 → getD ss s 0 + n ≤ length ls
+part-room M s n ss ls h st l k = omega (arith, start-at M s ss h st, levels-length ls l)
+
+abbrev runs : ℕ → ℕ → List ℕ
+runs h l = replicate h 1 ++ replicate l 2
+
+part-of-runs : (a h l r M : ℕ) → h + l ≡ M → take M (drop a (runs (a + h) (l + r))) ≡ runs h l
+part-of-runs a h l r M e =
+    let n : length (runs h l) ≡ M = length-append (replicate h 1) (replicate l 2) ∙ ap₂ _+_ (length-replicate h 1) (length-replicate l 2) ∙ e in
+    let front : runs (a + h) (l + r) ≡ replicate a 1 ++ runs h (l + r) = ap (λ (x : List ℕ). x ++ replicate (l + r) 2) (sym (replicate-append-replicate a h 1)) ∙ append-assoc (replicate a 1) (replicate h 1) (replicate (l + r) 2) in
+    let back : runs h (l + r) ≡ runs h l ++ replicate r 2 = ap (λ (x : List ℕ). replicate h 1 ++ x) {y = replicate l 2 ++ replicate r 2} (sym (replicate-append-replicate l r 2)) ∙ sym (append-assoc (replicate h 1) (replicate l 2) (replicate r 2)) in
+    ap (λ (x : List ℕ). take M (drop a x)) front
+    ∙ ap (take M) (drop-at (replicate a 1) (runs h (l + r)) a (length-replicate a 1) ∙ back)
+    ∙ take-at (runs h l) (replicate r 2) M n
+
+element-of-runs : (M s k m : ℕ) → highs M s ≤ k → M ≤ m → take M (drop (k - highs M s) (runs k m)) ≡ element M s
+unfolding element
+element-of-runs M s k m h n =
+    let w = highs-within M s in
+    let ups : k ≡ k - highs M s + highs M s = omega arith in
+    let downs : m ≡ M - highs M s + (m - (M - highs M s)) = omega arith in
+    let all : highs M s + (M - highs M s) ≡ M = omega arith in
+    ap (λ (x : List ℕ). take M (drop (k - highs M s) x)) (ap₂ runs ups downs)
+    ∙ part-of-runs (k - highs M s) (highs M s) (M - highs M s) (m - (M - highs M s)) M all
+
+pub element-of-levels : (M s : ℕ) (ls : List ℕ) → M ≤ 100 → Levels ls → take M (drop (80 - highs M s) ls) ≡ element M s
+unfolding levels
+element-of-levels M s ls h e =
+    let most = highs-most M s h in
+    ap (λ (x : List ℕ). take M (drop (80 - highs M s) x)) e ∙ element-of-runs M s 80 112 most (omega arith)
 
 -- ---- copies of their cycles
 
@@ -156,8 +165,8 @@ fewer-copied es from old new at n i h k c =
           ∙ ap (λ (l : List ℕ). take at old ++ l) (take-take n i (drop from es) h),
     )
 
-pub element-copied : (M s : ℕ) (es old new : List ℕ) (at : ℕ) → s ≤ 2 → Three M es → Copied es (s * M) old new at M → take (at + M) new ≡ take at old ++ element M s
-element-copied M s es old new at h t c = c .1 ∙ ap (λ (l : List ℕ). take at old ++ l) (one-of-three M s es h t)
+pub element-copied : (M s : ℕ) (ss ls old new : List ℕ) (at : ℕ) → M ≤ 100 → s ≤ 2 → Starts M ss → Levels ls → Copied ls (getD ss s 0) old new at M → take (at + M) new ≡ take at old ++ element M s
+element-copied M s ss ls old new at h k st l c = c .1 ∙ ap (λ (x : List ℕ). take at old ++ x) (ap (λ (from : ℕ). take M (drop from ls)) (start-at M s ss k st) ∙ element-of-levels M s ls h l)
 
 pub run-none : (xs : List ℕ) (from v : ℕ) → take from xs ≡ take from xs ++ replicate (from - from) v
 run-none xs from v = let none : from - from ≡ 0 = omega arith in rw none (sym (append-nil (take from xs)))
@@ -190,10 +199,11 @@ unspoiled-end xs i a h u = sym (u ∙ rw (drop-of-length-le xs {i = i} h) (by-te
 -- ---- the call, by its checks
 
 module _ (f : Format) (M : ℕ) (frame lent : List ℕ) where
-  pub encode-room : checkFrame f M (length frame) (length lent) Done ≡ Done → (M ≤ 100) × (length lent ≡ length frame * M)
+  pub encode-room : checkFrame f M (length frame) (length lent) Done ≡ Done → (10 ≤ M) × (M ≤ 100) × (0 < length frame) × (length lent ≡ length frame * M)
   encode-room h =
       let c = checked f M (length frame) (length lent) Done h .0 in
-      (count-parts M (c .count) .1, c .all ∙ ap (λ (n : ℕ). n * M) (sym (c .elements)))
+      let some = size-positive f in
+      (count-parts M (c .count) .0, count-parts M (c .count) .1, omega (arith, c .elements), c .all ∙ ap (λ (n : ℕ). n * M) (sym (c .elements)))
 
   pub encode-done : (new : List ℕ) → checkFrame f M (length frame) (length lent) Done ≡ Done → unspoiled frame ≡ true → new ≡ cyclesOf M frame → (Done ≡ encodeOf f M frame lent) × (new ≡ encodeLeaves f M frame lent)
   unfolding encodeOf encodeLeaves

@@ -1,13 +1,13 @@
 // A frame of A, B or G in the modified Manchester form: each symbol as its clock cycles, the high ones first.
-// The three elements are made once, run by run, and copied for each symbol of the frame.
+// Every element is a part of one run of levels, high ones and then low ones, and is copied from there.
 ghost use mathlib.Core.Path.{_≡_};
 ghost use mathlib.Core.Bool.{true, _&&_};
 ghost use mathlib.Core.List.{_++_};
-ghost use Prim.Native.Nat.{_+_, _*_, _-_, _≤_};
+ghost use Prim.Native.Nat.{_+_, _*_, _-_, _<_, _≤_};
 ghost use lib.Dec.{leb};
 ghost use lib.ListN.{length, take, replicate};
-ghost use Rattle.cycles.specs.Cycles.{highs, element, cyclesOf, unspoiled, encodeOf, encodeLeaves};
-ghost use Rattle.manchester_encode.specs.Encoding.{Three, Copied};
+ghost use Rattle.cycles.specs.Cycles.{highs, cyclesOf, unspoiled, encodeOf, encodeLeaves};
+ghost use Rattle.manchester_encode.specs.Encoding.{Levels, Starts, Copied};
 use manchester::HIGH;
 use manchester::LOW;
 use manchester::check_frame;
@@ -21,7 +21,7 @@ use timecode::ZERO;
 // How many high cycles begin the element of a symbol: 2, 5 or 8 tenths of it.
 fn highs_of(count: usize, symbol: u8) -> usize
     requires { ⌜ count ≤ 100 ⌝ }
-    ensures { λ r. ⌜ (r ≡ highs count symbol) × (r ≤ count) ⌝ }
+    ensures { λ r. ⌜ (r ≡ highs count symbol) × (r ≤ 80) ⌝ }
 {
     if symbol == ZERO {
         return count / 5;
@@ -43,76 +43,92 @@ fn put_run(cycles: &mut [u8], from: usize, to: usize, level: u8)
     }
 }
 
-// The element of a symbol, from a place on.
-fn put_element(cycles: &mut [u8], at: usize, count: usize, symbol: u8)
-    requires { ⌜ (count ≤ 100) × (at + count ≤ length (now cycles)) ⌝ }
-    ensures { λ _. ⌜ (length (now (cycles .exit)) ≡ length (now (cycles .entry))) × (take (at + count) (now (cycles .exit)) ≡ take at (now (cycles .entry)) ++ element count symbol) ⌝ }
-{
-    let middle = at + highs_of(count, symbol);
-    put_run(cycles, at, middle, HIGH);
-    put_run(cycles, middle, at + count, LOW);
-}
-
-// The elements of a zero, a one and a mark, one after the other.
-fn put_three(elements: &mut [u8], count: usize)
-    requires { ⌜ (count ≤ 100) × (300 ≤ length (now elements)) ⌝ }
-    ensures { λ _. ⌜ (length (now (elements .exit)) ≡ length (now (elements .entry))) × Three count (now (elements .exit)) ⌝ }
-{
-    put_element(elements, 0, count, ZERO);
-    put_element(elements, count, count, ONE);
-    put_element(elements, 2 * count, count, MARK);
-}
-
-// So many cycles of the elements, from one place to another.
-fn copy_cycles(elements: &[u8], from: usize, cycles: &mut [u8], at: usize, count: usize)
-    requires { ⌜ (from + count ≤ length (now elements)) × (at + count ≤ length (now cycles)) ⌝ }
-    ensures { λ _. ⌜ Copied (now (elements .entry)) from (now (cycles .entry)) (now (cycles .exit)) at count ⌝ }
+// So many cycles, from one place to another.
+fn copy_cycles(levels: &[u8], from: usize, cycles: &mut [u8], at: usize, count: usize)
+    requires { ⌜ (from + count ≤ length (now levels)) × (at + count ≤ length (now cycles)) ⌝ }
+    ensures { λ _. ⌜ Copied (now (levels .entry)) from (now (cycles .entry)) (now (cycles .exit)) at count ⌝ }
 {
     let mut i = 0;
     while i < count {
-        cycles[at + i] = elements[from + i];
+        cycles[at + i] = levels[from + i];
         i += 1;
     }
 }
 
-// An element of so many cycles, where there is room in blocks of 16, which the processor copies at once: up to 15 cycles behind it are then set to anything.
-fn copy_element(elements: &[u8], from: usize, cycles: &mut [u8], at: usize, count: usize)
-    requires { ⌜ (from + count + 15 ≤ length (now elements)) × (at + count ≤ length (now cycles)) ⌝ }
-    ensures { λ _. ⌜ Copied (now (elements .entry)) from (now (cycles .entry)) (now (cycles .exit)) at count ⌝ }
+// By way of a block of its own, so that the compiler reads all 16 cycles at once and then writes them at once.
+fn copy_block(levels: &[u8], from: usize, cycles: &mut [u8], at: usize)
+    requires { ⌜ (from + 16 ≤ length (now levels)) × (at + 16 ≤ length (now cycles)) ⌝ }
+    ensures { λ _. ⌜ Copied (now (levels .entry)) from (now (cycles .entry)) (now (cycles .exit)) at 16 ⌝ }
 {
-    if cycles.len() - at < count + 15 {
-        copy_cycles(elements, from, cycles, at, count);
-        return;
-    }
+    let mut block = [LOW; 16];
+    copy_cycles(levels, from, &mut block, 0, 16);
+    copy_cycles(&block, 0, cycles, at, 16);
+}
+
+fn copy_blocks(levels: &[u8], from: usize, cycles: &mut [u8], at: usize, blocks: usize)
+    requires { ⌜ (blocks ≤ 7) × (from + 16 * blocks ≤ length (now levels)) × (at + 16 * blocks ≤ length (now cycles)) ⌝ }
+    ensures { λ _. ⌜ Copied (now (levels .entry)) from (now (cycles .entry)) (now (cycles .exit)) at (16 * blocks) ⌝ }
+{
     let mut i = 0;
-    while i < count {
-        copy_cycles(elements, from + i, cycles, at + i, 16);
-        i += 16;
+    while i < blocks {
+        copy_block(levels, from + 16 * i, cycles, at + 16 * i);
+        i += 1;
     }
 }
 
-// The frame, each element a copy of one of the three.
-fn copy_elements(elements: &[u8], count: usize, frame: &[u8], cycles: &mut [u8])
-    requires { ⌜ (count ≤ 100) × (length (now elements) ≡ 320) × Three count (now elements) × (unspoiled (now frame) ≡ true) × (length (now cycles) ≡ length (now frame) * count) ⌝ }
+// The frame, each element in so many whole blocks: what they set behind it, the next element sets again. The last one has no room for that.
+fn copy_elements(
+    levels: &[u8],
+    starts: &[usize],
+    blocks: usize,
+    count: usize,
+    frame: &[u8],
+    cycles: &mut [u8],
+)
+    requires { ⌜ (blocks ≤ 7) × (8 * blocks ≤ count) × (count ≤ 16 * blocks) × (count ≤ 100) × Levels (now levels) × Starts count (now starts) × (unspoiled (now frame) ≡ true) × (0 < length (now frame)) × (length (now cycles) ≡ length (now frame) * count) ⌝ }
     ensures { λ _. ⌜ now (cycles .exit) ≡ cyclesOf count (now (frame .entry)) ⌝ }
 {
+    let last = frame.len() - 1;
     let mut i = 0;
     let mut at = 0;
-    while i < frame.len() {
-        let symbol = frame[i] as usize;
-        copy_element(elements, symbol * count, cycles, at, count);
+    while i < last {
+        copy_blocks(levels, starts[frame[i] as usize], cycles, at, blocks);
         at += count;
         i += 1;
     }
+    copy_cycles(levels, starts[frame[i] as usize], cycles, at, count);
 }
 
-fn put_cycles(count: usize, frame: &[u8], cycles: &mut [u8])
-    requires { ⌜ (count ≤ 100) × (unspoiled (now frame) ≡ true) × (length (now cycles) ≡ length (now frame) * count) ⌝ }
+// A loop of its own for each number of blocks, which the compiler then writes out.
+fn copy_frame(levels: &[u8], starts: &[usize], count: usize, frame: &[u8], cycles: &mut [u8])
+    requires { ⌜ (10 ≤ count) × (count ≤ 100) × Levels (now levels) × Starts count (now starts) × (unspoiled (now frame) ≡ true) × (0 < length (now frame)) × (length (now cycles) ≡ length (now frame) * count) ⌝ }
     ensures { λ _. ⌜ now (cycles .exit) ≡ cyclesOf count (now (frame .entry)) ⌝ }
 {
-    let mut elements = [LOW; 320];
-    put_three(&mut elements, count);
-    copy_elements(&elements, count, frame, cycles);
+    let blocks = (count + 15) / 16;
+    match blocks {
+        1 => copy_elements(levels, starts, 1, count, frame, cycles),
+        2 => copy_elements(levels, starts, 2, count, frame, cycles),
+        3 => copy_elements(levels, starts, 3, count, frame, cycles),
+        4 => copy_elements(levels, starts, 4, count, frame, cycles),
+        5 => copy_elements(levels, starts, 5, count, frame, cycles),
+        6 => copy_elements(levels, starts, 6, count, frame, cycles),
+        _ => copy_elements(levels, starts, 7, count, frame, cycles),
+    }
+}
+
+// 80 high levels and 112 low ones: an element of 100 cycles has at most 80 of either, and is copied in 7 blocks.
+fn put_cycles(count: usize, frame: &[u8], cycles: &mut [u8])
+    requires { ⌜ (10 ≤ count) × (count ≤ 100) × (unspoiled (now frame) ≡ true) × (0 < length (now frame)) × (length (now cycles) ≡ length (now frame) * count) ⌝ }
+    ensures { λ _. ⌜ now (cycles .exit) ≡ cyclesOf count (now (frame .entry)) ⌝ }
+{
+    let mut levels = [HIGH; 192];
+    put_run(&mut levels, 80, 192, LOW);
+    let starts = [
+        80 - highs_of(count, ZERO),
+        80 - highs_of(count, ONE),
+        80 - highs_of(count, MARK),
+    ];
+    copy_frame(&levels, &starts, count, frame, cycles);
 }
 
 fn larger(a: u8, b: u8) -> u8

@@ -7,13 +7,13 @@ use Rattle.manchester_encode.proofs.copy_cycles.Statement.{statement}
 use Rattle.manchester_encode.proofs.copy_cycles.Tie as tie
 
 abbrev Inv-loop : tie.InvT-loop
-Inv-loop elements from cycles₀ at count i₀ cycles i = (i ≤ count) × Copied elements from cycles₀ cycles at i
+Inv-loop levels from cycles₀ at count i₀ cycles i = (i ≤ count) × Copied levels from cycles₀ cycles at i
 
 abbrev μ-loop : tie.MeasureT-loop
-μ-loop elements from cycles₀ at count i₀ cycles i = count - i
+μ-loop levels from cycles₀ at count i₀ cycles i = count - i
 
 loop-holds : tie.Need-loop-holds Inv-loop μ-loop
-loop-holds c = (omega arith, none-copied (c .args .elements .now) (c .args .from) (c .args .cycles .now) (c .args .at))
+loop-holds c = (omega arith, none-copied (c .args .levels .now) (c .args .from) (c .args .cycles .now) (c .args .at))
 
 add-cycles : tie.Need-add-cycles Inv-loop μ-loop
 add-cycles c = omega arith
@@ -37,7 +37,7 @@ loop-again : tie.Need-loop-again Inv-loop μ-loop
 loop-again c =
     let given = c .before .before .before .args in
     let l = c .before .before .loop in
-    (omega arith, one-copied (given .elements .now) (given .from) (given .cycles .now) (l .cycles) (given .at) (l .i) (omega arith) (omega (arith, l .inv .1 .0)) (l .inv .1))
+    (omega arith, one-copied (given .levels .now) (given .from) (given .cycles .now) (l .cycles) (given .at) (l .i) (omega arith) (omega (arith, l .inv .1 .0)) (l .inv .1))
 
 same-length : tie.Need-same-length Inv-loop μ-loop
 same-length c = c .before .loop .inv .1 .0
