@@ -2,7 +2,7 @@
 use mathlib.Core.Path.{_≡_, refl, sym, ap, ap₂, _∙_}
 use mathlib.Core.Bool.{true, false, _&&_}
 use mathlib.Core.List.{List, [], _∷_, _++_, append-assoc, append-nil}
-use Prim.Native.Nat.{ℕ, zero, suc, _+_, _*_, _-_, _<_, _≤_}
+use Prim.Native.Nat.{ℕ, zero, suc, _+_, _*_, _-_, _%_, _<_, _≤_}
 use native.Mathlib.Nat.{add-zero}
 use native.Mathlib.Numerals.{add-one}
 use native.Mathlib.Omega.{arith}
@@ -57,9 +57,12 @@ element-next M frame xs zs e at h a b =
 
 -- ---- the levels of which every element is a part
 
--- 80 high ones, and 112 low ones
+-- high cycles, then low ones
+abbrev pub runs : ℕ → ℕ → List ℕ
+runs h l = replicate h 1 ++ replicate l 2
+
 unfoldable pub levels : List ℕ
-levels = replicate 80 1 ++ replicate 112 2
+levels = runs 80 112
 
 abbrev pub Levels : List ℕ → Type 0
 Levels ls = ls ≡ levels
@@ -93,9 +96,6 @@ starts-length M ss e = ap length e
 pub part-room : (M s n : ℕ) (ss ls : List ℕ) → s ≤ 2 → Starts M ss → Levels ls → n ≤ 112 → getD ss s 0 + n ≤ length ls
 part-room M s n ss ls h st l k = omega (arith, start-at M s ss h st, levels-length ls l)
 
-abbrev runs : ℕ → ℕ → List ℕ
-runs h l = replicate h 1 ++ replicate l 2
-
 part-of-runs : (a h l r M : ℕ) → h + l ≡ M → take M (drop a (runs (a + h) (l + r))) ≡ runs h l
 part-of-runs a h l r M e =
     let n : length (runs h l) ≡ M = length-append (replicate h 1) (replicate l 2) ∙ ap₂ _+_ (length-replicate h 1) (length-replicate l 2) ∙ e in
@@ -120,6 +120,50 @@ unfolding levels
 element-of-levels M s ls h e =
     let most = highs-most M s h in
     ap (λ (x : List ℕ). take M (drop (80 - highs M s) x)) e ∙ element-of-runs M s 80 112 most (omega arith)
+
+-- ---- the elements of 10 cycles, a block for each
+
+unfoldable pub shorts : List ℕ
+shorts = runs 2 14 ++ runs 5 11 ++ runs 8 8
+
+abbrev pub Short : List ℕ → Type 0
+Short es = es ≡ shorts
+
+-- its two runs, as they are put
+pub short-runs : (h at mid : ℕ) (xs ys zs : List ℕ) → mid ≡ at + h → h ≤ 16
+    → take mid ys ≡ take at xs ++ replicate (mid - at) 1
+    → take (at + 16) zs ≡ take mid ys ++ replicate (at + 16 - mid) 2
+    → take (at + 16) zs ≡ take at xs ++ runs h (16 - h)
+short-runs h at mid xs ys zs m small b c =
+    let ups : mid - at ≡ h = omega arith in
+    let downs : at + 16 - mid ≡ 16 - h = omega arith in
+    c
+    ∙ ap (λ (l : List ℕ). l ++ replicate (at + 16 - mid) 2) b
+    ∙ append-assoc (take at xs) (replicate (mid - at) 1) (replicate (at + 16 - mid) 2)
+    ∙ rw (ups, downs)
+
+pub shorts-put : (e₁ e₂ e₃ : List ℕ) → length e₃ ≡ 48
+    → take (0 + 16) e₁ ≡ runs (highs 10 0) (16 - highs 10 0)
+    → take (16 + 16) e₂ ≡ take 16 e₁ ++ runs (highs 10 1) (16 - highs 10 1)
+    → take (32 + 16) e₃ ≡ take 32 e₂ ++ runs (highs 10 2) (16 - highs 10 2)
+    → Short e₃
+unfolding shorts highs
+shorts-put e₁ e₂ e₃ l a b c =
+    sym (take-length e₃)
+    ∙ ap (λ (n : ℕ). take n e₃) l
+    ∙ c
+    ∙ ap (λ (x : List ℕ). x ++ runs 8 8) (b ∙ ap (λ (x : List ℕ). x ++ runs 5 11) a)
+
+pub shorts-length : (es : List ℕ) → Short es → length es ≡ 48
+unfolding shorts
+shorts-length es e = ap length e
+
+short-element : (s : ℕ) → s ≤ 2 → take 10 (drop (16 * s) shorts) ≡ element 10 s
+unfolding shorts element highs
+short-element zero h = refl
+short-element (suc zero) h = refl
+short-element (suc (suc zero)) h = refl
+short-element (suc (suc (suc s))) h = let no : ⊥ = omega arith in absurd no
 
 -- ---- copies of their cycles
 
@@ -168,6 +212,9 @@ fewer-copied es from old new at n i h k c =
 pub element-copied : (M s : ℕ) (ss ls old new : List ℕ) (at : ℕ) → M ≤ 100 → s ≤ 2 → Starts M ss → Levels ls → Copied ls (getD ss s 0) old new at M → take (at + M) new ≡ take at old ++ element M s
 element-copied M s ss ls old new at h k st l c = c .1 ∙ ap (λ (x : List ℕ). take at old ++ x) (ap (λ (from : ℕ). take M (drop from ls)) (start-at M s ss k st) ∙ element-of-levels M s ls h l)
 
+pub short-copied : (s : ℕ) (es old new : List ℕ) (at : ℕ) → s ≤ 2 → Short es → Copied es (16 * s) old new at 10 → take (at + 10) new ≡ take at old ++ element 10 s
+short-copied s es old new at h e c = c .1 ∙ ap (λ (x : List ℕ). take at old ++ x) (ap (λ (x : List ℕ). take 10 (drop (16 * s) x)) e ∙ short-element s h)
+
 pub run-none : (xs : List ℕ) (from v : ℕ) → take from xs ≡ take from xs ++ replicate (from - from) v
 run-none xs from v = let none : from - from ≡ 0 = omega arith in rw none (sym (append-nil (take from xs)))
 
@@ -199,11 +246,12 @@ unspoiled-end xs i a h u = sym (u ∙ rw (drop-of-length-le xs {i = i} h) (by-te
 -- ---- the call, by its checks
 
 module _ (f : Format) (M : ℕ) (frame lent : List ℕ) where
-  pub encode-room : checkFrame f M (length frame) (length lent) Done ≡ Done → (10 ≤ M) × (M ≤ 100) × (0 < length frame) × (length lent ≡ length frame * M)
+  pub encode-room : checkFrame f M (length frame) (length lent) Done ≡ Done → (10 ≤ M) × (M ≤ 100) × (M % 10 ≡ 0) × (0 < length frame) × (length lent ≡ length frame * M)
   encode-room h =
       let c = checked f M (length frame) (length lent) Done h .0 in
       let some = size-positive f in
-      (count-parts M (c .count) .0, count-parts M (c .count) .1, omega (arith, c .elements), c .all ∙ ap (λ (n : ℕ). n * M) (sym (c .elements)))
+      let p = count-parts M (c .count) in
+      (p .0, p .1, p .2, omega (arith, c .elements), c .all ∙ ap (λ (n : ℕ). n * M) (sym (c .elements)))
 
   pub encode-done : (new : List ℕ) → checkFrame f M (length frame) (length lent) Done ≡ Done → unspoiled frame ≡ true → new ≡ cyclesOf M frame → (Done ≡ encodeOf f M frame lent) × (new ≡ encodeLeaves f M frame lent)
   unfolding encodeOf encodeLeaves

@@ -1,13 +1,13 @@
 // A frame of A, B or G in the modified Manchester form: each symbol as its clock cycles, the high ones first.
-// Every element is a part of one run of levels, high ones and then low ones, and is copied from there.
+// Elements are copied in whole blocks of 16 cycles: those of 10 cycles from a block each, longer ones as parts of one run of levels.
 ghost use mathlib.Core.Path.{_≡_};
 ghost use mathlib.Core.Bool.{true, _&&_};
 ghost use mathlib.Core.List.{_++_};
-ghost use Prim.Native.Nat.{_+_, _*_, _-_, _<_, _≤_};
+ghost use Prim.Native.Nat.{_+_, _*_, _-_, _%_, _<_, _≤_};
 ghost use lib.Dec.{leb};
 ghost use lib.ListN.{length, take, replicate};
 ghost use Rattle.cycles.specs.Cycles.{highs, cyclesOf, unspoiled, encodeOf, encodeLeaves};
-ghost use Rattle.manchester_encode.specs.Encoding.{Levels, Starts, Copied};
+ghost use Rattle.manchester_encode.specs.Encoding.{Levels, Starts, Short, Copied, runs};
 use manchester::HIGH;
 use manchester::LOW;
 use manchester::check_frame;
@@ -101,12 +101,11 @@ fn copy_elements(
 
 // A loop of its own for each number of blocks, which the compiler then writes out.
 fn copy_frame(levels: &[u8], starts: &[usize], count: usize, frame: &[u8], cycles: &mut [u8])
-    requires { ⌜ (10 ≤ count) × (count ≤ 100) × Levels (now levels) × Starts count (now starts) × (unspoiled (now frame) ≡ true) × (0 < length (now frame)) × (length (now cycles) ≡ length (now frame) * count) ⌝ }
+    requires { ⌜ (16 < count) × (count ≤ 100) × Levels (now levels) × Starts count (now starts) × (unspoiled (now frame) ≡ true) × (0 < length (now frame)) × (length (now cycles) ≡ length (now frame) * count) ⌝ }
     ensures { λ _. ⌜ now (cycles .exit) ≡ cyclesOf count (now (frame .entry)) ⌝ }
 {
     let blocks = (count + 15) / 16;
     match blocks {
-        1 => copy_elements(levels, starts, 1, count, frame, cycles),
         2 => copy_elements(levels, starts, 2, count, frame, cycles),
         3 => copy_elements(levels, starts, 3, count, frame, cycles),
         4 => copy_elements(levels, starts, 4, count, frame, cycles),
@@ -117,8 +116,8 @@ fn copy_frame(levels: &[u8], starts: &[usize], count: usize, frame: &[u8], cycle
 }
 
 // 80 high levels and 112 low ones: an element of 100 cycles has at most 80 of either, and is copied in 7 blocks.
-fn put_cycles(count: usize, frame: &[u8], cycles: &mut [u8])
-    requires { ⌜ (10 ≤ count) × (count ≤ 100) × (unspoiled (now frame) ≡ true) × (0 < length (now frame)) × (length (now cycles) ≡ length (now frame) * count) ⌝ }
+fn put_long_cycles(count: usize, frame: &[u8], cycles: &mut [u8])
+    requires { ⌜ (16 < count) × (count ≤ 100) × (unspoiled (now frame) ≡ true) × (0 < length (now frame)) × (length (now cycles) ≡ length (now frame) * count) ⌝ }
     ensures { λ _. ⌜ now (cycles .exit) ≡ cyclesOf count (now (frame .entry)) ⌝ }
 {
     let mut levels = [HIGH; 192];
@@ -129,6 +128,54 @@ fn put_cycles(count: usize, frame: &[u8], cycles: &mut [u8])
         80 - highs_of(count, MARK),
     ];
     copy_frame(&levels, &starts, count, frame, cycles);
+}
+
+// The element of 10 cycles, and low ones up to a block.
+fn put_short_element(elements: &mut [u8], at: usize, symbol: u8)
+    requires { ⌜ at + 16 ≤ length (now elements) ⌝ }
+    ensures { λ _. ⌜ (length (now (elements .exit)) ≡ length (now (elements .entry))) × (take (at + 16) (now (elements .exit)) ≡ take at (now (elements .entry)) ++ runs (highs 10 symbol) (16 - highs 10 symbol)) ⌝ }
+{
+    let middle = at + highs_of(10, symbol);
+    put_run(elements, at, middle, HIGH);
+    put_run(elements, middle, at + 16, LOW);
+}
+
+// As copy_elements, with one block for each element: the symbol alone says which, so that nothing else is read.
+fn copy_short_elements(elements: &[u8], frame: &[u8], cycles: &mut [u8])
+    requires { ⌜ Short (now elements) × (unspoiled (now frame) ≡ true) × (0 < length (now frame)) × (length (now cycles) ≡ length (now frame) * 10) ⌝ }
+    ensures { λ _. ⌜ now (cycles .exit) ≡ cyclesOf 10 (now (frame .entry)) ⌝ }
+{
+    let last = frame.len() - 1;
+    let mut i = 0;
+    let mut at = 0;
+    while i < last {
+        copy_block(elements, 16 * (frame[i] as usize), cycles, at);
+        at += 10;
+        i += 1;
+    }
+    copy_cycles(elements, 16 * (frame[i] as usize), cycles, at, 10);
+}
+
+fn put_short_cycles(frame: &[u8], cycles: &mut [u8])
+    requires { ⌜ (unspoiled (now frame) ≡ true) × (0 < length (now frame)) × (length (now cycles) ≡ length (now frame) * 10) ⌝ }
+    ensures { λ _. ⌜ now (cycles .exit) ≡ cyclesOf 10 (now (frame .entry)) ⌝ }
+{
+    let mut elements = [LOW; 48];
+    put_short_element(&mut elements, 0, ZERO);
+    put_short_element(&mut elements, 16, ONE);
+    put_short_element(&mut elements, 32, MARK);
+    copy_short_elements(&elements, frame, cycles);
+}
+
+fn put_cycles(count: usize, frame: &[u8], cycles: &mut [u8])
+    requires { ⌜ (10 ≤ count) × (count ≤ 100) × (count % 10 ≡ 0) × (unspoiled (now frame) ≡ true) × (0 < length (now frame)) × (length (now cycles) ≡ length (now frame) * count) ⌝ }
+    ensures { λ _. ⌜ now (cycles .exit) ≡ cyclesOf count (now (frame .entry)) ⌝ }
+{
+    if count == 10 {
+        put_short_cycles(frame, cycles);
+        return;
+    }
+    put_long_cycles(count, frame, cycles);
 }
 
 fn larger(a: u8, b: u8) -> u8

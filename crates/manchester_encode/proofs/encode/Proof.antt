@@ -17,7 +17,7 @@ is-unspoiled-requires c κs = search needs
 put-cycles-requires : tie.Need-put-cycles-requires
 put-cycles-requires c κs =
     let room = encode-room (c .before .before .before .before .before .before .before .before .args .format) (c .before .before .before .before .before .before .before .before .args .count) (c .before .before .before .before .before .before .before .before .args .frame .now) (c .before .before .before .before .before .before .before .before .args .cycles .now) (sym (c .before .before .before .before .before .check-frame .ensures) ∙ c .before .before .before .enum-told .given .1) in
-    (room .0, room .1, sym (c .before .before .is-unspoiled .ensures) ∙ c .before .if1 .taken, room .2, room .3)
+    (room .0, room .1, room .2, sym (c .before .before .is-unspoiled .ensures) ∙ c .before .if1 .taken, room .3, room .4)
 
 same-length : tie.Need-same-length
 same-length c = search needs

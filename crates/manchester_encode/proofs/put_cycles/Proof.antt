@@ -1,72 +1,39 @@
--- `put_cycles` meets its contract: the levels, where an element of each kind begins in them, and the copies.
+-- `put_cycles` meets its contract: elements of 10 cycles, or longer ones.
 use borrow.Author.Needs.{needs}
-use Rattle.manchester_encode.specs.Encoding.{levels-put}
+use mathlib.Core.Path.{sym, ap, _∙_}
+use Prim.Native.Nat.{ℕ, _*_}
+use lib.ListN.{length}
+use Rattle.cycles.specs.Cycles.{cyclesOf}
 use Rattle.manchester_encode.proofs.put_cycles.Statement.{statement}
 use Rattle.manchester_encode.proofs.put_cycles.Tie as tie
 
-slice-aggregate-put-run : tie.Need-slice-aggregate-put-run
-slice-aggregate-put-run c = search needs
-
-put-run-requires : tie.Need-put-run-requires
-put-run-requires c κs = search needs
-
-highs-of-requires : tie.Need-highs-of-requires
-highs-of-requires c κs = search needs
-
-sub-t10 : tie.Need-sub-t10
-sub-t10 c = search needs
-
-highs-of-requires-2 : tie.Need-highs-of-requires-2
-highs-of-requires-2 c κs = search needs
-
-sub-t12 : tie.Need-sub-t12
-sub-t12 c = search needs
-
-highs-of-requires-3 : tie.Need-highs-of-requires-3
-highs-of-requires-3 c κs = search needs
-
-sub-t14 : tie.Need-sub-t14
-sub-t14 c = search needs
-
-slice-aggregate-copy-frame : tie.Need-slice-aggregate-copy-frame
-slice-aggregate-copy-frame c = search needs
-
-slice-aggregate-copy-frame-2 : tie.Need-slice-aggregate-copy-frame-2
-slice-aggregate-copy-frame-2 c = search needs
-
-copy-frame-requires : tie.Need-copy-frame-requires
-copy-frame-requires c κs =
-    let start = c .before .before .before .before .before .before .before .before .before .before .before in
-    let levels = c .before .before .before .before .before .before .before .put-run .ensures in (
-      start .pre .0,
-      start .pre .1,
-      levels-put _ (levels .0) (levels .1),
-      rw (c .before .before .before .before .before .highs-of .ensures .0, c .before .before .before .before .highs-of2 .ensures .0, c .before .before .before .highs-of3 .ensures .0),
-      start .pre .2,
-      start .pre .3,
-      start .pre .4,
-    )
+put-short-cycles-requires : tie.Need-put-short-cycles-requires
+put-short-cycles-requires c κs =
+    let start = c .before .before .before .before in
+    (start .pre .3, start .pre .4, start .pre .5 ∙ ap (λ (k : ℕ). length (start .args .frame .now) * k) (c .before .if1 .taken))
 
 same-length : tie.Need-same-length
 same-length c = search needs
 
 returns : tie.Need-returns
-returns c = search needs
+returns c = c .before .before .put-short-cycles .ensures ∙ ap (λ (k : ℕ). cyclesOf k (c .before .before .before .before .before .before .before .args .frame .now)) (sym (c .before .before .before .before .if1 .taken))
+
+put-long-cycles-requires : tie.Need-put-long-cycles-requires
+put-long-cycles-requires c κs = search needs
+
+same-length-2 : tie.Need-same-length-2
+same-length-2 c = search needs
+
+returns-2 : tie.Need-returns-2
+returns-2 c = search needs
 
 pub put-cycles-spec : {M : Type 1} → statement M
 put-cycles-spec =
     tie.close
     (tie.spec
-    slice-aggregate-put-run
-    put-run-requires
-    highs-of-requires
-    sub-t10
-    highs-of-requires-2
-    sub-t12
-    highs-of-requires-3
-    sub-t14
-    slice-aggregate-copy-frame
-    slice-aggregate-copy-frame-2
-    copy-frame-requires
+    put-short-cycles-requires
     same-length
-    returns)
+    returns
+    put-long-cycles-requires
+    same-length-2
+    returns-2)
