@@ -38,7 +38,7 @@ fn taken_block(round: Round) -> FedBlock
     }
 }
 
-fn are_equal(first: usize, second: usize, third: usize, fourth: usize, fifth: usize) -> bool
+pub fn are_equal(first: usize, second: usize, third: usize, fourth: usize, fifth: usize) -> bool
     ensures { λ r. ⌜ r ≡ (eqb second first && (eqb third first && (eqb fourth first && eqb fifth first))) ⌝ }
 {
     if second == first {

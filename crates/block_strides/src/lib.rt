@@ -38,7 +38,7 @@ fn round_at(reader: Reader, taken: usize, reports: usize, stop: Stop) -> Round
     }
 }
 
-fn put_report(
+pub fn put_report(
     indexes: &mut [usize],
     years: &mut [u8],
     days: &mut [u16],

@@ -21,9 +21,7 @@ ghost use Rattle.simulation.specs.Lent.{simulateLent};
 ghost use Rattle.stream.specs.Feeding.{madeOf};
 ghost use Rattle.pulse_feed.specs.PulseFeeds.{feedPulseOf};
 ghost use Rattle.reader_words.specs.Words.{readerIn, freshResultOf, freshLeft, fedWith, feedWords, wordsLeft};
-use block_feed::feed_block;
 use block_words::BlockResult;
-use block_words::put_block;
 use calendar::Date;
 use calendar::DateTime;
 use calendar_words::AskResult;
@@ -90,6 +88,7 @@ use simulate_results::simulate_result;
 use timecode::Format;
 use timecode::Time;
 use timecode::WidthSettings;
+use word_block::feed_block_words;
 use word_feed::feed_words;
 
 // Write: a time and a control word as the bytes of the frame.
@@ -231,18 +230,7 @@ pub extern "C" fn duskveyra_feed_block(
     ensures { λ _. ⌜ now (reader .exit) ≡ blockWordsLeft (feedBlockWords (now (reader .entry)) (now (symbols .entry)) (lists (now (indexes .entry)) (now (years .entry)) (now (days .entry)) (now (hundredths .entry)) (now (controls .entry)))) (now (reader .entry)) ⌝ }
     ensures { λ _. ⌜ lists (now (indexes .exit)) (now (years .exit)) (now (days .exit)) (now (hundredths .exit)) (now (controls .exit)) ≡ listsLeft (blockFor (readerIn (now (reader .entry))) (now (symbols .entry)) (lists (now (indexes .entry)) (now (years .entry)) (now (days .entry)) (now (hundredths .entry)) (now (controls .entry)))) (lists (now (indexes .entry)) (now (years .entry)) (now (days .entry)) (now (hundredths .entry)) (now (controls .entry))) ⌝ }
 {
-    let fed = feed_block(
-        reader_in(*reader),
-        symbols,
-        indexes,
-        years,
-        days,
-        hundredths,
-        controls,
-    );
-    let next = fed.reader;
-    let answer = fed.answer;
-    put_block(next, answer, reader)
+    feed_block_words(reader, symbols, indexes, years, days, hundredths, controls)
 }
 
 // The classifier: the symbol and the deviation of one pulse.

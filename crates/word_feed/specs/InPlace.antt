@@ -7,9 +7,10 @@ use native.Mathlib.Nat.{mod-eq-of-lt}
 use native.Mathlib.Omega.{arith}
 use borrow.Author.Tests.{lt-ltb, le-leb, lt-leb, ltb-true, ltb-false, leb-true, eqb-true, eqb-false, eq-eqb, ne-eqb}
 use lib.Dec.{leb, ltb, eqb}
-use lib.ListN.{getD, set}
+use lib.ListN.{getD, length, set}
 use lib.Seq.{set-getD, getD-set-other}
 use Rattle.timecode.specs.Formats.{A, B, D, E, G, H, X, isSymbol, table, lookUp, rowOf, known, size}
+use Rattle.timecode.specs.Laws.Runs.{tabulate-self}
 use Rattle.timecode.specs.Laws.Table.{size-range}
 use Rattle.timecode.specs.Laws.Tests.{by-test, clash, and-left, and-right}
 use Rattle.timecode.specs.Layout.{tabulate}
@@ -22,9 +23,8 @@ use Rattle.register.specs.Receiving.{pushOf, begunOf, continuedOf, withWordOf, 
 use Rattle.register.specs.declared.Register.{Register}
 use Rattle.stream.specs.Feeding.{isValid, withRegister, whenWhole, withSymbolOf, nextOf, answerAfter, answerOf, feedOf}
 use Rattle.stream.specs.declared.Reader.{Reader}
-use Rattle.ffi.specs.Structs.{feedResultOf}
-use Rattle.reader_words.specs.WordLaws.{no-letter, no-expression}
-use Rattle.reader_words.specs.Words.{byteIn, readerIn, registerInto, wordsInto, feedWords, wordsLeft}
+use Rattle.reader_words.specs.WordLaws.{Fits, words-back, no-letter, no-expression}
+use Rattle.reader_words.specs.Words.{wordsFor, byteIn, readerIn, registerInto, wordsInto, feedWords, wordsLeft}
 
 abbrev pub formatIn : ℕ → ℕ → Format
 formatIn letter expression = record { letter = byteIn letter; expression = byteIn expression }
@@ -44,7 +44,11 @@ knownSize letter expression = cond (known (formatIn letter expression)) (size (f
 unfoldable pub otherSize : ℕ → ℕ
 otherSize letter = cond (eqb letter D) 60 (cond (eqb letter E) 100 (cond (eqb letter G) 100 (cond (eqb letter H) 60 0)))
 
--- numbers 13 and 26 pass, and the words of the time fit their widths
+-- numbers 13 and 26 pass, with n of a known format, and the words of the time fit their widths
+unfoldable pub isReady : List ℕ → ℕ → Bool
+isReady words n = ltb (getD words 3 0) n && (isSetting (byteIn (getD words 2 0)) && timeFits (getD words 10 0) (getD words 11 0) (getD words 12 0))
+
+-- such words
 pub record Ready (words : List ℕ) (n : ℕ) : Type 0 where
   pub is-known : known (formatIn (getD words 0 0) (getD words 1 0)) ≡ true
   pub size-is : n ≡ size (formatIn (getD words 0 0) (getD words 1 0))
@@ -54,28 +58,31 @@ pub record Ready (words : List ℕ) (n : ℕ) : Type 0 where
   pub day-fits : getD words 11 0 < 65536
   pub hundredths-fit : getD words 12 0 < 4294967296
 
-pub ready : (words : List ℕ) (s n : ℕ) → n ≡ knownSize (getD words 0 0) (getD words 1 0) → getD words 3 0 < n → (isSetting (byteIn (getD words 2 0)) && isSymbol s) ≡ true → timeFits (getD words 10 0) (getD words 11 0) (getD words 12 0) ≡ true → Ready words n × (s ≤ 3)
-unfolding knownSize timeFits
-ready words s n e inside p fits =
+pub ready : (words : List ℕ) (n : ℕ) → n ≡ knownSize (getD words 0 0) (getD words 1 0) → isReady words n ≡ true → Ready words n
+unfolding isReady knownSize timeFits
+ready words n e y =
     let f = formatIn (getD words 0 0) (getD words 1 0) in
+    let below = ltb (getD words 3 0) n in
+    let set = isSetting (byteIn (getD words 2 0)) in
     let year = ltb (getD words 10 0) 256 in
     let day = ltb (getD words 11 0) 65536 in
     let hundredths = ltb (getD words 12 0) 4294967296 in
-    let others = and-right year (day && hundredths) fits in
+    let inside = ltb-true (getD words 3 0) n (and-left below (set && (year && (day && hundredths))) y) in
+    let others = and-right below (set && (year && (day && hundredths))) y in
+    let fits = and-right set (year && (day && hundredths)) others in
+    let last = and-right year (day && hundredths) fits in
     by-test (known f)
-    (λ a. (
-      record {
-        is-known = a;
-        size-is = rw a at e;
-        inside = inside;
-        is-set = and-left (isSetting (byteIn (getD words 2 0))) (isSymbol s) p;
-        year-fits = ltb-true (getD words 10 0) 256 (and-left year (day && hundredths) fits);
-        day-fits = ltb-true (getD words 11 0) 65536 (and-left day hundredths others);
-        hundredths-fit = ltb-true (getD words 12 0) 4294967296 (and-right day hundredths others);
-      },
-      leb-true s 3 (and-right (isSetting (byteIn (getD words 2 0))) (isSymbol s) p),
-    ))
-    (λ a. let none : n ≡ 0 = rw a at e in let no : ⊥ = omega arith in absurd no)
+    (λ a.
+    record {
+      is-known = a;
+      size-is = rw a at e;
+      inside = inside;
+      is-set = and-left set (year && (day && hundredths)) others;
+      year-fits = ltb-true (getD words 10 0) 256 (and-left year (day && hundredths) fits);
+      day-fits = ltb-true (getD words 11 0) 65536 (and-left day hundredths last);
+      hundredths-fit = ltb-true (getD words 12 0) 4294967296 (and-right day hundredths last);
+    })
+    (λ a. let none : n ≡ 0 = rw a at e in let no : ⊥ = omega (arith, inside) in absurd no)
 
 -- ---- n by the words as they are
 
@@ -148,6 +155,10 @@ setting-same k h = by-test (ltb k 256) (λ y. rw y) (λ n. clash h (rw n))
 
 -- ---- a symbol with which no frame becomes whole
 
+-- number 4 passes, and the symbol ends no frame
+unfoldable pub isInside : List ℕ → ℕ → ℕ → Bool
+isInside words s n = cond (isSymbol s) (cond (eqb (receiveOf (formatIn (getD words 0 0) (getD words 1 0)) n (registerIn words) s .count) n) false true) false
+
 module _ (r : Reader) (s n : ℕ) (h : Register) (k : known (r .format) ≡ true) (z : n ≡ size (r .format)) (inside : r .place < n) (is-set : isSetting (r .setting) ≡ true) (small : s ≤ 3)
     (got : receiveOf (r .format) n (r .received) s ≡ h) (not-whole : h .count ≡ n → ⊥) where
   next-is : nextOf r s ≡ withRegister r ((r .place + 1) % n) h
@@ -157,6 +168,52 @@ module _ (r : Reader) (s n : ℕ) (h : Register) (k : known (r .format) ≡ true
   answer-is : answerOf r s ≡ Quiet
   unfolding answerOf answerAfter isValid
   answer-is = rw (next-is, k, ← z, lt-ltb (r .place) n inside, is-set, le-leb s 3 small, ne-eqb (h .count) n not-whole)
+
+-- ---- words that are ready
+
+module _ (words : List ℕ) (n : ℕ) (at : Ready words n) where
+  -- they are those of the reader in them
+  pub same-words : length words ≡ 14 → words ≡ wordsFor (readerIn words)
+  unfolding wordsFor readerIn
+  same-words long =
+      sym (tabulate-self words)
+      ∙ ap (λ (k : ℕ). tabulate k 0 (λ (i : ℕ). getD words i 0)) long
+      ∙ rw (
+        letter-same (getD words 0 0) (getD words 1 0) (at .is-known),
+        expression-same (getD words 0 0) (getD words 1 0) (at .is-known),
+        setting-same (getD words 2 0) (at .is-set),
+        mod-eq-of-lt (at .year-fits),
+        mod-eq-of-lt (at .day-fits),
+        mod-eq-of-lt (at .hundredths-fit),
+      )
+
+  -- numbers 13 and 26 pass
+  pub ready-valid : isValid (readerIn words) ≡ true
+  unfolding isValid readerIn
+  ready-valid = rw (at .is-known, ← at .size-is) (lt-ltb (getD words 3 0) n (at .inside))
+
+  pub ready-setting : isSetting (readerIn words .setting) ≡ true
+  unfolding readerIn
+  ready-setting = at .is-set
+
+  pub ready-format : size (readerIn words .format) ≡ n
+  unfolding readerIn
+  ready-format = sym (at .size-is)
+
+-- the words of a reader that passes
+pub words-ready : (r : Reader) → Fits r → isValid r ≡ true → isSetting (r .setting) ≡ true → Ready (wordsFor r) (size (r .format))
+unfolding wordsFor readerIn isValid
+words-ready r fits v set =
+    let back = words-back r fits in
+    record {
+      is-known = ap (λ (q : Reader). known (q .format)) back ∙ and-left (known (r .format)) (ltb (r .place) (size (r .format))) v;
+      size-is = sym (ap (λ (q : Reader). size (q .format)) back);
+      inside = ltb-true (r .place) (size (r .format)) (and-right (known (r .format)) (ltb (r .place) (size (r .format))) v);
+      is-set = ap (λ (q : Reader). isSetting (q .setting)) back ∙ set;
+      year-fits = fits .year;
+      day-fits = fits .day;
+      hundredths-fit = fits .hundredths;
+    }
 
 module _ (words : List ℕ) (s n : ℕ) (at : Ready words n) where
   into-ready : (place : ℕ) (h : Register) → wordsInto words (withRegister (readerIn words) place h) ≡ registerInto words place h
@@ -178,20 +235,35 @@ module _ (words : List ℕ) (s n : ℕ) (at : Ready words n) where
         set-getD words 13 0,
       )
 
-  module _ (small : s ≤ 3) where
-    abbrev f : Format
-    f = formatIn (getD words 0 0) (getD words 1 0)
+  abbrev f : Format
+  f = formatIn (getD words 0 0) (getD words 1 0)
 
-    -- the struct and the words of such a Feed
+  -- it brings nothing
+  pub inside-quiet : isInside words s n ≡ true → feedWords words s .answer ≡ Quiet
+  unfolding feedOf readerIn isInside
+  inside-quiet i =
+      let h = receiveOf f n (registerIn words) s in
+      by-test (isSymbol s)
+      (λ y. answer-is (readerIn words) s n h (at .is-known) (at .size-is) (at .inside) (at .is-set) (leb-true s 3 y) refl (λ e. clash i (rw (y, eq-eqb (h .count) n e))))
+      (λ k. clash i (rw k))
+
+  -- a symbol that is none is not fed
+  pub above-left : 3 < s → (false ≡ isInside words s n) × (words ≡ cond (isInside words s n) (wordsLeft (feedWords words s) words) words)
+  unfolding isInside
+  above-left above = rw (lt-leb s 3 above) (refl, refl)
+
+  module _ (small : s ≤ 3) where
+    -- the words of such a Feed
     abbrev pub Left : List ℕ → Type 0
-    Left left = (feedResultOf Quiet ≡ feedResultOf (feedWords words s .answer)) × (left ≡ wordsLeft (feedWords words s) words)
+    Left left = (true ≡ isInside words s n) × (left ≡ cond (isInside words s n) (wordsLeft (feedWords words s) words) words)
 
     not-whole-left : (h : Register) → receiveOf f n (registerIn words) s ≡ h → (h .count ≡ n → ⊥) → Left (registerInto words ((getD words 3 0 + 1) % n) h)
-    unfolding feedOf readerIn
+    unfolding feedOf readerIn isInside
     not-whole-left h got not-whole =
+        let i : isInside words s n ≡ true = rw (le-leb s 3 small, got, ne-eqb (h .count) n not-whole) in
         let a = answer-is (readerIn words) s n h (at .is-known) (at .size-is) (at .inside) (at .is-set) small got not-whole in
         let x = next-is (readerIn words) s n h (at .is-known) (at .size-is) (at .inside) (at .is-set) small got not-whole in
-        (rw a, rw (a, x) (sym (into-ready ((getD words 3 0 + 1) % n) h)))
+        (sym i, rw (i, a, x) (sym (into-ready ((getD words 3 0 + 1) % n) h)))
 
     -- a word beside the one that is set is put back as it was
     as-it-was : (i j x : ℕ) → (j ≡ i → ⊥) → set (set words i x) j (getD words j 0) ≡ set words i x
@@ -209,7 +281,7 @@ module _ (words : List ℕ) (s n : ℕ) (at : Ready words n) where
         rw (e, set-getD words 9 0) (ap (λ (ws : List ℕ). set (set (set ws 5 newest) 4 96) 3 place) (ap (λ (ws : List ℕ). set ws 6 (getD words 6 0)) (as-it-was 8 7 newest (λ q. omega arith)) ∙ as-it-was 8 6 newest (λ q. omega arith)))
     full-into place newest count (suc (suc (suc (suc k)))) a b e = let no : ⊥ = omega arith in absurd no
 
-    -- ---- the five ways
+    -- ---- the five ways, and the frame's last symbol
 
     pub opened : opensFrame f (getD words 5 0 % 4) s ≡ true → Left (registerInto words ((getD words 3 0 + 1) % n) (begunOf (pushOf (getD words 5 0) s) 1 (cond (eqb (getD words 4 0) n) (getD words 9 0) 0)))
     unfolding receiveOf
@@ -245,6 +317,14 @@ module _ (words : List ℕ) (s n : ℕ) (at : Ready words n) where
           let b = size-range f in
           let z = at .size-is in
           not-whole-left (begunOf (pushOf (getD words 5 0) s) 0 0) (rw (shut, ne-eqb (getD words 4 0) 0 (λ e. omega arith), le-leb n (getD words 4 0) l)) (λ e. omega arith)
+
+      pub becomes-whole : (getD words 4 0 ≡ 0 → ⊥) → n - 1 ≤ getD words 4 0 → getD words 4 0 < n → (false ≡ isInside words s n) × (words ≡ cond (isInside words s n) (wordsLeft (feedWords words s) words) words)
+      unfolding isInside receiveOf
+      becomes-whole some last below =
+          let w : isInside words s n ≡ false =
+          rw (le-leb s 3 small, shut, ne-eqb (getD words 4 0) 0 some, lt-leb n (getD words 4 0) below)
+          (by-test (eqb ((getD words 4 0 + 1) % 32) 0) (λ y. rw (y, eq-eqb (getD words 4 0 + 1) n (omega arith))) (λ k. rw (k, eq-eqb (getD words 4 0 + 1) n (omega arith)))) in
+          (sym w, rw w)
 
 pub ready-place : (words : List ℕ) (n : ℕ) → Ready words n → (getD words 3 0 < n) × (n ≤ 100)
 ready-place words n at = let b = size-range (formatIn (getD words 0 0) (getD words 1 0)) in let z = at .size-is in (at .inside, omega arith)

@@ -4,13 +4,12 @@ ghost use mathlib.Core.Path.{_≡_};
 ghost use mathlib.Core.Bool.{cond, _&&_};
 ghost use Prim.Native.Nat.{_+_, _/_, _≤_};
 ghost use lib.Dec.{leb};
-ghost use lib.ListN.{set};
-ghost use Rattle.timecode.specs.Formats.{isSymbol};
+ghost use lib.ListN.{length, set};
 ghost use Rattle.timecode.specs.Stream.{isSetting};
 ghost use Rattle.register.specs.Receiving.{begunOf};
 ghost use Rattle.ffi.specs.Structs.{feedResultOf};
 ghost use Rattle.reader_words.specs.Words.{byteIn, registerInto, feedWords, wordsLeft};
-ghost use Rattle.word_feed.specs.InPlace.{formatIn, otherSize, knownSize, timeFits, Ready};
+ghost use Rattle.word_feed.specs.InPlace.{formatIn, otherSize, knownSize, timeFits, isReady, Ready, isInside};
 use ffi::FeedResult;
 use ffi::feed_result;
 use reader_words::byte_in;
@@ -80,8 +79,8 @@ fn other_size(letter: u64) -> u64
     0
 }
 
-// n of a known format, 0 for any other. Every Feed asks this: the words are compared as they are, and no row is looked up.
-fn known_size(letter: u64, expression: u64) -> u64
+// n of a known format, 0 for any other. Every Feed and every short block asks this: the words are compared as they are, and no row is looked up.
+pub fn known_size(letter: u64, expression: u64) -> u64
     ensures { λ r. ⌜ r ≡ knownSize letter expression ⌝ }
 {
     if letter == X {
@@ -101,14 +100,12 @@ fn known_size(letter: u64, expression: u64) -> u64
     0
 }
 
-// Numbers 26 and 4 pass.
-fn passes(setting: u64, symbol: u8) -> bool
-    ensures { λ r. ⌜ r ≡ (isSetting (byteIn setting) && isSymbol symbol) ⌝ }
+// Number 26 passes.
+fn is_set(setting: u64) -> bool
+    ensures { λ r. ⌜ r ≡ isSetting (byteIn setting) ⌝ }
 {
     if 2 <= setting {
-        if setting <= 5 {
-            return symbol <= SPOILED;
-        }
+        return setting <= 5;
     }
     false
 }
@@ -166,37 +163,65 @@ fn feed_by_value(reader: &mut [u64; 14], symbol: u8) -> Answer
     answer
 }
 
-// A symbol that passes, fed to words that do.
-fn feed_ready(reader: &mut [u64; 14], symbol: u8, n: u64) -> FeedResult
-    requires { ⌜ Ready (now reader) n × (symbol ≤ 3) ⌝ }
-    ensures { λ r. ⌜ r ≡ feedResultOf (feedWords (now (reader .entry)) symbol .answer) ⌝ }
-    ensures { λ _. ⌜ now (reader .exit) ≡ wordsLeft (feedWords (now (reader .entry)) symbol) (now (reader .entry)) ⌝ }
+// A symbol fed to words that pass, if it passes too and makes no frame whole: whether it was fed.
+pub fn feed_inside(reader: &mut [u64; 14], symbol: u8, n: u64) -> bool
+    requires { ⌜ Ready (now reader) n ⌝ }
+    ensures { λ r. ⌜ r ≡ isInside (now (reader .entry)) symbol n ⌝ }
+    ensures { λ _. ⌜ now (reader .exit) ≡ cond (isInside (now (reader .entry)) symbol n) (wordsLeft (feedWords (now (reader .entry)) symbol) (now (reader .entry))) (now (reader .entry)) ⌝ }
 {
+    if SPOILED < symbol {
+        return false;
+    }
     let place = place_after(reader[3] as usize, n as usize) as u64;
     let count = reader[4];
     let newest = push(reader[5], symbol);
     if opens_frame(format_in(reader[0], reader[1]), reader[5], symbol) {
         let row = row_before(count == n, reader[9] as usize) as u64;
         put_begun(reader, place, newest, 1, row);
-        return feed_result(Answer::Quiet);
+        return true;
     }
     if count == 0 {
         put_continued(reader, place, newest, 0);
-        return feed_result(Answer::Quiet);
+        return true;
     }
     if count < n - 1 {
         if count % 32 != 31 {
             put_continued(reader, place, newest, count + 1);
-            return feed_result(Answer::Quiet);
+            return true;
         }
         put_full(reader, place, newest, count + 1);
-        return feed_result(Answer::Quiet);
+        return true;
     }
     if n <= count {
         put_begun(reader, place, newest, 0, 0);
+        return true;
+    }
+    false
+}
+
+// A symbol fed to words that pass.
+fn feed_ready(reader: &mut [u64; 14], symbol: u8, n: u64) -> FeedResult
+    requires { ⌜ Ready (now reader) n ⌝ }
+    ensures { λ r. ⌜ r ≡ feedResultOf (feedWords (now (reader .entry)) symbol .answer) ⌝ }
+    ensures { λ _. ⌜ now (reader .exit) ≡ wordsLeft (feedWords (now (reader .entry)) symbol) (now (reader .entry)) ⌝ }
+{
+    if feed_inside(reader, symbol, n) {
         return feed_result(Answer::Quiet);
     }
     feed_result(feed_by_value(reader, symbol))
+}
+
+// Numbers 13 and 26 pass, with n of a known format, and the words of the time fit their widths. By value, the words are known to be fourteen.
+pub fn is_ready(words: [u64; 14], n: u64) -> bool
+    ensures { λ r. ⌜ r ≡ isReady words n ⌝ }
+    ensures { λ _. ⌜ length words ≡ 14 ⌝ }
+{
+    if words[3] < n {
+        if is_set(words[2]) {
+            return time_fits(words[10], words[11], words[12]);
+        }
+    }
+    false
 }
 
 pub fn feed_words(reader: &mut [u64; 14], symbol: u8) -> FeedResult
@@ -204,12 +229,8 @@ pub fn feed_words(reader: &mut [u64; 14], symbol: u8) -> FeedResult
     ensures { λ _. ⌜ now (reader .exit) ≡ wordsLeft (feedWords (now (reader .entry)) symbol) (now (reader .entry)) ⌝ }
 {
     let n = known_size(reader[0], reader[1]);
-    if reader[3] < n {
-        if passes(reader[2], symbol) {
-            if time_fits(reader[10], reader[11], reader[12]) {
-                return feed_ready(reader, symbol, n);
-            }
-        }
+    if is_ready(*reader, n) {
+        return feed_ready(reader, symbol, n);
     }
     feed_result(feed_by_value(reader, symbol))
 }

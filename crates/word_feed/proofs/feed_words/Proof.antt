@@ -14,29 +14,11 @@ element-copy-out-known-size-2 c = search needs
 known-size-requires : tie.Need-known-size-requires
 known-size-requires c κs = search needs
 
-element-copy-out-if1 : tie.Need-element-copy-out-if1
-element-copy-out-if1 c = search needs
-
-element-copy-out-passes : tie.Need-element-copy-out-passes
-element-copy-out-passes c = search needs
-
-passes-requires : tie.Need-passes-requires
-passes-requires c κs = search needs
-
-element-copy-out-time-fits : tie.Need-element-copy-out-time-fits
-element-copy-out-time-fits c = search needs
-
-element-copy-out-time-fits-2 : tie.Need-element-copy-out-time-fits-2
-element-copy-out-time-fits-2 c = search needs
-
-element-copy-out-time-fits-3 : tie.Need-element-copy-out-time-fits-3
-element-copy-out-time-fits-3 c = search needs
-
-time-fits-requires : tie.Need-time-fits-requires
-time-fits-requires c κs = search needs
+is-ready-requires : tie.Need-is-ready-requires
+is-ready-requires c κs = search needs
 
 feed-ready-requires : tie.Need-feed-ready-requires
-feed-ready-requires c κs = ready (c .before .before .before .before .before .before .before .before .before .before .before .before .before .before .args .reader .now) (c .before .before .before .before .before .before .before .before .before .before .before .before .before .before .args .symbol) (c .before .before .before .before .before .before .before .before .before .before .before .known-size .result) (c .before .before .before .before .before .before .before .before .before .before .before .known-size .ensures) (c .before .before .before .before .before .before .before .before .before .if1 .taken) (sym (c .before .before .before .before .before .before .before .passes .ensures) ∙ c .before .before .before .before .before .before .if2 .taken) (sym (c .before .before .time-fits .ensures) ∙ c .before .if3 .taken)
+feed-ready-requires c κs = ready (c .before .before .before .before .before .before .before .args .reader .now) (c .before .before .before .before .known-size .result) (c .before .before .before .before .known-size .ensures) (sym (c .before .before .is-ready .ensures .0) ∙ c .before .if1 .taken)
 
 returns : tie.Need-returns
 returns c = search needs
@@ -57,13 +39,7 @@ feed-words-spec =
     element-copy-out-known-size
     element-copy-out-known-size-2
     known-size-requires
-    element-copy-out-if1
-    element-copy-out-passes
-    passes-requires
-    element-copy-out-time-fits
-    element-copy-out-time-fits-2
-    element-copy-out-time-fits-3
-    time-fits-requires
+    is-ready-requires
     feed-ready-requires
     returns
     feed-by-value-requires
