@@ -25,7 +25,7 @@ use word_feed::is_ready;
 use word_feed::known_size;
 
 // Fewer symbols are fed faster in the words, as measured.
-const FEWEST_FOR_STRIDES: usize = 16;
+const FEWEST_FOR_STRIDES: usize = 24;
 
 fn taken_at(symbols: usize, reports: usize, stop: Stop) -> BlockResult
     ensures { λ r. ⌜ r ≡ blockResultOf (BlockAnswer.Taken symbols reports stop) ⌝ }
