@@ -111,24 +111,42 @@ fn blocks_library(format: Format, symbols: &[u8], size: usize, mut at: impl FnMu
     sum
 }
 
-/// The same in plain Rust.
+/// The same in plain Rust, behind a call of the same kind.
 fn blocks_plain(format: Format, symbols: &[u8], size: usize, mut at: impl FnMut(usize)) -> u64 {
     let mut reader = plain::Reader::fresh(format, black_box(2)).expect("a format and a setting");
-    let feed_block = black_box(
-        plain::Reader::feed_block as fn(&mut plain::Reader, &[u8], &mut [plain::Record]) -> usize,
-    );
-    let empty = Time {
-        year: 0,
-        day: 0,
-        hundredths: 0,
-    };
-    let mut records = [(0, empty, 0); ROOM];
+    let feed_block = black_box(plain::feed_block as plain::FeedBlock);
+    let (mut indexes, mut years, mut days) = ([0; ROOM], [0; ROOM], [0; ROOM]);
+    let (mut hundredths, mut controls) = ([0; ROOM], [0; ROOM]);
     let (mut start, mut sum) = (0, 0);
     for block in symbols.chunks(size) {
-        let reports = feed_block(&mut reader, block, &mut records);
-        for &(index, time, control) in &records[..reports] {
-            at(start + index);
-            sum = with_report(sum, time.year, time.day, time.hundredths, control);
+        // SAFETY: each list is lent alone, with its own length.
+        let fed = unsafe {
+            feed_block(
+                &mut reader,
+                block.as_ptr(),
+                block.len(),
+                indexes.as_mut_ptr(),
+                indexes.len(),
+                years.as_mut_ptr(),
+                years.len(),
+                days.as_mut_ptr(),
+                days.len(),
+                hundredths.as_mut_ptr(),
+                hundredths.len(),
+                controls.as_mut_ptr(),
+                controls.len(),
+            )
+        };
+        assert!(fed.number == 0, "a reader that feeding made");
+        for report in 0..fed.reports {
+            at(start + indexes[report]);
+            sum = with_report(
+                sum,
+                years[report],
+                days[report],
+                hundredths[report],
+                controls[report],
+            );
         }
         start += block.len();
     }
