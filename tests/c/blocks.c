@@ -282,6 +282,42 @@ static void unknown_symbols(void)
     }
 }
 
+/* Whether the lists hold these reports of the recording, of a block that began at the symbol `start`. */
+static int holds_from(const struct block *block, size_t first, size_t reports, size_t start)
+{
+    size_t index;
+    for (index = 0; index < reports; index++)
+        if (block->indexes[index] != indexes[first + index] - start || block->years[index] != years[first + index] ||
+            block->days[index] != days[first + index] || block->hundredths[index] != hundredths[first + index] ||
+            block->controls[index] != controls[first + index])
+            return 0;
+    return 1;
+}
+
+/* The recording in blocks of every size up to 48, each with room for exactly its reports; and each again with no room,
+ * which stops before its first report. Short blocks and long ones go different ways in the library. */
+static void sizes(void)
+{
+    size_t size, start;
+    for (size = 1; size <= 48; size++) {
+        for (start = 0; start < length; start += size) {
+            size_t count = length - start < size ? length - start : size;
+            size_t first = reports_in(start), reports = reports_in(start + count) - first;
+            size_t taken = reports > 0 ? report_at(first) - start : count;
+            struct block block = make(&after[start], reports), full = make(&after[start], 0);
+            feed(&block, recording + start, count, 0);
+            CHECK(says(&block, count, reports, DUSKVEYRA_ALL_TAKEN));
+            CHECK(same_reader(&block.reader, &after[start + count]));
+            CHECK(holds_from(&block, first, reports, start));
+            feed(&full, recording + start, count, 0);
+            CHECK(says(&full, taken, 0, reports > 0 ? DUSKVEYRA_BEFORE_REPORT : DUSKVEYRA_ALL_TAKEN));
+            CHECK(same_reader(&full.reader, &after[start + taken]));
+            release(&block);
+            release(&full);
+        }
+    }
+}
+
 /* Before a report with no room the reader can go on: with a list that has room, as if it had not stopped. */
 static void goes_on(void)
 {
@@ -459,6 +495,7 @@ int main(void)
         format = formats[index];
         record();
         splits();
+        sizes();
         rooms();
         unknown_symbols();
         goes_on();
