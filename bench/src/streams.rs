@@ -77,33 +77,41 @@ pub fn feed(format: Format, setting: u8, symbols: &[u8]) -> Vec<Option<Side>> {
     )
 }
 
-/// The whole stream in blocks of one size, with the same sum over its reports as single feeds give; `at` is told the
-/// index in the stream of each symbol that brings one.
-fn blocks_library(format: Format, symbols: &[u8], size: usize, mut at: impl FnMut(usize)) -> u64 {
-    let (format, setting) = (library_format(format), black_box(2));
-    let mut reader = duskveyra::Reader::fresh(format, setting).expect("a format and a setting");
-    let (mut indexes, mut years, mut days) = ([0; ROOM], [0; ROOM], [0; ROOM]);
-    let (mut hundredths, mut controls) = ([0; ROOM], [0; ROOM]);
+/// The lists that a block's reports are put into.
+struct Lists {
+    indexes: [usize; ROOM],
+    years: [u8; ROOM],
+    days: [u16; ROOM],
+    hundredths: [u32; ROOM],
+    controls: [u64; ROOM],
+}
+
+/// The whole stream in blocks of one size, with the same sum over its reports as single feeds give; `feed` says how many
+/// a block brought, and `at` is told the index in the stream of each symbol that brings one.
+#[inline(always)]
+fn blocks(
+    symbols: &[u8],
+    size: usize,
+    mut feed: impl FnMut(&[u8], &mut Lists) -> usize,
+    mut at: impl FnMut(usize),
+) -> u64 {
+    let mut lists = Lists {
+        indexes: [0; ROOM],
+        years: [0; ROOM],
+        days: [0; ROOM],
+        hundredths: [0; ROOM],
+        controls: [0; ROOM],
+    };
     let (mut start, mut sum) = (0, 0);
     for block in symbols.chunks(size) {
-        let fed = reader
-            .feed_block(
-                block,
-                &mut indexes,
-                &mut years,
-                &mut days,
-                &mut hundredths,
-                &mut controls,
-            )
-            .expect("a reader that feeding made");
-        for report in 0..fed.reports {
-            at(start + indexes[report]);
+        for report in 0..feed(block, &mut lists) {
+            at(start + lists.indexes[report]);
             sum = with_report(
                 sum,
-                years[report],
-                days[report],
-                hundredths[report],
-                controls[report],
+                lists.years[report],
+                lists.days[report],
+                lists.hundredths[report],
+                lists.controls[report],
             );
         }
         start += block.len();
@@ -111,46 +119,50 @@ fn blocks_library(format: Format, symbols: &[u8], size: usize, mut at: impl FnMu
     sum
 }
 
+fn blocks_library(format: Format, symbols: &[u8], size: usize, at: impl FnMut(usize)) -> u64 {
+    let (format, setting) = (library_format(format), black_box(2));
+    let mut reader = duskveyra::Reader::fresh(format, setting).expect("a format and a setting");
+    let feed = |block: &[u8], lists: &mut Lists| {
+        let fed = reader.feed_block(
+            block,
+            &mut lists.indexes,
+            &mut lists.years,
+            &mut lists.days,
+            &mut lists.hundredths,
+            &mut lists.controls,
+        );
+        fed.expect("a reader that feeding made").reports
+    };
+    blocks(symbols, size, feed, at)
+}
+
 /// The same in plain Rust, behind a call of the same kind.
-fn blocks_plain(format: Format, symbols: &[u8], size: usize, mut at: impl FnMut(usize)) -> u64 {
+fn blocks_plain(format: Format, symbols: &[u8], size: usize, at: impl FnMut(usize)) -> u64 {
     let mut reader = plain::Reader::fresh(format, black_box(2)).expect("a format and a setting");
     let feed_block = black_box(plain::feed_block as plain::FeedBlock);
-    let (mut indexes, mut years, mut days) = ([0; ROOM], [0; ROOM], [0; ROOM]);
-    let (mut hundredths, mut controls) = ([0; ROOM], [0; ROOM]);
-    let (mut start, mut sum) = (0, 0);
-    for block in symbols.chunks(size) {
+    let feed = |block: &[u8], lists: &mut Lists| {
         // SAFETY: each list is lent alone, with its own length.
         let fed = unsafe {
             feed_block(
                 &mut reader,
                 block.as_ptr(),
                 block.len(),
-                indexes.as_mut_ptr(),
-                indexes.len(),
-                years.as_mut_ptr(),
-                years.len(),
-                days.as_mut_ptr(),
-                days.len(),
-                hundredths.as_mut_ptr(),
-                hundredths.len(),
-                controls.as_mut_ptr(),
-                controls.len(),
+                lists.indexes.as_mut_ptr(),
+                lists.indexes.len(),
+                lists.years.as_mut_ptr(),
+                lists.years.len(),
+                lists.days.as_mut_ptr(),
+                lists.days.len(),
+                lists.hundredths.as_mut_ptr(),
+                lists.hundredths.len(),
+                lists.controls.as_mut_ptr(),
+                lists.controls.len(),
             )
         };
         assert!(fed.number == 0, "a reader that feeding made");
-        for report in 0..fed.reports {
-            at(start + indexes[report]);
-            sum = with_report(
-                sum,
-                years[report],
-                days[report],
-                hundredths[report],
-                controls[report],
-            );
-        }
-        start += block.len();
-    }
-    sum
+        fed.reports
+    };
+    blocks(symbols, size, feed, at)
 }
 
 fn feed_blocks(format: Format, symbols: &[u8], size: usize) -> Vec<Option<Side>> {
