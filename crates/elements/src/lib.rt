@@ -1,5 +1,5 @@
 // Digits at their runs as the elements of a frame, and back: the layout's own writing and reading, without a time.
-// The calls here are the frame's own; they ask for a row's places and widths and for frames of 60 or 100.
+// The calls here are the frame's own; they are lent a row's places and marks and ask for frames of 60 or 100.
 ghost use mathlib.Core.Path.{_≡_};
 ghost use Prim.Native.Nat.{ℕ, _+_, _*_, _-_, _/_, _%_, _^_, _≤_, _<_};
 ghost use lib.ListN.{getD, length};
@@ -17,8 +17,6 @@ use layout::YEAR_TENS;
 use layout::YEAR_UNITS;
 use layout::full_widths;
 use layout::is_carried;
-use layout::mark_places;
-use layout::run_starts;
 use timecode::MARK;
 
 // The four elements of each number below 16, a byte each, lowest weight first.
@@ -56,26 +54,26 @@ fn placed(start: u8, digit: u64, from: u8) -> u64
 }
 
 // The bits of the digits from one run on and before the other.
-fn bits_from(starts: &[u8], digits: &[u64], first: usize, last: usize, from: u8) -> u64
-    requires { ⌜ (now starts ≡ runStarts) × (length (now digits) ≡ 20) × (first ≤ last) × (last ≤ 18) × ((j : ℕ) → first ≤ j → j < last → (from ≤ getD runStarts j 0) × (getD runStarts j 0 ≤ from + 50)) ⌝ }
+fn bits_from(places: &[u8], digits: &[u64], first: usize, last: usize, from: u8) -> u64
+    requires { ⌜ (now places ≡ runStarts) × (length (now digits) ≡ 20) × (first ≤ last) × (last ≤ 18) × ((j : ℕ) → first ≤ j → j < last → (from ≤ getD runStarts j 0) × (getD runStarts j 0 ≤ from + 50)) ⌝ }
     ensures { λ r. ⌜ (r ≡ packedRuns from (now (digits .entry)) first (last - first)) × (r ≤ (last - first) * 576460752303423488) ⌝ }
 {
     let mut bits = 0;
     let mut j = last;
     while first < j {
         j -= 1;
-        bits += placed(starts[j], digits[j], from);
+        bits += placed(places[j], digits[j], from);
     }
     bits
 }
 
 // The bits of the year's two digits. The tens begin at 55, where nine bits would pass the end of a word: they have four.
-fn year_bits(starts: &[u8], digits: &[u64]) -> u64
-    requires { ⌜ (now starts ≡ runStarts) × (length (now digits) ≡ 20) ⌝ }
+fn year_bits(places: &[u8], digits: &[u64]) -> u64
+    requires { ⌜ (now places ≡ runStarts) × (length (now digits) ≡ 20) ⌝ }
     ensures { λ r. ⌜ (r ≡ packedYear (now (digits .entry))) × (r ≤ 2 * 576460752303423488) ⌝ }
 {
-    let units = placed(starts[YEAR_UNITS], digits[YEAR_UNITS], 0);
-    let tens = (digits[YEAR_TENS] % 16) << starts[YEAR_TENS];
+    let units = placed(places[YEAR_UNITS], digits[YEAR_UNITS], 0);
+    let tens = (digits[YEAR_TENS] % 16) << places[YEAR_TENS];
     units + tens
 }
 
@@ -90,8 +88,8 @@ fn element(fours: &[u32], x: u64, k: usize) -> u8
 }
 
 // Ten elements of a frame: nine bits and the mark behind them, and in the first ten the mark before them.
-fn put_ten(fours: &[u32], places: &[u8], frame: &mut [u8], k: usize, x: u64)
-    requires { ⌜ (now fours ≡ fourElements) × (now places ≡ markPlaces) × (10 * k + 10 ≤ length (now frame)) × (length (now frame) ≤ 100) ⌝ }
+fn put_ten(fours: &[u32], marks: &[u8], frame: &mut [u8], k: usize, x: u64)
+    requires { ⌜ (now fours ≡ fourElements) × (now marks ≡ markPlaces) × (10 * k + 10 ≤ length (now frame)) × (length (now frame) ≤ 100) ⌝ }
     ensures { λ _. ⌜ now (frame .exit) ≡ ten (now (frame .entry)) k x ⌝ }
 {
     let at = 10 * k;
@@ -101,66 +99,62 @@ fn put_ten(fours: &[u32], places: &[u8], frame: &mut [u8], k: usize, x: u64)
         j += 1;
     }
     frame[at + 8] = (x / 256 % 2) as u8;
-    frame[to_usize(places[k + 1])] = MARK;
+    frame[to_usize(marks[k + 1])] = MARK;
     if k == 0 {
-        frame[to_usize(places[k])] = MARK;
+        frame[to_usize(marks[k])] = MARK;
     }
 }
 
 // The tens from one on and before the other.
-fn put_tens(fours: &[u32], places: &[u8], frame: &mut [u8], from: usize, to: usize, bits: u64)
-    requires { ⌜ (now fours ≡ fourElements) × (now places ≡ markPlaces) × (10 * to ≤ length (now frame)) × (length (now frame) ≤ 100) × (from ≤ to) × (to ≤ from + 6) ⌝ }
+fn put_tens(fours: &[u32], marks: &[u8], frame: &mut [u8], from: usize, to: usize, bits: u64)
+    requires { ⌜ (now fours ≡ fourElements) × (now marks ≡ markPlaces) × (10 * to ≤ length (now frame)) × (length (now frame) ≤ 100) × (from ≤ to) × (to ≤ from + 6) ⌝ }
     ensures { λ _. ⌜ now (frame .exit) ≡ tens (now (frame .entry)) from to bits ⌝ }
 {
     let mut k = from;
     while k < to {
-        put_ten(fours, places, frame, k, bits >> (10 * (k - from)));
+        put_ten(fours, marks, frame, k, bits >> (10 * (k - from)));
         k += 1;
     }
 }
 
 // The elements of a frame from their bits: those below 60 as one number, those from 60 on as another, which a frame of 60 leaves out.
-pub fn put_bits(head: u64, tail: u64, frame: &mut [u8])
-    requires { ⌜ IsFrame (length (now frame)) ⌝ }
+pub fn put_bits(marks: &[u8], head: u64, tail: u64, frame: &mut [u8])
+    requires { ⌜ (now marks ≡ markPlaces) × IsFrame (length (now frame)) ⌝ }
     ensures { λ _. ⌜ ((t : ℕ) → (length (now (frame .entry)) ≡ 100 → tail ≡ t) → now (frame .exit) ≡ tabulate (length (now (frame .entry))) 0 (elementAt head t)) ⌝ }
 {
     let fours = FOURS;
-    let marks = mark_places();
-    put_tens(&fours, &marks, frame, 0, 6, head);
+    put_tens(&fours, marks, frame, 0, 6, head);
     if frame.len() == 100 {
-        put_tens(&fours, &marks, frame, 6, 10, tail);
+        put_tens(&fours, marks, frame, 6, 10, tail);
     }
 }
 
 // The bits of the time's digits, which stand below 60. This and the next two are apart, so that each is compiled into its callers.
-pub fn time_bits(digits: &[u64]) -> u64
-    requires { ⌜ length (now digits) ≡ 20 ⌝ }
+pub fn time_bits(places: &[u8], digits: &[u64]) -> u64
+    requires { ⌜ (now places ≡ runStarts) × (length (now digits) ≡ 20) ⌝ }
     ensures { λ r. ⌜ (r ≡ packedRuns 0 (now (digits .entry)) 0 11) × (r ≤ 11 * 576460752303423488) ⌝ }
 {
-    let starts = run_starts();
-    bits_from(&starts, digits, SECOND, STRAIGHT_LOW, 0)
+    bits_from(places, digits, SECOND, STRAIGHT_LOW, 0)
 }
 
 // The bits of the first control range and of the year, which stand below 60 too.
-pub fn middle_bits(digits: &[u64]) -> u64
-    requires { ⌜ length (now digits) ≡ 20 ⌝ }
+pub fn middle_bits(places: &[u8], digits: &[u64]) -> u64
+    requires { ⌜ (now places ≡ runStarts) × (length (now digits) ≡ 20) ⌝ }
     ensures { λ r. ⌜ (r ≡ packedRuns 0 (now (digits .entry)) 13 1 + packedYear (now (digits .entry))) × (r ≤ 3 * 576460752303423488) ⌝ }
 {
-    let starts = run_starts();
-    bits_from(&starts, digits, CONTROL_1, CONTROL_2, 0) + year_bits(&starts, digits)
+    bits_from(places, digits, CONTROL_1, CONTROL_2, 0) + year_bits(places, digits)
 }
 
 // The bits of straight binary seconds and the other control ranges, which stand from 60 on in a frame of 100 elements.
-pub fn tail_bits(digits: &[u64], elements: usize) -> u64
-    requires { ⌜ length (now digits) ≡ 20 ⌝ }
+pub fn tail_bits(places: &[u8], digits: &[u64], elements: usize) -> u64
+    requires { ⌜ (now places ≡ runStarts) × (length (now digits) ≡ 20) ⌝ }
     ensures { λ r. ⌜ (elements ≡ 100 → r ≡ packed 60 100 runStarts (now (digits .entry))) ⌝ }
 {
     if elements != 100 {
         return 0;
     }
-    let starts = run_starts();
-    bits_from(&starts, digits, STRAIGHT_LOW, CONTROL_1, 60)
-        + bits_from(&starts, digits, CONTROL_2, YEAR_UNITS, 60)
+    bits_from(places, digits, STRAIGHT_LOW, CONTROL_1, 60)
+        + bits_from(places, digits, CONTROL_2, YEAR_UNITS, 60)
 }
 
 // The digit that stands at a run.
@@ -178,43 +172,42 @@ fn digit_at(frame: &[u8], start: usize, width: usize) -> u64
 }
 
 // The digit that stands at a run, 0 where it is not carried.
-fn run_digit(runs: u32, frame: &[u8], run: usize) -> u64
-    requires { ⌜ RunsInside (runWidths runs) (length (now frame)) × (run < 20) ⌝ }
+fn run_digit(places: &[u8], runs: u32, frame: &[u8], run: usize) -> u64
+    requires { ⌜ (now places ≡ runStarts) × RunsInside (runWidths runs) (length (now frame)) × (run < 20) ⌝ }
     ensures { λ r. ⌜ r ≡ runDigit (runWidths runs) (now (frame .entry)) run ⌝ }
 {
     if !is_carried(runs, run) {
         return 0;
     }
-    let starts = run_starts();
     let widths = full_widths();
-    digit_at(frame, to_usize(starts[run]), to_usize(widths[run]))
+    digit_at(frame, to_usize(places[run]), to_usize(widths[run]))
 }
 
 // The digits that stand at a row's runs. One after the other, not in a loop, so that each is compiled for its own place and width.
-pub fn digits_in(runs: u32, frame: &[u8]) -> [u64; 20]
-    requires { ⌜ RunsInside (runWidths runs) (length (now frame)) ⌝ }
+pub fn digits_in(places: &[u8], runs: u32, frame: &[u8]) -> [u64; 20]
+    requires { ⌜ (now places ≡ runStarts) × RunsInside (runWidths runs) (length (now frame)) ⌝ }
     ensures { λ r. ⌜ r ≡ digitsAt (runWidths runs) (now (frame .entry)) ⌝ }
 {
     [
-        run_digit(runs, frame, 0),
-        run_digit(runs, frame, 1),
-        run_digit(runs, frame, 2),
-        run_digit(runs, frame, 3),
-        run_digit(runs, frame, 4),
-        run_digit(runs, frame, 5),
-        run_digit(runs, frame, 6),
-        run_digit(runs, frame, 7),
-        run_digit(runs, frame, 8),
-        run_digit(runs, frame, 9),
-        run_digit(runs, frame, 10),
-        run_digit(runs, frame, 11),
-        run_digit(runs, frame, 12),
-        run_digit(runs, frame, 13),
-        run_digit(runs, frame, 14),
-        run_digit(runs, frame, 15),
-        run_digit(runs, frame, 16),
-        run_digit(runs, frame, 17),
-        run_digit(runs, frame, 18),
-        run_digit(runs, frame, 19),
+        run_digit(places, runs, frame, 0),
+        run_digit(places, runs, frame, 1),
+        run_digit(places, runs, frame, 2),
+        run_digit(places, runs, frame, 3),
+        run_digit(places, runs, frame, 4),
+        run_digit(places, runs, frame, 5),
+        run_digit(places, runs, frame, 6),
+        run_digit(places, runs, frame, 7),
+        run_digit(places, runs, frame, 8),
+        run_digit(places, runs, frame, 9),
+        run_digit(places, runs, frame, 10),
+        run_digit(places, runs, frame, 11),
+        run_digit(places, runs, frame, 12),
+        run_digit(places, runs, frame, 13),
+        run_digit(places, runs, frame, 14),
+        run_digit(places, runs, frame, 15),
+        run_digit(places, runs, frame, 16),
+        run_digit(places, runs, frame, 17),
+        run_digit(places, runs, frame, 18),
+        run_digit(places, runs, frame, 19),
     ]
 }

@@ -10,7 +10,7 @@ ghost use lib.ListN.{getD, length};
 ghost use Rattle.timecode.specs.Formats.{isX, known, size};
 ghost use Rattle.timecode.specs.Frames.{written, writeOf, writeLeaves, areSymbols, readOf, Valid};
 ghost use Rattle.timecode.specs.declared.Format.{Format};
-ghost use Rattle.layout.specs.Tables.{RowOf, IsRow};
+ghost use Rattle.layout.specs.Tables.{RowOf, IsRow, runStarts, markPlaces};
 ghost use Rattle.elements.specs.RunBits.{putIn};
 ghost use Rattle.elements.specs.Tens.{IsFrame};
 ghost use Rattle.frame.specs.Offences.{offenceAt, offendedOf, lowestOf, offenceIn};
@@ -30,6 +30,7 @@ use elements::put_bits;
 use elements::tail_bits;
 use elements::time_bits;
 use layout::Row;
+use layout::places_of;
 use layout::row_of;
 use layout::takes;
 use layout::widths_of;
@@ -86,9 +87,11 @@ fn put_frame(row: Row, time: Time, control: u64, frame: &mut [u8])
 {
     let widths = widths_of(row.runs);
     let digits = digits_of(&widths, time, control);
-    let head = time_bits(&digits) + middle_bits(&digits);
-    let tail = tail_bits(&digits, frame.len());
-    put_bits(head, tail, frame);
+    let places = places_of(row);
+    let head = time_bits(&places, &digits) + middle_bits(&places, &digits);
+    let tail = tail_bits(&places, &digits, frame.len());
+    let marks = row.marks;
+    put_bits(&marks, head, tail, frame);
 }
 
 // Writes a time and a control word; every byte is set, or, where it refuses, none.
@@ -222,18 +225,18 @@ fn offence_in(again: &[u8], frame: &[u8]) -> Offence
 }
 
 // What offends in a frame beside the digits that stand in it, which are written again for as many elements.
-fn offence_beside(digits: &[u64], frame: &[u8]) -> Offence
-    requires { ⌜ (length (now digits) ≡ 20) × IsFrame (length (now frame)) ⌝ }
+fn offence_beside(places: &[u8], marks: &[u8], digits: &[u64], frame: &[u8]) -> Offence
+    requires { ⌜ (now places ≡ runStarts) × (now marks ≡ markPlaces) × (length (now digits) ≡ 20) × IsFrame (length (now frame)) ⌝ }
     ensures { λ r. ⌜ r ≡ offenceIn (putIn (length (now (frame .entry))) (now (digits .entry))) (now (frame .entry)) ⌝ }
 {
-    let head = time_bits(digits) + middle_bits(digits);
+    let head = time_bits(places, digits) + middle_bits(places, digits);
     if frame.len() == 100 {
         let mut again = [0u8; 100];
-        put_bits(head, tail_bits(digits, 100), &mut again);
+        put_bits(marks, head, tail_bits(places, digits, 100), &mut again);
         return offence_in(&again, frame);
     }
     let mut again = [0u8; 60];
-    put_bits(head, 0, &mut again);
+    put_bits(marks, head, 0, &mut again);
     offence_in(&again, frame)
 }
 
@@ -241,8 +244,10 @@ fn read_frame(row: Row, frame: &[u8]) -> Reading
     requires { ⌜ FrameOf row (now frame) ⌝ }
     ensures { λ r. ⌜ ((f : Format) → known f ≡ true → isX f ≡ false → RowOf f row → length (now (frame .entry)) ≡ size f → r ≡ readOf f (now (frame .entry))) ⌝ }
 {
-    let digits = digits_in(row.runs, frame);
-    let offence = offence_beside(&digits, frame);
+    let places = places_of(row);
+    let marks = row.marks;
+    let digits = digits_in(&places, row.runs, frame);
+    let offence = offence_beside(&places, &marks, &digits, frame);
     match offence {
         Offence::At(refusal) => Reading::Refused(refusal),
         Offence::Nothing => {

@@ -61,13 +61,10 @@ pub no-year : (l e : ℕ) → member l (A ∷ B ∷ []) ≡ true → carriesYear
 unfolding carriesYear hasYear
 no-year l e y n = by-test (hasYear e) (λ h. clash {b = true} refl (rw (h, y) at n)) (λ m. m)
 
-pub with-year : (l e : ℕ) → member l (A ∷ B ∷ []) ≡ true → hasYear e ≡ true → carriesYear (with-letter l e) ≡ true
+-- and has one where its format has one
+pub year-of : (l e : ℕ) → carriesYear (with-letter l e) ≡ true → hasYear e ≡ true
 unfolding carriesYear hasYear
-with-year l e y h = rw (h, y)
-
-pub without-year : (l e : ℕ) → hasYear e ≡ false → carriesYear (with-letter l e) ≡ false
-unfolding carriesYear hasYear
-without-year l e n = rw n
+year-of l e y = and-left (hasYear e) (member l (A ∷ B ∷ [])) y
 
 pub other-year : (l e : ℕ) → (l ≡ A → ⊥) → (l ≡ B → ⊥) → carriesYear (with-letter l e) ≡ false
 unfolding carriesYear

@@ -6,20 +6,30 @@ use Prim.Native.Nat.{ℕ, _-_, _/_, _%_, _^_}
 use lib.Bits.{bitAnd}
 use lib.Dec.{leb, eqb}
 use lib.ListN.{getD, set}
-use Rattle.timecode.specs.Formats.{member, known, size, interval, carriesLeap, carriesYear}
+use Rattle.timecode.specs.Formats.{member, A, B, known, size, interval, carriesLeap, carriesYear}
 use Rattle.timecode.specs.Layout.{Run, tabulate}
 use Rattle.timecode.specs.declared.Format.{Format}
 use Rattle.layout.specs.Runs.{codeRuns}
 use Rattle.layout.specs.declared.Row.{Row}
 
--- the index of each mark in a frame of 100
+-- the index of each mark in a frame of 100; in one of 60 the first seven
 abbrev pub markPlaces : List ℕ
 markPlaces = 0 ∷ 9 ∷ 19 ∷ 29 ∷ 39 ∷ 49 ∷ 59 ∷ 69 ∷ 79 ∷ 89 ∷ 99 ∷ []
 
--- where the runs start, in every format except X, and how wide they are where they are carried
+-- where the runs start, in every format except X: decimal digits of the time and straight binary seconds, control ranges, digits of the year
+abbrev pub digitStarts : List ℕ
+digitStarts = 1 ∷ 6 ∷ 10 ∷ 15 ∷ 20 ∷ 25 ∷ 30 ∷ 35 ∷ 40 ∷ 45 ∷ 50 ∷ 80 ∷ 90 ∷ []
+
+abbrev pub controlStarts : List ℕ
+controlStarts = 50 ∷ 60 ∷ 70 ∷ 80 ∷ 90 ∷ []
+
+abbrev pub yearStarts : List ℕ
+yearStarts = 50 ∷ 55 ∷ []
+
 abbrev pub runStarts : List ℕ
 runStarts = 1 ∷ 6 ∷ 10 ∷ 15 ∷ 20 ∷ 25 ∷ 30 ∷ 35 ∷ 40 ∷ 45 ∷ 50 ∷ 80 ∷ 90 ∷ 50 ∷ 60 ∷ 70 ∷ 80 ∷ 90 ∷ 50 ∷ 55 ∷ []
 
+-- how wide they are where they are carried
 abbrev pub fullWidths : List ℕ
 fullWidths = 4 ∷ 3 ∷ 4 ∷ 3 ∷ 4 ∷ 2 ∷ 4 ∷ 4 ∷ 2 ∷ 4 ∷ 4 ∷ 9 ∷ 8 ∷ 9 ∷ 9 ∷ 9 ∷ 9 ∷ 9 ∷ 4 ∷ 4 ∷ []
 
@@ -56,6 +66,10 @@ runsIn e = cond (eqb e 0) 1048575 (cond (eqb e 1) 1042431 (cond (eqb e 3) 794623
 unfoldable pub hasYear : ℕ → Bool
 hasYear e = member e (4 ∷ 5 ∷ 6 ∷ 7 ∷ [])
 
+-- the letters that have an edition with the year
+abbrev pub takesYear : ℕ → Bool
+takesYear l = member l (A ∷ B ∷ [])
+
 unfoldable pub withoutYear : ℕ → ℕ
 withoutYear e = cond (hasYear e) (e - 4) e
 
@@ -74,6 +88,10 @@ pub record RowFor (f : Format) (r : Row) : Type 0 where
   pub leap-is : carriesLeap f ≡ r .leap
   pub year-is : carriesYear f ≡ r .year
   pub widths-are : (e : ℕ) → runWidths (bitAnd (r .runs) (runsIn e)) ≡ carriedIn e (widthsOf (fullOf f))
+  pub digits-are : r .digits ≡ digitStarts
+  pub controls-are : r .controls ≡ controlStarts
+  pub years-are : r .years ≡ yearStarts
+  pub marks-are : r .marks ≡ markPlaces
 
 -- the row of a format
 pub record RowOf (f : Format) (r : Row) : Type 0 where
@@ -83,6 +101,10 @@ pub record RowOf (f : Format) (r : Row) : Type 0 where
   pub leap-is : r .leap ≡ carriesLeap f
   pub year-is : r .year ≡ carriesYear f
   pub widths-are : runWidths (r .runs) ≡ widthsOf f
+  pub digits-are : r .digits ≡ digitStarts
+  pub controls-are : r .controls ≡ controlStarts
+  pub years-are : r .years ≡ yearStarts
+  pub marks-are : r .marks ≡ markPlaces
 
 -- the row of some format
 abbrev pub IsRow : Row → Type 0

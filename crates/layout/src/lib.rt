@@ -5,11 +5,11 @@ ghost use mathlib.Core.Bool.{false, cond, _&&_};
 ghost use Prim.Native.Nat.{ℕ, _≤_, _<_};
 ghost use lib.Dec.{leb};
 ghost use Rattle.timecode.specs.Formats.{known, size, interval, carriesLeap, carriesYear};
-ghost use Rattle.layout.specs.Tables.{RowFor, RowOf, markPlaces, runStarts, fullWidths, isCarried, runWidths, runsIn, hasYear, withoutYear, with-letter};
+ghost use Rattle.layout.specs.Tables.{RowFor, RowOf, IsRow, runStarts, fullWidths, isCarried, runWidths, runsIn, hasYear, takesYear, withoutYear, with-letter};
 use timecode::Format;
 
 // A row: n, S, its expressions (first to last), whether it carries the leap second and the year, and which runs of elements it
-// carries, a bit for each by its number, the first the lowest. Where a run starts and how many elements it has is the same in every row; only in X they start elsewhere.
+// carries, a bit for each by its number, the first the lowest; then where its runs start, carried or not, by their numbers, and its marks.
 pub struct Row {
     pub elements: usize,
     pub interval: u32,
@@ -18,6 +18,14 @@ pub struct Row {
     pub leap: bool,
     pub year: bool,
     pub runs: u32,
+    // decimal digits of the time, and straight binary seconds
+    pub digits: [u8; 13],
+    // ranges of control bits
+    pub controls: [u8; 5],
+    // digits of the year
+    pub years: [u8; 2],
+    // in a frame of 100 all, in one of 60 the first seven
+    pub marks: [u8; 11],
 }
 
 // The runs by their numbers: units and tens of seconds, of minutes and of hours (the number is that of the units);
@@ -63,35 +71,8 @@ pub const YEAR_TENS: usize = 19;
 
 pub const RUNS: usize = 20;
 
-// Where the runs start, in that order, except in X.
-const STARTS: [u8; 20] = [
-    1,
-    6,
-    10,
-    15,
-    20,
-    25,
-    30,
-    35,
-    40,
-    45,
-    50,
-    80,
-    90,
-    50,
-    60,
-    70,
-    80,
-    90,
-    50,
-    55,
-];
-
 // How many elements each run has.
 const WIDTHS: [u8; 20] = [4, 3, 4, 3, 4, 2, 4, 4, 2, 4, 4, 9, 8, 9, 9, 9, 9, 9, 4, 4];
-
-// Where marks stand in every row except X's: in a frame of 100 all, in one of 60 the first seven.
-const MARKS: [u8; 11] = [0, 9, 19, 29, 39, 49, 59, 69, 79, 89, 99];
 
 const A: Row = Row {
     elements: 100,
@@ -101,6 +82,10 @@ const A: Row = Row {
     leap: true,
     year: false,
     runs: 0b00_00111_11_01_111_11_11_11,
+    digits: [1, 6, 10, 15, 20, 25, 30, 35, 40, 45, 50, 80, 90],
+    controls: [50, 60, 70, 80, 90],
+    years: [50, 55],
+    marks: [0, 9, 19, 29, 39, 49, 59, 69, 79, 89, 99],
 };
 
 const B: Row = Row {
@@ -111,6 +96,10 @@ const B: Row = Row {
     leap: true,
     year: false,
     runs: 0b00_00111_11_00_111_11_11_11,
+    digits: [1, 6, 10, 15, 20, 25, 30, 35, 40, 45, 50, 80, 90],
+    controls: [50, 60, 70, 80, 90],
+    years: [50, 55],
+    marks: [0, 9, 19, 29, 39, 49, 59, 69, 79, 89, 99],
 };
 
 // With the year, which stands in the places of control bits 1 to 9.
@@ -122,6 +111,10 @@ const A_YEAR: Row = Row {
     leap: true,
     year: true,
     runs: 0b11_00110_11_01_111_11_11_11,
+    digits: [1, 6, 10, 15, 20, 25, 30, 35, 40, 45, 50, 80, 90],
+    controls: [50, 60, 70, 80, 90],
+    years: [50, 55],
+    marks: [0, 9, 19, 29, 39, 49, 59, 69, 79, 89, 99],
 };
 
 const B_YEAR: Row = Row {
@@ -132,6 +125,10 @@ const B_YEAR: Row = Row {
     leap: true,
     year: true,
     runs: 0b11_00110_11_00_111_11_11_11,
+    digits: [1, 6, 10, 15, 20, 25, 30, 35, 40, 45, 50, 80, 90],
+    controls: [50, 60, 70, 80, 90],
+    years: [50, 55],
+    marks: [0, 9, 19, 29, 39, 49, 59, 69, 79, 89, 99],
 };
 
 const D: Row = Row {
@@ -142,6 +139,10 @@ const D: Row = Row {
     leap: false,
     year: false,
     runs: 0b00_00001_00_00_111_11_00_00,
+    digits: [1, 6, 10, 15, 20, 25, 30, 35, 40, 45, 50, 80, 90],
+    controls: [50, 60, 70, 80, 90],
+    years: [50, 55],
+    marks: [0, 9, 19, 29, 39, 49, 59, 69, 79, 89, 99],
 };
 
 const E: Row = Row {
@@ -152,6 +153,10 @@ const E: Row = Row {
     leap: false,
     year: false,
     runs: 0b00_11111_00_00_111_11_11_10,
+    digits: [1, 6, 10, 15, 20, 25, 30, 35, 40, 45, 50, 80, 90],
+    controls: [50, 60, 70, 80, 90],
+    years: [50, 55],
+    marks: [0, 9, 19, 29, 39, 49, 59, 69, 79, 89, 99],
 };
 
 const G: Row = Row {
@@ -162,6 +167,10 @@ const G: Row = Row {
     leap: true,
     year: false,
     runs: 0b00_11110_00_11_111_11_11_11,
+    digits: [1, 6, 10, 15, 20, 25, 30, 35, 40, 45, 50, 80, 90],
+    controls: [50, 60, 70, 80, 90],
+    years: [50, 55],
+    marks: [0, 9, 19, 29, 39, 49, 59, 69, 79, 89, 99],
 };
 
 const H: Row = Row {
@@ -172,9 +181,13 @@ const H: Row = Row {
     leap: false,
     year: false,
     runs: 0b00_00001_00_00_111_11_11_00,
+    digits: [1, 6, 10, 15, 20, 25, 30, 35, 40, 45, 50, 80, 90],
+    controls: [50, 60, 70, 80, 90],
+    years: [50, 55],
+    marks: [0, 9, 19, 29, 39, 49, 59, 69, 79, 89, 99],
 };
 
-// Its runs have other places, and their highest weights first; the widths are these.
+// Its runs have other places, those of `tape`, and their highest weights first; the widths are these. Nothing reads the places here.
 const X: Row = Row {
     elements: 25,
     interval: 100,
@@ -183,9 +196,13 @@ const X: Row = Row {
     leap: false,
     year: false,
     runs: 0b00_00000_00_00_000_11_11_11,
+    digits: [1, 6, 10, 15, 20, 25, 30, 35, 40, 45, 50, 80, 90],
+    controls: [50, 60, 70, 80, 90],
+    years: [50, 55],
+    marks: [0, 9, 19, 29, 39, 49, 59, 69, 79, 89, 99],
 };
 
-// Any other letter: its last expression is below its first, so it takes none.
+// Any other letter: its last expression is below its first, so it takes none, and nothing reads its places.
 const OTHER: Row = Row {
     elements: 100,
     interval: 1,
@@ -194,16 +211,27 @@ const OTHER: Row = Row {
     leap: false,
     year: false,
     runs: 0b00_00000_00_00_111_11_00_00,
+    digits: [1, 6, 10, 15, 20, 25, 30, 35, 40, 45, 50, 80, 90],
+    controls: [50, 60, 70, 80, 90],
+    years: [50, 55],
+    marks: [0, 9, 19, 29, 39, 49, 59, 69, 79, 89, 99],
 };
 
-// The row of a letter without the year, in expression 0, which carries everything.
-fn letter_row(letter: u8) -> Row
-    ensures { λ r. ⌜ ((e : ℕ) → carriesYear (with-letter letter e) ≡ false → RowFor (with-letter letter e) r) ⌝ }
+// The row of a letter in one of its editions, without the year or with it, in expression 0 or 4, which carries everything.
+// One test of each letter, so that it is compiled into its callers, which then know what all rows have in common.
+fn row_in(letter: u8, year: bool) -> Row
+    ensures { λ r. ⌜ ((e : ℕ) → carriesYear (with-letter letter e) ≡ (year && takesYear letter) → RowFor (with-letter letter e) r) ⌝ }
 {
     if letter == b'A' {
+        if year {
+            return A_YEAR;
+        }
         return A;
     }
     if letter == b'B' {
+        if year {
+            return B_YEAR;
+        }
         return B;
     }
     if letter == b'D' {
@@ -232,22 +260,6 @@ fn has_year(expression: u8) -> bool
         return expression <= 7;
     }
     false
-}
-
-// The row of a format's edition, in expression 0 or 4, which carries everything.
-fn edition_row(letter: u8, expression: u8) -> Row
-    ensures { λ r. ⌜ RowFor (with-letter letter expression) r ⌝ }
-{
-    if !has_year(expression) {
-        return letter_row(letter);
-    }
-    if letter == b'A' {
-        return A_YEAR;
-    }
-    if letter == b'B' {
-        return B_YEAR;
-    }
-    letter_row(letter)
 }
 
 // The expression is one of the row's.
@@ -279,40 +291,28 @@ pub fn is_known(format: Format) -> bool
     if carries_year(format) {
         return true;
     }
-    takes(letter_row(format.letter), format.expression)
+    takes(row_in(format.letter, false), format.expression)
 }
 
 pub fn frame_size(format: Format) -> usize
     ensures { λ r. ⌜ (r ≡ size format) × (25 ≤ r) × (r ≤ 100) ⌝ }
 {
-    let row = letter_row(format.letter);
+    let row = row_in(format.letter, false);
     row.elements
 }
 
 pub fn frame_interval(format: Format) -> u32
     ensures { λ r. ⌜ (r ≡ interval format) × (1 ≤ r) × (r ≤ 360000) ⌝ }
 {
-    let row = letter_row(format.letter);
+    let row = row_in(format.letter, false);
     row.interval
 }
 
 pub fn carries_leap(format: Format) -> bool
     ensures { λ r. ⌜ r ≡ carriesLeap format ⌝ }
 {
-    let row = letter_row(format.letter);
+    let row = row_in(format.letter, false);
     row.leap
-}
-
-pub fn mark_places() -> [u8; 11]
-    ensures { λ r. ⌜ r ≡ markPlaces ⌝ }
-{
-    MARKS
-}
-
-pub fn run_starts() -> [u8; 20]
-    ensures { λ r. ⌜ r ≡ runStarts ⌝ }
-{
-    STARTS
 }
 
 pub fn full_widths() -> [u8; 20]
@@ -383,7 +383,39 @@ fn runs_in(expression: u8) -> u32
 pub fn row_of(format: Format) -> Row
     ensures { λ r. ⌜ RowOf format r ⌝ }
 {
-    let mut row = edition_row(format.letter, format.expression);
+    let mut row = row_in(format.letter, has_year(format.expression));
     row.runs = row.runs & runs_in(without_year(format.expression));
     row
+}
+
+// Where the runs start, by their numbers.
+pub fn places_of(row: Row) -> [u8; 20]
+    requires { ⌜ IsRow row ⌝ }
+    ensures { λ r. ⌜ r ≡ runStarts ⌝ }
+{
+    let digits = row.digits;
+    let controls = row.controls;
+    let years = row.years;
+    [
+        digits[0],
+        digits[1],
+        digits[2],
+        digits[3],
+        digits[4],
+        digits[5],
+        digits[6],
+        digits[7],
+        digits[8],
+        digits[9],
+        digits[10],
+        digits[11],
+        digits[12],
+        controls[0],
+        controls[1],
+        controls[2],
+        controls[3],
+        controls[4],
+        years[0],
+        years[1],
+    ]
 }

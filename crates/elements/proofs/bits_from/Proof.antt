@@ -8,10 +8,10 @@ use Rattle.elements.proofs.bits_from.Statement.{statement}
 use Rattle.elements.proofs.bits_from.Tie as tie
 
 abbrev Inv-loop : tie.InvT-loop
-Inv-loop starts digits first last from bits₀ j₀ bits j = (first ≤ j) × (j ≤ last) × (bits ≡ packedRuns from digits j (last - j)) × (bits ≤ (last - j) * 576460752303423488)
+Inv-loop places digits first last from bits₀ j₀ bits j = (first ≤ j) × (j ≤ last) × (bits ≡ packedRuns from digits j (last - j)) × (bits ≤ (last - j) * 576460752303423488)
 
 abbrev μ-loop : tie.MeasureT-loop
-μ-loop starts digits first last from bits₀ j₀ bits j = j
+μ-loop places digits first last from bits₀ j₀ bits j = j
 
 loop-holds : tie.Need-loop-holds Inv-loop μ-loop
 loop-holds c = (c .before .before .pre .2, omega arith, packed-start (c .before .before .args .from) (c .before .before .args .digits .now) (c .before .before .args .last), omega arith)
@@ -20,7 +20,7 @@ sub-j : tie.Need-sub-j Inv-loop μ-loop
 sub-j c = omega arith
 
 shared-slice-read-placed : tie.Need-shared-slice-read-placed Inv-loop μ-loop
-shared-slice-read-placed c = let n : length (c .before .before .before .before .before .args .starts .now) ≡ 20 = rw (c .before .before .before .before .before .pre .0) refl in omega arith
+shared-slice-read-placed c = let n : length (c .before .before .before .before .before .args .places .now) ≡ 20 = rw (c .before .before .before .before .before .pre .0) refl in omega arith
 
 mul-placed : tie.Need-mul-placed Inv-loop μ-loop
 mul-placed c = omega arith

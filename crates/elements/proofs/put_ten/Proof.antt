@@ -59,7 +59,7 @@ add-to-usize : tie.Need-add-to-usize Inv-loop μ-loop
 add-to-usize c = omega arith
 
 shared-slice-read-to-usize : tie.Need-shared-slice-read-to-usize Inv-loop μ-loop
-shared-slice-read-to-usize c = let n : length (c .before .before .before .before .before .before .args .places .now) ≡ 11 = rw (c .before .before .before .before .before .before .pre .1) refl in omega arith
+shared-slice-read-to-usize c = let n : length (c .before .before .before .before .before .before .args .marks .now) ≡ 11 = rw (c .before .before .before .before .before .before .pre .1) refl in omega arith
 
 to-usize-requires : tie.Need-to-usize-requires Inv-loop μ-loop
 to-usize-requires c κs = search needs
@@ -71,7 +71,7 @@ slice-write-frame-3 c =
     rw place (simp length-set (omega arith))
 
 shared-slice-read-to-usize-2 : tie.Need-shared-slice-read-to-usize-2 Inv-loop μ-loop
-shared-slice-read-to-usize-2 c = let n : length (c .before .before .before .before .before .before .before .before .before .args .places .now) ≡ 11 = rw (c .before .before .before .before .before .before .before .before .before .pre .1) refl in omega arith
+shared-slice-read-to-usize-2 c = let n : length (c .before .before .before .before .before .before .before .before .before .args .marks .now) ≡ 11 = rw (c .before .before .before .before .before .before .before .before .before .pre .1) refl in omega arith
 
 to-usize-requires-2 : tie.Need-to-usize-requires-2 Inv-loop μ-loop
 to-usize-requires-2 c κs = search needs

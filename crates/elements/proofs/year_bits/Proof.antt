@@ -8,7 +8,7 @@ use Rattle.elements.proofs.year_bits.Statement.{statement}
 use Rattle.elements.proofs.year_bits.Tie as tie
 
 shared-slice-read-placed : tie.Need-shared-slice-read-placed
-shared-slice-read-placed c = let n : length (c .before .before .before .args .starts .now) ≡ 20 = rw (c .before .before .before .pre .0) refl in omega arith
+shared-slice-read-placed c = let n : length (c .before .before .before .args .places .now) ≡ 20 = rw (c .before .before .before .pre .0) refl in omega arith
 
 shared-slice-read-placed-2 : tie.Need-shared-slice-read-placed-2
 shared-slice-read-placed-2 c = search needs
@@ -20,7 +20,7 @@ shared-slice-read-tens : tie.Need-shared-slice-read-tens
 shared-slice-read-tens c = search needs
 
 shared-slice-read-tens-2 : tie.Need-shared-slice-read-tens-2
-shared-slice-read-tens-2 c = let n : length (c .before .before .before .before .before .before .before .args .starts .now) ≡ 20 = rw (c .before .before .before .before .before .before .before .pre .0) refl in omega arith
+shared-slice-read-tens-2 c = let n : length (c .before .before .before .before .before .before .before .args .places .now) ≡ 20 = rw (c .before .before .before .before .before .before .before .pre .0) refl in omega arith
 
 cast-tens : tie.Need-cast-tens
 cast-tens c = rw (c .before .before .before .before .before .before .before .pre .0) (omega arith)

@@ -11,8 +11,8 @@ carries-year-requires c κs = search needs
 returns : tie.Need-returns
 returns c = sym (year-known (c .before .before .args .format) (sym (c .before .carries-year .ensures) ∙ c .if1 .taken))
 
-letter-row-requires : tie.Need-letter-row-requires
-letter-row-requires c κs = search needs
+row-in-requires : tie.Need-row-in-requires
+row-in-requires c κs = search needs
 
 takes-requires : tie.Need-takes-requires
 takes-requires c κs = search needs
@@ -21,8 +21,8 @@ returns-2 : tie.Need-returns-2
 returns-2 c =
     let f = c .before .before .before .before .args .format in
     let none = sym (c .before .before .before .carries-year .ensures) ∙ c .before .before .if1 .left in
-    c .takes .ensures ∙ sym (c .before .letter-row .ensures (f .expression) none .expressions-are)
+    c .takes .ensures ∙ sym (c .before .row-in .ensures (f .expression) none .expressions-are)
 
 pub is-known-spec : {M : Type 1} → statement M
 is-known-spec =
-    tie.close (tie.spec carries-year-requires returns letter-row-requires takes-requires returns-2)
+    tie.close (tie.spec carries-year-requires returns row-in-requires takes-requires returns-2)
