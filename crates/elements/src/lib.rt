@@ -3,11 +3,11 @@
 ghost use mathlib.Core.Path.{_≡_};
 ghost use Prim.Native.Nat.{ℕ, _+_, _*_, _-_, _/_, _%_, _^_, _≤_, _<_};
 ghost use lib.ListN.{getD, length};
-ghost use Rattle.timecode.specs.Layout.{tabulate, value};
+ghost use Rattle.timecode.specs.Layout.{value};
 ghost use Rattle.layout.specs.Tables.{runStarts, fullWidths, runWidths, markPlaces};
-ghost use Rattle.elements.specs.RunBits.{packed, packedRuns, packedYear, elementAt};
+ghost use Rattle.elements.specs.RunBits.{packed, packedRuns, packedYear};
 ghost use Rattle.elements.specs.RunLoops.{RunsInside, runDigit, digitsAt};
-ghost use Rattle.elements.specs.Tens.{fourElements, ten, tens, IsFrame};
+ghost use Rattle.elements.specs.Tens.{fourElements, ten, tens};
 use layout::CONTROL_1;
 use layout::CONTROL_2;
 use layout::RUNS;
@@ -105,31 +105,21 @@ fn put_ten(fours: &[u32], marks: &[u8], frame: &mut [u8], k: usize, x: u64)
     }
 }
 
-// The tens from one on and before the other.
-fn put_tens(fours: &[u32], marks: &[u8], frame: &mut [u8], from: usize, to: usize, bits: u64)
-    requires { ⌜ (now fours ≡ fourElements) × (now marks ≡ markPlaces) × (10 * to ≤ length (now frame)) × (length (now frame) ≤ 100) × (from ≤ to) × (to ≤ from + 6) ⌝ }
+// The tens of a frame from one on and before the other, from their elements as the bits of a number.
+// Each call is compiled into its caller, where the row's marks are known.
+pub fn put_tens(marks: &[u8], frame: &mut [u8], from: usize, to: usize, bits: u64)
+    requires { ⌜ (now marks ≡ markPlaces) × (10 * to ≤ length (now frame)) × (length (now frame) ≤ 100) × (from ≤ to) × (to ≤ from + 6) ⌝ }
     ensures { λ _. ⌜ now (frame .exit) ≡ tens (now (frame .entry)) from to bits ⌝ }
 {
+    let fours = FOURS;
     let mut k = from;
     while k < to {
-        put_ten(fours, marks, frame, k, bits >> (10 * (k - from)));
+        put_ten(&fours, marks, frame, k, bits >> (10 * (k - from)));
         k += 1;
     }
 }
 
-// The elements of a frame from their bits: those below 60 as one number, those from 60 on as another, which a frame of 60 leaves out.
-pub fn put_bits(marks: &[u8], head: u64, tail: u64, frame: &mut [u8])
-    requires { ⌜ (now marks ≡ markPlaces) × IsFrame (length (now frame)) ⌝ }
-    ensures { λ _. ⌜ ((t : ℕ) → (length (now (frame .entry)) ≡ 100 → tail ≡ t) → now (frame .exit) ≡ tabulate (length (now (frame .entry))) 0 (elementAt head t)) ⌝ }
-{
-    let fours = FOURS;
-    put_tens(&fours, marks, frame, 0, 6, head);
-    if frame.len() == 100 {
-        put_tens(&fours, marks, frame, 6, 10, tail);
-    }
-}
-
-// The bits of the time's digits, which stand below 60. This and the next two are apart, so that each is compiled into its callers.
+// The bits of the time's digits, which stand below 60. This and the next two are apart, so that each is compiled into its callers; a frame of 60 leaves the last one's out.
 pub fn time_bits(places: &[u8], digits: &[u64]) -> u64
     requires { ⌜ (now places ≡ runStarts) × (length (now digits) ≡ 20) ⌝ }
     ensures { λ r. ⌜ (r ≡ packedRuns 0 (now (digits .entry)) 0 11) × (r ≤ 11 * 576460752303423488) ⌝ }

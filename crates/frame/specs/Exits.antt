@@ -17,11 +17,11 @@ use Rattle.timecode.specs.Layout.{isMark, filler, tabulate, decode}
 use Rattle.timecode.specs.declared.Format.{Format}
 use Rattle.timecode.specs.declared.Refusal.the-variants.{UnknownSymbol}
 use Rattle.timecode.specs.declared.Time.{Time}
-use Rattle.layout.specs.Tables.{widthsOf, fullWidths, isCarried, runWidths, RowOf, IsRow}
+use Rattle.layout.specs.Tables.{runStarts, widthsOf, fullWidths, isCarried, runWidths, RowOf, IsRow}
 use Rattle.layout.specs.Runs.{codeRuns, code-proper}
 use Rattle.layout.specs.declared.Row.{Row}
-use Rattle.elements.specs.Tens.{IsFrame}
-use Rattle.elements.specs.RunBits.{putIn, length-put, put-mark, put-binary}
+use Rattle.elements.specs.Tens.{IsFrame, tens, frame-of-60, frame-of-100}
+use Rattle.elements.specs.RunBits.{packed, packedRuns, packedYear, putIn, put-parts, length-put, put-mark, put-binary}
 use Rattle.elements.specs.RunLoops.{runs-narrow, length-runs, small-digit, RunsInside, runs-inside, digitsAt, digits-at}
 use Rattle.digits.specs.Meaning.{meaningOf, meaning-is}
 use Rattle.digits.specs.Splitting.{Widths, Digits}
@@ -88,6 +88,15 @@ module _ (f : Format) (row : Row) (o : RowOf f row) where
   pub row-carries : (t : Time) (r : Bool) → r ≡ cond (row .leap) true (ltb (t .hundredths) dayLength) → secondCarried f t ≡ r
   unfolding secondCarried
   row-carries t r h = ap (λ (b : Bool). cond b true (ltb (t .hundredths) dayLength)) (sym (o .leap-is)) ∙ sym h
+
+-- ---- a frame from its digits' bits
+
+module _ (lent xs : List ℕ) (time middle : ℕ) (long : length xs ≡ 20) (p : time ≡ packedRuns 0 xs 0 11) (q : middle ≡ packedRuns 0 xs 13 1 + packedYear xs) where
+  pub put-60 : length lent ≡ 60 → tens lent 0 6 (time + middle) ≡ putIn 60 xs
+  put-60 n = frame-of-60 lent (time + middle) (packed 60 100 runStarts xs) n ∙ rw n (put-parts 60 xs time middle long p q)
+
+  pub put-100 : (tail : ℕ) → length lent ≡ 100 → tail ≡ packed 60 100 runStarts xs → tens (tens lent 0 6 (time + middle)) 6 10 tail ≡ putIn 100 xs
+  put-100 tail n r = frame-of-100 lent (time + middle) tail n ∙ rw (n, r) (put-parts 100 xs time middle long p q)
 
 -- ---- the frame written again
 

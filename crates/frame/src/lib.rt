@@ -26,7 +26,7 @@ use digits::digits_of;
 use digits::meaning;
 use elements::digits_in;
 use elements::middle_bits;
-use elements::put_bits;
+use elements::put_tens;
 use elements::tail_bits;
 use elements::time_bits;
 use layout::Row;
@@ -91,7 +91,10 @@ fn put_frame(row: Row, time: Time, control: u64, frame: &mut [u8])
     let head = time_bits(&places, &digits) + middle_bits(&places, &digits);
     let tail = tail_bits(&places, &digits, frame.len());
     let marks = row.marks;
-    put_bits(&marks, head, tail, frame);
+    put_tens(&marks, frame, 0, 6, head);
+    if frame.len() == 100 {
+        put_tens(&marks, frame, 6, 10, tail);
+    }
 }
 
 // Writes a time and a control word; every byte is set, or, where it refuses, none.
@@ -232,11 +235,12 @@ fn offence_beside(places: &[u8], marks: &[u8], digits: &[u64], frame: &[u8]) -> 
     let head = time_bits(places, digits) + middle_bits(places, digits);
     if frame.len() == 100 {
         let mut again = [0u8; 100];
-        put_bits(marks, head, tail_bits(places, digits, 100), &mut again);
+        put_tens(marks, &mut again, 0, 6, head);
+        put_tens(marks, &mut again, 6, 10, tail_bits(places, digits, 100));
         return offence_in(&again, frame);
     }
     let mut again = [0u8; 60];
-    put_bits(marks, head, 0, &mut again);
+    put_tens(marks, &mut again, 0, 6, head);
     offence_in(&again, frame)
 }
 
