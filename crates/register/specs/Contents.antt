@@ -200,3 +200,17 @@ receive-newest f n h s =
 pub receive-row : (f : Format) (n : ℕ) (h : Register) (s : ℕ) → opensFrame f (h .newest % 4) s ≡ false → eqb (h .count) 0 ≡ false → leb n (h .count) ≡ false → receiveOf f n h s .row ≡ h .row
 unfolding receiveOf
 receive-row f n h s y e l = by-test (eqb ((h .count + 1) % 32) 0) (λ z. rw (y, e, l, z)) (λ z. rw (y, e, l, z))
+
+-- the register has at most n symbols of a frame
+pub receive-most : (f : Format) (n : ℕ) (h : Register) (s : ℕ) → 1 ≤ n → receiveOf f n h s .count ≤ n
+unfolding receiveOf
+receive-most f n h s p =
+    by-test (opensFrame f (h .newest % 4) s)
+    (λ y. rw y p)
+    (λ y.
+    by-test (eqb (h .count) 0)
+    (λ e. rw (y, e) (omega arith))
+    (λ e.
+    by-test (leb n (h .count))
+    (λ l. rw (y, e, l) (omega arith))
+    (λ l. let under = leb-false n (h .count) l in by-test (eqb ((h .count + 1) % 32) 0) (λ z. rw (y, e, l, z) (omega arith)) (λ z. rw (y, e, l, z) (omega arith)))))

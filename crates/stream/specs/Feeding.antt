@@ -1,5 +1,5 @@
 -- What the program's reader is, and what a Feed makes of it, for every reader and symbol.
-use mathlib.Core.Path.{_≡_}
+use mathlib.Core.Path.{_≡_, refl}
 use mathlib.Core.Bool.{Bool, true, cond, _&&_}
 use mathlib.Core.List.{[], _∷_}
 use Prim.Native.Nat.{ℕ, _+_, _%_, _<_}
@@ -15,6 +15,7 @@ use Rattle.timecode.specs.declared.Answer.the-variants.{Quiet, Report}
 use Rattle.timecode.specs.declared.Format.{Format}
 use Rattle.timecode.specs.declared.Reading.{Reading}
 use Rattle.timecode.specs.declared.Reading.the-variants.{Accepted}
+use Rattle.timecode.specs.declared.Time.{Time}
 use Rattle.timecode.specs.declared.Refusal.the-variants.{UnknownFormat, UnknownSymbol, InvalidReader, InvalidSetting}
 use Rattle.following.specs.Following.{rowAfter}
 use Rattle.register.specs.Receiving.{receiveOf, frameOf}
@@ -22,6 +23,7 @@ use Rattle.register.specs.declared.Register.{Register}
 use Rattle.stream.specs.declared.Fed.{Fed}
 use Rattle.stream.specs.declared.Made.{Made}
 use Rattle.stream.specs.declared.Reader.{Reader}
+use Rattle.stream.specs.declared.Row.{Row}
 
 -- no frame under way and no row, and the last symbols spoiled
 abbrev pub freshRegister : Register
@@ -54,10 +56,29 @@ withRow h c = record { count = h .count; newest = h .newest; word0 = h .word0; w
 abbrev pub withRegister : Reader → ℕ → Register → Reader
 withRegister r place h = record { format = r .format; setting = r .setting; place = place; received = h; time = r .time; control = r .control }
 
--- the frame is whole: accepted, it joins the row; refused, it ends it
+-- the row that ends with the last whole frame, and with a whole frame's reading: accepted, it joins the row; refused, it ends it
+abbrev pub rowOf : ℕ → Time → ℕ → Row
+rowOf count time control = record { count = count; time = time; control = control }
+
+abbrev pub rowIn : Reader → Row
+rowIn r = rowOf (r .received .row) (r .time) (r .control)
+
+unfoldable pub rowWith : Format → Row → Reading → Row
+rowWith f q (Accepted t w) = rowOf (rowAfter f (q .count) (q .time) t) t w
+rowWith f q (Reading.Refused x) = rowOf 0 (q .time) (q .control)
+
+abbrev pub readerWithRow : Reader → Row → Reader
+readerWithRow r q = record { format = r .format; setting = r .setting; place = r .place; received = withRow (r .received) (q .count); time = q .time; control = q .control }
+
+-- the frame is whole
 unfoldable pub readerWithReading : Reader → Reading → Reader
 readerWithReading r (Accepted t w) = record { format = r .format; setting = r .setting; place = r .place; received = withRow (r .received) (rowAfter (r .format) (r .received .row) (r .time) t); time = t; control = w }
 readerWithReading r (Reading.Refused x) = record { format = r .format; setting = r .setting; place = r .place; received = withRow (r .received) 0; time = r .time; control = r .control }
+
+pub with-row-reading : (r : Reader) (reading : Reading) → readerWithRow r (rowWith (r .format) (rowIn r) reading) ≡ readerWithReading r reading
+unfolding rowWith readerWithReading
+with-row-reading r (Accepted t w) = refl
+with-row-reading r (Reading.Refused x) = refl
 
 unfoldable pub whenWhole : Reader → Reader
 whenWhole r = cond (eqb (r .received .count) (size (r .format))) (readerWithReading r (readOf (r .format) (frameOf (r .received) (size (r .format))))) r

@@ -11,7 +11,7 @@ ghost use Rattle.tape.specs.InWord.{elementsIn};
 ghost use Rattle.following.specs.Following.{rowAfter};
 ghost use Rattle.register.specs.Receiving.{frameOf};
 ghost use Rattle.stream.specs.Tapes.{isTape, isFirstDay, areSeconds, isSecondLater};
-ghost use Rattle.stream.specs.Feeding.{isValid, madeOf, withRow, withRegister, readerWithReading, whenWhole, withSymbolOf, nextOf, answerAfter, answerOf, feedOf};
+ghost use Rattle.stream.specs.Feeding.{isValid, madeOf, withRow, rowOf, rowIn, rowWith, readerWithRow, withRegister, readerWithReading, whenWhole, withSymbolOf, nextOf, answerAfter, answerOf, feedOf};
 use clock::next_after;
 use frame::read;
 use layout::frame_size;
@@ -34,6 +34,13 @@ pub struct Reader {
     pub setting: u8,
     pub place: usize,
     pub received: Register,
+    pub time: Time,
+    pub control: u64,
+}
+
+// The accepted frames in a row that end with the last whole frame: how many they are, and the last one's time and control word.
+pub struct Row {
+    pub count: usize,
     pub time: Time,
     pub control: u64,
 }
@@ -195,6 +202,16 @@ fn row_after(format: Format, row: usize, before: Time, time: Time) -> usize
     1
 }
 
+fn row_of(count: usize, time: Time, control: u64) -> Row
+    ensures { λ r. ⌜ r ≡ rowOf count time control ⌝ }
+{
+    Row {
+        count: count,
+        time: time,
+        control: control,
+    }
+}
+
 fn read_part(format: Format, bytes: &[u8], n: usize) -> Reading
     requires { ⌜ (length (now bytes) ≡ 160) × (n ≤ 100) ⌝ }
     ensures { λ r. ⌜ r ≡ readOf format (take n (drop 32 (now (bytes .entry)))) ⌝ }
@@ -210,6 +227,52 @@ fn read_received(format: Format, register: Register, n: usize) -> Reading
     read_part(format, &bytes, n)
 }
 
+// A whole frame's reading: accepted, it joins the row; refused, it ends it.
+pub fn row_with_reading(format: Format, row: Row, reading: Reading) -> Row
+    ensures { λ r. ⌜ r ≡ rowWith format row reading ⌝ }
+{
+    let before = row.time;
+    match reading {
+        Reading::Accepted { time, control } => {
+            let count = row_after(format, row.count, before, time);
+            row_of(count, time, control)
+        }
+        Reading::Refused(_) => row_of(0, before, row.control),
+    }
+}
+
+// A whole frame of letter X, in the newest word: where an element does not fit it is refused, and which one is not asked.
+fn row_with_tape(format: Format, row: Row, word: u64) -> Row
+    requires { ⌜ (isX format ≡ true) × (known format ≡ true) ⌝ }
+    ensures { λ r. ⌜ r ≡ rowWith format row (readOf format (elementsIn word)) ⌝ }
+{
+    if word_fits(word) {
+        return row_with_reading(format, row, word_meaning(word));
+    }
+    let time = row.time;
+    row_of(0, time, row.control)
+}
+
+// A whole frame is read, once.
+pub fn row_with_frame(format: Format, row: Row, received: Register, n: usize) -> Row
+    requires { ⌜ n ≤ 100 ⌝ }
+    ensures { λ r. ⌜ r ≡ rowWith format row (readOf format (frameOf received n)) ⌝ }
+{
+    if is_tape(format, n) {
+        return row_with_tape(format, row, received.newest);
+    }
+    let reading = read_received(format, received, n);
+    row_with_reading(format, row, reading)
+}
+
+fn row_in(reader: Reader) -> Row
+    ensures { λ r. ⌜ r ≡ rowIn reader ⌝ }
+{
+    let received = reader.received;
+    let time = reader.time;
+    row_of(received.row, time, reader.control)
+}
+
 fn register_with_row(register: Register, row: usize) -> Register
     ensures { λ r. ⌜ r ≡ withRow register row ⌝ }
 {
@@ -223,60 +286,35 @@ fn register_with_row(register: Register, row: usize) -> Register
     }
 }
 
-fn with_row(reader: Reader, row: usize, time: Time, control: u64) -> Reader
-    ensures { λ r. ⌜ r ≡ record { format = reader .format; setting = reader .setting; place = reader .place; received = withRow (reader .received) row; time = time; control = control } ⌝ }
+fn with_row(reader: Reader, row: Row) -> Reader
+    ensures { λ r. ⌜ r ≡ readerWithRow reader row ⌝ }
 {
     let format = reader.format;
-    let received = register_with_row(reader.received, row);
+    let received = register_with_row(reader.received, row.count);
+    let time = row.time;
     Reader {
         format: format,
         setting: reader.setting,
         place: reader.place,
         received: received,
         time: time,
-        control: control,
+        control: row.control,
     }
 }
 
-// A whole frame's reading: accepted, it joins the row; refused, it ends it.
 pub fn reader_with_reading(reader: Reader, reading: Reading) -> Reader
     ensures { λ r. ⌜ r ≡ readerWithReading reader reading ⌝ }
 {
-    let format = reader.format;
-    let received = reader.received;
-    let before = reader.time;
-    match reading {
-        Reading::Accepted { time, control } => {
-            let row = row_after(format, received.row, before, time);
-            with_row(reader, row, time, control)
-        }
-        Reading::Refused(_) => with_row(reader, 0, before, reader.control),
-    }
+    let row = row_with_reading(reader.format, row_in(reader), reading);
+    with_row(reader, row)
 }
 
-// A whole frame of letter X, in the newest word: where an element does not fit it is refused, and which one is not asked.
-fn with_tape(reader: Reader, word: u64) -> Reader
-    requires { ⌜ (isX (reader .format) ≡ true) × (known (reader .format) ≡ true) ⌝ }
-    ensures { λ r. ⌜ r ≡ readerWithReading reader (readOf (reader .format) (elementsIn word)) ⌝ }
-{
-    if word_fits(word) {
-        return reader_with_reading(reader, word_meaning(word));
-    }
-    let time = reader.time;
-    with_row(reader, 0, time, reader.control)
-}
-
-// A whole frame is read, once.
 fn with_reading(reader: Reader, n: usize) -> Reader
     requires { ⌜ n ≤ 100 ⌝ }
     ensures { λ r. ⌜ r ≡ readerWithReading reader (readOf (reader .format) (frameOf (reader .received) n)) ⌝ }
 {
-    let received = reader.received;
-    if is_tape(reader.format, n) {
-        return with_tape(reader, received.newest);
-    }
-    let reading = read_received(reader.format, received, n);
-    reader_with_reading(reader, reading)
+    let row = row_with_frame(reader.format, row_in(reader), reader.received, n);
+    with_row(reader, row)
 }
 
 pub fn with_register(reader: Reader, place: usize, received: Register) -> Reader

@@ -1,35 +1,27 @@
 -- `with_reading` meets its contract.
+use mathlib.Core.Path.{_∙_}
+use Rattle.stream.specs.Feeding.{with-row-reading}
 use borrow.Author.Needs.{needs}
-use mathlib.Core.Path.{sym, _∙_}
-use Rattle.stream.specs.Tapes.{tape-x, tape-known, tape-frame}
 use Rattle.stream.proofs.with_reading.Statement.{statement}
 use Rattle.stream.proofs.with_reading.Tie as tie
+use Rattle.stream.proofs.with_reading.Reads as reads
+use Rattle.stream.proofs.with_reading.Lts as lts
+use Rattle.stream.proofs.row_in.Reads as row-in-reads
+use Rattle.stream.proofs.row_with_frame.Reads as row-with-frame-reads
+use Rattle.stream.proofs.with_row.Reads as with-row-reads
 
-is-tape-requires : tie.Need-is-tape-requires
-is-tape-requires c κs = search needs
+row-in-requires : tie.Need-row-in-requires
+row-in-requires c κs = search needs
 
-with-tape-requires : tie.Need-with-tape-requires
-with-tape-requires c κs = (tape-x (c .before .before .before .args .reader .format) (c .before .before .before .args .n) (sym (c .before .is-tape .ensures) ∙ c .if1 .taken), tape-known (c .before .before .before .args .reader .format) (c .before .before .before .args .n) (sym (c .before .is-tape .ensures) ∙ c .if1 .taken))
+row-with-frame-requires : tie.Need-row-with-frame-requires
+row-with-frame-requires c κs = search needs
+
+with-row-requires : tie.Need-with-row-requires
+with-row-requires c κs = search needs
 
 returns : tie.Need-returns
-returns c = rw (tape-frame (c .before .before .before .before .args .reader .format) (c .before .before .before .before .args .n) (sym (c .before .before .is-tape .ensures) ∙ c .before .if1 .taken) (c .before .before .before .before .args .reader .received)) (c .with-tape .ensures)
-
-read-received-requires : tie.Need-read-received-requires
-read-received-requires c κs = search needs
-
-reader-with-reading-requires : tie.Need-reader-with-reading-requires
-reader-with-reading-requires c κs = search needs
-
-returns-2 : tie.Need-returns-2
-returns-2 c = rw (← c .before .read-received .ensures) (c .reader-with-reading .ensures)
+returns c = rw (c .before .row-with-frame .ensures, c .before .before .row-in .ensures) at (c .with-row .ensures) ∙ with-row-reading _ _
 
 pub with-reading-spec : {M : Type 1} → statement M
 with-reading-spec =
-    tie.close
-    (tie.spec
-    is-tape-requires
-    with-tape-requires
-    returns
-    read-received-requires
-    reader-with-reading-requires
-    returns-2)
+    tie.close (tie.spec row-in-requires row-with-frame-requires with-row-requires returns)

@@ -10,7 +10,7 @@ register-with-row-requires : tie.Need-register-with-row-requires
 register-with-row-requires c κs = search needs
 
 returns : tie.Need-returns
-returns c = rw (← c .register-with-row .ensures)
+returns c = rw (← c .before .register-with-row .ensures)
 
 pub with-row-spec : {M : Type 1} → statement M
 with-row-spec = tie.close (tie.spec register-with-row-requires returns)
