@@ -84,8 +84,24 @@ fn places(from: usize, to: usize) -> usize
     128
 }
 
-// The next place from one index to another at which a frame may begin, or the other.
-pub fn next_opening(format: Format, symbols: &[u8], from: usize, to: usize) -> usize
+// Few places are looked at one by one: the first at which a frame may begin.
+fn near_opening(format: Format, symbols: &[u8], from: usize, to: usize) -> usize
+    requires { ⌜ (1 ≤ from) × (from ≤ to) × (to ≤ length (now symbols)) ⌝ }
+    ensures { λ r. ⌜ (from ≤ r) × (r ≤ to) × ((j : ℕ) → from ≤ j → j < r → opensAt format (now (symbols .entry)) j ≡ false) ⌝ }
+{
+    let marks = marks_before(format);
+    let mut at = from;
+    while at < to {
+        if is_opening(symbols[at - marks], symbols[at]) {
+            return at;
+        }
+        at += 1;
+    }
+    at
+}
+
+// Many places are looked at together.
+fn far_opening(format: Format, symbols: &[u8], from: usize, to: usize) -> usize
     requires { ⌜ (1 ≤ from) × (from ≤ to) × (to ≤ length (now symbols)) ⌝ }
     ensures { λ r. ⌜ (from ≤ r) × (r ≤ to) × ((j : ℕ) → from ≤ j → j < r → opensAt format (now (symbols .entry)) j ≡ false) ⌝ }
 {
@@ -99,6 +115,17 @@ pub fn next_opening(format: Format, symbols: &[u8], from: usize, to: usize) -> u
         at += count;
     }
     to
+}
+
+// The next place from one index to another at which a frame may begin, or the other.
+pub fn next_opening(format: Format, symbols: &[u8], from: usize, to: usize) -> usize
+    requires { ⌜ (1 ≤ from) × (from ≤ to) × (to ≤ length (now symbols)) ⌝ }
+    ensures { λ r. ⌜ (from ≤ r) × (r ≤ to) × ((j : ℕ) → from ≤ j → j < r → opensAt format (now (symbols .entry)) j ≡ false) ⌝ }
+{
+    if to - from < 16 {
+        return near_opening(format, symbols, from, to);
+    }
+    far_opening(format, symbols, from, to)
 }
 
 fn place_or_none(here: bool, place: u8) -> u8
@@ -130,8 +157,8 @@ fn highest_opening(format: Format, symbols: &[u8], from: usize, count: usize) ->
     while i < count {
         let at = from + i;
         let opens = is_opening(symbols[at - marks], symbols[at]);
+        highest = higher(place_or_none(opens, i as u8 + 1), highest);
         i += 1;
-        highest = higher(place_or_none(opens, i as u8), highest);
     }
     highest
 }

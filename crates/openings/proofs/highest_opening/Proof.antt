@@ -40,17 +40,20 @@ shared-slice-read-is-opening-2 c = omega (arith, c .before .before .loop-test .t
 is-opening-requires : tie.Need-is-opening-requires Inv-loop μ-loop
 is-opening-requires c κs = search needs
 
-add-i : tie.Need-add-i Inv-loop μ-loop
-add-i c = omega (arith, c .before .before .before .loop-test .taken, c .before .before .before .before .before .before .before .pre)
-
 cast-place-or-none : tie.Need-cast-place-or-none Inv-loop μ-loop
 cast-place-or-none c = omega (arith, c .before .before .before .loop-test .taken, c .before .before .before .before .before .before .before .pre)
+
+add-place-or-none : tie.Need-add-place-or-none Inv-loop μ-loop
+add-place-or-none c = omega (arith, c .before .before .before .loop-test .taken, c .before .before .before .before .before .before .before .pre)
 
 place-or-none-requires : tie.Need-place-or-none-requires Inv-loop μ-loop
 place-or-none-requires c κs = search needs
 
 higher-requires : tie.Need-higher-requires Inv-loop μ-loop
 higher-requires c κs = search needs
+
+add-i : tie.Need-add-i Inv-loop μ-loop
+add-i c = omega (arith, c .before .before .before .before .before .loop-test .taken, c .before .before .before .before .before .before .before .before .before .pre)
 
 loop-less : tie.Need-loop-less Inv-loop μ-loop
 loop-less c = omega (arith, c .before .before .before .before .before .loop-test .taken)
@@ -77,10 +80,11 @@ highest-opening-spec =
     shared-slice-read-is-opening
     shared-slice-read-is-opening-2
     is-opening-requires
-    add-i
     cast-place-or-none
+    add-place-or-none
     place-or-none-requires
     higher-requires
+    add-i
     loop-less
     loop-again
     returns)

@@ -1,14 +1,14 @@
--- `next_opening` meets its contract.
+-- `far_opening` meets its contract.
 use Rattle.openings.specs.Openings.{opensAt, none-open-joined}
 use Prim.Native.Nat.{ℕ, _-_, _≤_, _<_}
 use mathlib.Core.Bool.{false}
 use mathlib.Core.Path.{_≡_}
 use native.Mathlib.Omega.{arith}
 use borrow.Author.Needs.{needs}
-use Rattle.openings.proofs.next_opening.Statement.{statement}
-use Rattle.openings.proofs.next_opening.Tie as tie
-use Rattle.openings.proofs.next_opening.Reads as reads
-use Rattle.openings.proofs.next_opening.Lts as lts
+use Rattle.openings.proofs.far_opening.Statement.{statement}
+use Rattle.openings.proofs.far_opening.Tie as tie
+use Rattle.openings.proofs.far_opening.Reads as reads
+use Rattle.openings.proofs.far_opening.Lts as lts
 use Rattle.openings.proofs.lowest_opening.Reads as lowest-opening-reads
 use Rattle.openings.proofs.places.Reads as places-reads
 use Rattle.openings.proofs.wide.Reads as wide-reads
@@ -59,8 +59,8 @@ returns-2 c =
     let all : c .before .loop .at ≡ c .before .before .before .args .to = omega (arith, c .before .loop .inv, c .loop-test .left) in
     (c .before .before .before .pre .1, omega arith, λ j a b. c .before .loop .inv .2 j a (omega arith))
 
-pub next-opening-spec : {M : Type 1} → statement M
-next-opening-spec =
+pub far-opening-spec : {M : Type 1} → statement M
+far-opening-spec =
     tie.close
     (tie.spec
     Inv-loop
