@@ -1,16 +1,15 @@
 -- A stride of a list of symbols: no frame is whole before its last symbol, so that only the last can report.
-use mathlib.Core.Path.{_≡_, sym, ap, _∙_}
+use mathlib.Core.Path.{_≡_, refl, sym, ap, subst, _∙_}
 use mathlib.Core.Bool.{true, false, cond}
-use mathlib.Core.List.{List, [], _∷_, _++_, append-assoc, append-nil}
+use mathlib.Core.List.{List, [], _∷_, _++_}
 use Prim.Native.Nat.{ℕ, zero, suc, _+_, _-_, _%_, _<_, _≤_}
-use native.Mathlib.Nat.{mod-add-mod}
+use native.Mathlib.Nat.{add-zero, mod-add-mod, mod-eq-of-lt}
 use native.Mathlib.Omega.{arith}
-use borrow.Author.Tests.{lt-leb, leb-false, eqb-true, eqb-false, eq-eqb, ne-eqb}
+use borrow.Author.Tests.{leb-false, eqb-true, eqb-false, eq-eqb, ne-eqb}
 use lib.Dec.{leb, eqb}
-use lib.ListN.{getD, length, length-append}
+use lib.ListN.{getD, length}
 use Rattle.timecode.specs.Formats.{size}
 use Rattle.timecode.specs.Frames.{readOf}
-use Rattle.timecode.specs.Laws.Marks.{size-positive}
 use Rattle.timecode.specs.Laws.Table.{size-range}
 use Rattle.timecode.specs.Laws.Tests.{by-test}
 use Rattle.timecode.specs.declared.Answer.{Answer}
@@ -19,14 +18,15 @@ use Rattle.timecode.specs.declared.Format.{Format}
 use Rattle.timecode.specs.declared.Reading.{Reading}
 use Rattle.following.specs.Rows.{opensFrame}
 use Rattle.register.specs.Receiving.{pushOf, continuedOf, begunOf, receiveOf, frameOf}
-use Rattle.register.specs.Contents.{Shows, pushed-low, whole-frame, shows-opened, shows-grown, receive-newest}
+use Rattle.register.specs.Contents.{pushed-low, receive-newest}
 use Rattle.register.specs.declared.Register.{Register}
 use Rattle.openings.specs.Openings.{opensAt, CloseOpenings, start, later}
-use Rattle.receive_many.specs.ManySymbols.{slice, pushAll, receiveAll, joinAll, AllSymbols, NoneOpens, NotWholeBefore, SymbolsBelow, length-slice, slice-at, slice-cons, inside-is, outside-is, inside-not-whole, outside-not-whole, NeverWhole, never-before, never-append, short-never, short-count, receive-append, received-newest, receive-opens, slice-join, slice-last, slice-none, push-all-none, push-all-last, push-all-low}
-use Rattle.stream.specs.Feeding.{withRegister, readerWithReading, whenWhole, withSymbolOf, nextOf, answerAfter, feedOf}
+use Rattle.receive_many.specs.ManySymbols.{slice, pushAll, receiveAll, joinAll, AllSymbols, NoneOpens, NotWholeBefore, SymbolsBelow, length-slice, slice-at, slice-cons, inside-is, outside-is, inside-not-whole, outside-not-whole, join-all-count, NeverWhole, never-before, never-append, short-never, short-count, receive-append, received-newest, receive-opens, slice-join, slice-last, slice-none, push-all-none, push-all-last, push-all-low}
+use Rattle.stream.specs.Feeding.{valid-place, withRegister, readerWithReading, whenWhole, withSymbolOf, nextOf, answerAfter, feedOf}
 use Rattle.stream.specs.Refinement.{answers, readerAfter}
 use Rattle.stream.specs.declared.Reader.{Reader}
 use Rattle.stride.specs.ReadyReaders.{Ready, next-with-symbol, answer-of-symbol, ready-with, ready-next}
+use Rattle.stride.specs.Shown.{ShowsLast, last-none, last-all, last-frame}
 
 -- ---- over lists
 
@@ -77,6 +77,25 @@ unfolding answers readerAfter feedOf
 stride-last r x [] v s none = answer-of-symbol r x v (s 0 (omega arith))
 stride-last r x (y ∷ ys) v s none = stride-last (nextOf r x) y ys (ready-next r x v) (λ j b. s (suc j) (omega arith)) none
 
+-- where the last makes no frame whole either, none is read, and all answers are Quiet
+pub run-reader : (r : Reader) (xs : List ℕ) → Ready r → AllSymbols xs → NotWholeBefore (r .format) (size (r .format)) (r .received) xs → (receiveAll (r .format) (size (r .format)) (r .received) xs .count ≡ size (r .format) → ⊥)
+    → readerAfter r xs ≡ withRegister r ((r .place + length xs) % size (r .format)) (receiveAll (r .format) (size (r .format)) (r .received) xs)
+unfolding readerAfter receiveAll
+run-reader r [] v s u m =
+    let same : (r .place + 0) % size (r .format) ≡ r .place = ap (λ (k : ℕ). k % size (r .format)) (add-zero (r .place)) ∙ mod-eq-of-lt (valid-place r (v .0)) in
+    ap (λ (place : ℕ). withRegister r place (r .received)) (sym same)
+run-reader r (x ∷ xs) v s u m =
+    stride-reader r x xs v s u ∙ not-whole-same (withRegister r ((r .place + length (x ∷ xs)) % size (r .format)) (receiveAll (r .format) (size (r .format)) (r .received) (x ∷ xs))) m
+
+pub run-quiet : (r : Reader) (xs : List ℕ) → Ready r → AllSymbols xs → NotWholeBefore (r .format) (size (r .format)) (r .received) xs → (receiveAll (r .format) (size (r .format)) (r .received) xs .count ≡ size (r .format) → ⊥)
+    → (none : Answer) (k : ℕ) → k < length xs → getD (answers r xs) k none ≡ Quiet
+run-quiet r [] v s u m none k b = let z : ⊥ = omega arith in absurd z
+run-quiet r (x ∷ xs) v s u m none k b =
+    let next = withRegister r ((r .place + length (x ∷ xs)) % size (r .format)) (receiveAll (r .format) (size (r .format)) (r .received) (x ∷ xs)) in
+    by-test (eqb k (length xs))
+    (λ y. rw (eqb-true k (length xs) y) (stride-last r x xs v s none ∙ ap answerAfter (run-reader r (x ∷ xs) v s u m) ∙ not-whole-quiet next m))
+    (λ n. let other = eqb-false k (length xs) n in stride-quiet r x xs v s u none k (omega (arith, other)))
+
 -- ---- the register after a stride
 
 -- symbols of which none begins a frame, outside a frame or inside it
@@ -89,61 +108,11 @@ run-received f n h xs s c b =
     (λ y. rw y (outside-is f n h xs s c (eqb-true (h .count) 0 y)))
     (λ m. let some = eqb-false (h .count) 0 m in let one : 1 ≤ h .count = omega (arith, some) in rw m (inside-is f n h xs s c one (b one)))
 
-run-not-whole : (f : Format) (n : ℕ) (h : Register) (xs : List ℕ) → 1 ≤ n → AllSymbols xs → NoneOpens f (h .newest % 4) xs → (1 ≤ h .count → h .count + length xs ≤ n) → NotWholeBefore f n h xs
+pub run-not-whole : (f : Format) (n : ℕ) (h : Register) (xs : List ℕ) → 1 ≤ n → AllSymbols xs → NoneOpens f (h .newest % 4) xs → (1 ≤ h .count → h .count + length xs ≤ n) → NotWholeBefore f n h xs
 run-not-whole f n h xs p s c b =
     by-test (eqb (h .count) 0)
     (λ y. outside-not-whole f n h xs p s c (eqb-true (h .count) 0 y))
     (λ m. let some = eqb-false (h .count) 0 m in let one : 1 ≤ h .count = omega (arith, some) in inside-not-whole f n h xs s c one (b one))
-
--- no frame is whole before the last: where the first symbol makes it whole, no other comes
-pub first-not-whole : (f : Format) (n : ℕ) (h : Register) (x : ℕ) (xs : List ℕ) → 1 ≤ n → AllSymbols xs → NoneOpens f (receiveOf f n h x .newest % 4) xs → (1 ≤ receiveOf f n h x .count → receiveOf f n h x .count + length xs ≤ n) → NotWholeBefore f n h (x ∷ xs)
-first-not-whole f n h x [] p s c b = tt
-first-not-whole f n h x (y ∷ ys) p s c b = ((λ e. let more = b (omega arith) in omega arith), run-not-whole f n (receiveOf f n h x) (y ∷ ys) p s c b)
-
--- the register has at most n symbols of a frame
-pub received-most : (f : Format) (n : ℕ) (h : Register) (s : ℕ) → 1 ≤ n → receiveOf f n h s .count ≤ n
-unfolding receiveOf
-received-most f n h s p =
-    by-test (opensFrame f (h .newest % 4) s)
-    (λ y. rw y p)
-    (λ y.
-    by-test (eqb (h .count) 0)
-    (λ e. rw (y, e) (omega arith))
-    (λ e.
-    by-test (leb n (h .count))
-    (λ l. rw (y, e, l) (omega arith))
-    (λ l. let under = leb-false n (h .count) l in by-test (eqb ((h .count + 1) % 32) 0) (λ z. rw (y, e, l, z) (omega arith)) (λ z. rw (y, e, l, z) (omega arith)))))
-
-not-begun : (f : Format) (n : ℕ) (h : Register) (s : ℕ) → opensFrame f (h .newest % 4) s ≡ false → receiveOf f n h s .count ≡ 1 → ⊥
-unfolding receiveOf
-not-begun f n h s y q =
-    by-test (eqb (h .count) 0)
-    (λ e. let z : _≡_ {A = ℕ} 0 1 = rw (y, e) at q in omega arith)
-    (λ e.
-    let some = eqb-false (h .count) 0 e in
-    by-test (leb n (h .count))
-    (λ l. let z : _≡_ {A = ℕ} 0 1 = rw (y, e, l) at q in omega arith)
-    (λ l.
-    by-test (eqb ((h .count + 1) % 32) 0)
-    (λ d. let z : h .count + 1 ≡ 1 = rw (y, e, l, d) at q in omega (arith, some))
-    (λ d. let z : h .count + 1 ≡ 1 = rw (y, e, l, d) at q in omega (arith, some))))
-
--- a frame of one symbol has begun with it
-pub begun-shows : (f : Format) (n : ℕ) (h : Register) (s : ℕ) → s ≤ 3 → receiveOf f n h s .count ≡ 1 → Shows (receiveOf f n h s) (s ∷ [])
-begun-shows f n h s b e = by-test (opensFrame f (h .newest % 4) s) (λ y. shows-opened f n h s b y) (λ y. absurd (not-begun f n h s y e))
-
--- symbols joined to a frame
-pub run-shows : (f : Format) (n : ℕ) (h : Register) (frame xs : List ℕ) → AllSymbols xs → NoneOpens f (h .newest % 4) xs → 1 ≤ h .count → h .count + length xs ≤ n → Shows h frame → Shows (receiveAll f n h xs) (frame ++ xs)
-unfolding receiveAll
-run-shows f n h frame [] s c some b sh = rw (append-nil frame) sh
-run-shows f n h frame (x ∷ xs) s c some b sh =
-    let no : h .count ≡ 0 → ⊥ = λ e. omega arith in
-    let next = receiveOf f n h x in
-    let is-symbol : x ≤ 3 = s 0 (omega arith) in
-    let one = shows-grown f n h frame x is-symbol (c 0 (omega arith)) (ne-eqb (h .count) 0 no) (lt-leb n (h .count) (omega arith)) sh in
-    let low : next .newest % 4 ≡ x = ap (λ (w : ℕ). w % 4) (receive-newest f n h x) ∙ pushed-low (h .newest) x is-symbol in
-    let count : next .count ≡ h .count + 1 = one .count-is ∙ length-append frame (x ∷ []) ∙ ap (λ (k : ℕ). k + 1) (sym (sh .count-is)) in
-    rw (append-assoc frame (x ∷ []) xs) at (run-shows f n next (frame ++ (x ∷ [])) xs (λ j b. s (suc j) (omega arith)) (rw low (λ j b. c (suc j) (omega arith))) (omega arith) (omega arith) one)
 
 -- ---- openings, each before the frame of the one before is whole
 
@@ -201,6 +170,95 @@ module _ (f : Format) (n : ℕ) (ss : List ℕ) (h : Register) (from to : ℕ) (
 
 -- ---- by index in a list of symbols
 
+-- Symbols after a first, from the index `next` on: the register that received them, and that none but the last of them makes a frame whole.
+pub record Runs (f : Format) (n : ℕ) (first : Register) (ss : List ℕ) (next end to : ℕ) (received : Register) (stop : ℕ) : Type 0 where
+  pub start : next ≤ stop
+  pub within : stop ≤ to
+  pub few : stop - next ≤ 4096
+  pub received-is : receiveAll f n first (slice ss next stop) ≡ received
+  pub not-whole : NotWholeBefore f n first (slice ss next stop)
+  pub first-not : next < stop → first .count ≡ n → ⊥
+  pub last-not : (1 ≤ first .count → first .count + (end - next) < n) → received .count ≡ n → ⊥
+
+module _ (f : Format) (n : ℕ) (first : Register) (ss : List ℕ) (next end to : ℕ) (two : 2 ≤ n) (after : 1 ≤ next) (a : next ≤ end) (b : end ≤ to) (l : to ≤ length ss) (few : end - next ≤ 4096)
+    (most : 1 ≤ first .count → first .count + (end - next) ≤ n) (low : first .newest % 4 ≡ getD ss (next - 1) 0) (below : SymbolsBelow ss to) where
+  -- openings, each before the frame of the one before is whole
+  pub runs-open : (last : ℕ) (received : Register) → first .count ≡ 1 → next ≤ last → last < to → last + 1 - next ≤ 4096 → CloseOpenings f n ss (next - 1) last
+      → received ≡ begunOf (pushAll (first .newest) (slice ss next (last + 1))) 1 0 → Runs f n first ss next end to received (last + 1)
+  runs-open last received one c d few-there close e =
+      let there : next - 1 + 1 ≡ next = omega arith in
+      let opened = rw there at (opened-last f n ss first (next - 1) to two l below low one last close (omega arith) d) in
+      record {
+        start = omega arith;
+        within = omega arith;
+        few = few-there;
+        received-is = opened .0 ∙ sym e;
+        not-whole = never-before f n first (slice ss next (last + 1)) (opened .1);
+        first-not = λ u z. omega (arith, one, two);
+        last-not = λ u z. let single : received .count ≡ 1 = ap (λ (h : Register). h .count) e in omega (arith, single, two);
+      }
+
+  -- up to the next opening
+  module _ (stop : ℕ) (c : next ≤ stop) (d : stop ≤ end) (none-open : (j : ℕ) → next ≤ j → j < stop → opensAt f ss j ≡ false) where
+    abbrev others : List ℕ
+    others = slice ss next stop
+
+    others-long : length others ≡ stop - next
+    others-long = length-slice ss next stop c (omega arith)
+
+    others-at : (j : ℕ) → j < length others → getD others j 0 ≡ getD ss (next + j) 0
+    others-at j h = slice-at ss next stop j (omega (arith, others-long))
+
+    others-symbols : AllSymbols others
+    others-symbols j h = rw (others-at j h) (below (next + j) (omega (arith, others-long)))
+
+    none-opens : (j : ℕ) → j < length others → opensFrame f (getD (getD ss (next - 1) 0 ∷ others) j 0) (getD others j 0) ≡ false
+    none-opens zero h =
+        let here : next + 0 - 1 ≡ next - 1 = omega arith in
+        let here-none = none-open (next + 0) (omega arith) (omega (arith, others-long)) in
+        rw (others-at 0 h) (rw here at here-none)
+    none-opens (suc j) h =
+        let here : next + suc j - 1 ≡ next + j = omega arith in
+        let here-none = none-open (next + suc j) (omega arith) (omega (arith, others-long)) in
+        rw (others-at (suc j) h, others-at j (omega arith)) (rw here at here-none)
+
+    others-none-open : NoneOpens f (first .newest % 4) others
+    others-none-open = rw low none-opens
+
+    others-most : 1 ≤ first .count → first .count + length others ≤ n
+    others-most h = let m = most h in omega (arith, others-long)
+
+    run-count : runOf first others .count ≡ cond (eqb (first .count) 0) 0 (first .count + length others)
+    run-count = by-test (eqb (first .count) 0) (λ y. rw y) (λ m. rw m (join-all-count first others))
+
+    pub runs-to : (received : Register) → received ≡ runOf first others → Runs f n first ss next end to received stop
+    runs-to received e =
+        record {
+          start = c;
+          within = omega arith;
+          few = omega arith;
+          received-is = run-received f n first others others-symbols others-none-open others-most ∙ sym e;
+          not-whole = run-not-whole f n first others (omega arith) others-symbols others-none-open others-most;
+          first-not = λ u z. let m = most (omega arith) in omega arith;
+          last-not = λ short z. last-less short (sym (ap (λ (h : Register). h .count) e) ∙ z);
+        }
+      where
+        last-less : (1 ≤ first .count → first .count + (end - next) < n) → runOf first others .count ≡ n → ⊥
+        last-less short z =
+            by-test (eqb (first .count) 0)
+            (λ y. let q : _≡_ {A = ℕ} 0 n = sym (run-count ∙ rw y) ∙ z in omega arith)
+            (λ m.
+            let some = eqb-false (first .count) 0 m in
+            let q : first .count + length others ≡ n = sym (run-count ∙ rw m) ∙ z in
+            let u = short (omega (arith, some)) in
+            omega (arith, others-long))
+
+-- the register's newest symbol is the one received last
+pub first-low : (f : Format) (n : ℕ) (h : Register) (ss : List ℕ) (from : ℕ) → getD ss from 0 ≤ 3 → receiveOf f n h (getD ss from 0) .newest % 4 ≡ getD ss (from + 1 - 1) 0
+first-low f n h ss from b =
+    let back : from + 1 - 1 ≡ from = omega arith in
+    rw back (ap (λ (w : ℕ). w % 4) (receive-newest f n h (getD ss from 0)) ∙ pushed-low (h .newest) (getD ss from 0) b)
+
 -- from index `from` on so many symbols are taken and `next` is the reader after them: the answers are Quiet but for the last, which is that of `next`
 pub record Strides (r : Reader) (ss : List ℕ) (from to : ℕ) (next : Reader) (taken : ℕ) : Type 0 where
   pub some : 1 ≤ taken
@@ -209,99 +267,63 @@ pub record Strides (r : Reader) (ss : List ℕ) (from to : ℕ) (next : Reader) 
   pub quiet : (none : Answer) (k : ℕ) → k + 1 < taken → getD (answers r (slice ss from (from + taken))) k none ≡ Quiet
   pub last : (none : Answer) → getD (answers r (slice ss from (from + taken))) (taken - 1) none ≡ answerAfter next
 
-module _ (r : Reader) (ss : List ℕ) (from stop to : ℕ) (v : Ready r) (a : from < stop) (b : stop ≤ to) (l : to ≤ length ss) (below : SymbolsBelow ss to) where
+-- the first symbol, then a run
+module _ (r : Reader) (ss : List ℕ) (from end to n : ℕ) (first received : Register) (stop place : ℕ) (after : Reader)
+    (v : Ready r) (l : to ≤ length ss) (below : SymbolsBelow ss to) (en : n ≡ size (r .format)) (ef : first ≡ receiveOf (r .format) n (r .received) (getD ss from 0))
+    (run : Runs (r .format) n first ss (from + 1) end to received stop) (ep : place ≡ (r .place + (stop - from)) % n) (ea : after ≡ withRegister r place received) where
   abbrev f : Format
   f = r .format
 
-  abbrev n : ℕ
-  n = size (r .format)
+  abbrev rest : List ℕ
+  rest = slice ss (from + 1) stop
 
-  abbrev first : Register
-  first = receiveOf f n (r .received) (getD ss from 0)
+  abbrev taken-symbols : List ℕ
+  taken-symbols = getD ss from 0 ∷ rest
 
-  abbrev others : List ℕ
-  others = slice ss (from + 1) stop
+  cons : slice ss from stop ≡ taken-symbols
+  cons = slice-cons ss from stop (omega (arith, run .start)) (omega (arith, run .within))
 
-  others-long : length others ≡ stop - (from + 1)
-  others-long = length-slice ss (from + 1) stop (omega arith) (omega arith)
+  taken-long : length (slice ss from stop) ≡ stop - from
+  taken-long = length-slice ss from stop (omega (arith, run .start)) (omega (arith, run .within))
 
-  others-at : (j : ℕ) → j < length others → getD others j 0 ≡ getD ss (from + 1 + j) 0
-  others-at j h = slice-at ss (from + 1) stop j (omega (arith, others-long))
+  all-symbols : AllSymbols taken-symbols
+  all-symbols = subst AllSymbols cons (λ j h. rw (slice-at ss from stop j (omega (arith, taken-long))) (below (from + j) (omega (arith, taken-long, run .within))))
 
-  others-symbols : AllSymbols others
-  others-symbols j h = rw (others-at j h) (below (from + 1 + j) (omega (arith, others-long)))
-
-  first-symbol : getD ss from 0 ≤ 3
-  first-symbol = below from (omega arith)
-
-  all-symbols : AllSymbols (getD ss from 0 ∷ others)
-  all-symbols zero h = first-symbol
-  all-symbols (suc j) h = others-symbols j (omega arith)
-
-  first-low : first .newest % 4 ≡ getD ss from 0
-  first-low = ap (λ (w : ℕ). w % 4) (receive-newest f n (r .received) (getD ss from 0)) ∙ pushed-low (r .received .newest) (getD ss from 0) first-symbol
-
-  -- whatever the register after the others is, if no frame is whole before the last symbol
-  strides-by : (received : Register) → receiveAll f n first others ≡ received → NotWholeBefore f n (r .received) (getD ss from 0 ∷ others) → (next : Reader) → next ≡ whenWhole (withRegister r ((r .place + (stop - from)) % n) received) → Strides r ss from to next (stop - from)
+  received-is : receiveAll f n (r .received) taken-symbols ≡ received
   unfolding receiveAll
-  strides-by received is-received un next e =
-      let there : from + (stop - from) ≡ stop = omega arith in
-      let cons = slice-cons ss from stop a (omega arith) in
-      let long : suc (length others) ≡ stop - from = omega (arith, others-long) in
-      let after = stride-reader r (getD ss from 0) others v all-symbols un in
-      let is : next ≡ readerAfter r (slice ss from stop) = e ∙ sym (ap (readerAfter r) cons ∙ rw (long, is-received) at after) in
+  received-is = ap (λ (h : Register). receiveAll f n h rest) (sym ef) ∙ run .received-is
+
+  not-whole-from : (xs : List ℕ) → xs ≡ rest → NotWholeBefore f n first xs → NotWholeBefore f n (r .received) (getD ss from 0 ∷ xs)
+  not-whole-from [] e u = tt
+  not-whole-from (y ∷ ys) e u =
+      let some : from + 1 < stop = let long : suc (length ys) ≡ stop - (from + 1) = ap length e ∙ length-slice ss (from + 1) stop (run .start) (omega (arith, run .within)) in omega arith in
+      rw (← ef) (run .first-not some, u)
+
+  not-whole : NotWholeBefore f (size f) (r .received) taken-symbols
+  not-whole = rw (← en) (not-whole-from rest refl (run .not-whole))
+
+  -- a frame that began with the first symbol and is whole is the symbols themselves
+  pub frame-way : stop - from ≡ n → after .received .count ≡ n → frameOf (after .received) n ≡ slice ss from stop
+  frame-way e c =
+      let same : after .received ≡ received = ap (λ (q : Reader). q .received) ea in
+      let is : received .count ≡ n = sym (ap (λ (h : Register). h .count) same) ∙ c in
+      let shown : ShowsLast received (slice ss from stop) = rw (cons, ← received-is) (last-all f n (r .received) [] taken-symbols all-symbols (last-none (r .received))) in
+      let none : length (slice ss from stop) - n ≡ 0 = omega (arith, taken-long) in
+      rw same (last-frame received (slice ss from stop) n (omega (arith, size-range f)) is (omega (arith, taken-long)) shown ∙ rw none)
+
+  pub advance-way : (next : Reader) → next ≡ whenWhole after → Strides r ss from to next (stop - from)
+  advance-way next es =
+      let there : from + (stop - from) ≡ stop = omega (arith, run .start) in
+      let long : suc (length rest) ≡ stop - from = sym (ap length cons) ∙ taken-long in
+      let whole : readerAfter r taken-symbols ≡ whenWhole (withRegister r ((r .place + (stop - from)) % n) received) = rw (long, ← en, received-is) at (stride-reader r (getD ss from 0) rest v all-symbols not-whole) in
+      let is : next ≡ readerAfter r (slice ss from stop) = es ∙ ap whenWhole ea ∙ rw ep (sym whole) ∙ sym (ap (readerAfter r) cons) in
       record {
-        some = omega arith;
-        within = omega arith;
+        some = omega (arith, run .start);
+        within = omega (arith, run .start, run .within);
         reader-is = rw there is;
-        quiet = λ none k h. rw (there, cons) (stride-quiet r (getD ss from 0) others v all-symbols un none k (omega (arith, long)));
-        last = λ none. let end : stop - from - 1 ≡ length others = omega (arith, long) in rw (there, end, is, cons) (stride-last r (getD ss from 0) others v all-symbols none);
+        quiet = λ none k h. rw (there, cons) (stride-quiet r (getD ss from 0) rest v all-symbols not-whole none k (omega (arith, long)));
+        last = λ none. let end-is : stop - from - 1 ≡ length rest = omega (arith, long) in rw (there, end-is, is, cons) (stride-last r (getD ss from 0) rest v all-symbols none);
       }
-
-  -- openings, each before the frame of the one before is whole
-  pub strides-open : from + 1 < stop → first .count ≡ 1 → CloseOpenings f n ss from (stop - 1) → (next : Reader) → next ≡ withRegister r ((r .place + (stop - from)) % n) (begunOf (pushAll (first .newest) others) 1 0) → Strides r ss from to next (stop - from)
-  strides-open more one close next e =
-      let there : stop - 1 + 1 ≡ stop = omega arith in
-      let two : 2 ≤ n = omega (arith, size-range f) in
-      let opened = rw there at (opened-last f n ss first from to two l below first-low one (stop - 1) close (omega arith) (omega arith)) in
-      let un : NotWholeBefore f n (r .received) (getD ss from 0 ∷ others) = never-before f n (r .received) (getD ss from 0 ∷ others) ((λ z. omega (arith, one, two)), opened .1) in
-      strides-by (begunOf (pushAll (first .newest) others) 1 0) (opened .0) un next (e ∙ sym (not-whole-same (withRegister r ((r .place + (stop - from)) % n) (begunOf (pushAll (first .newest) others) 1 0)) (λ z. omega (arith, two))))
-
-  module _ (none-open : (j : ℕ) → from + 1 ≤ j → j < stop → opensAt f ss j ≡ false) (most : 1 ≤ first .count → first .count + (stop - (from + 1)) ≤ n) where
-    none-opens : (j : ℕ) → j < length others → opensFrame f (getD (getD ss from 0 ∷ others) j 0) (getD others j 0) ≡ false
-    none-opens zero h =
-        let here : from + 1 + 0 - 1 ≡ from = omega arith in
-        let here-none = none-open (from + 1 + 0) (omega arith) (omega (arith, others-long)) in
-        rw (others-at 0 h) (rw here at here-none)
-    none-opens (suc j) h =
-        let here : from + 1 + suc j - 1 ≡ from + 1 + j = omega arith in
-        let here-none = none-open (from + 1 + suc j) (omega arith) (omega (arith, others-long)) in
-        rw (others-at (suc j) h, others-at j (omega arith)) (rw here at here-none)
-
-    others-none-open : NoneOpens f (first .newest % 4) others
-    others-none-open = rw first-low none-opens
-
-    others-most : 1 ≤ first .count → first .count + length others ≤ n
-    others-most h = rw others-long (most h)
-
-    pub received-is : receiveAll f n first others ≡ runOf first others
-    received-is = run-received f n first others others-symbols others-none-open others-most
-
-    -- a frame that began with the first symbol and is whole is the symbols themselves
-    pub frame-is : stop - from ≡ n → runOf first others .count ≡ n → frameOf (runOf first others) n ≡ slice ss from stop
-    frame-is e c =
-        by-test (eqb (first .count) 0)
-        (λ y. let z : _≡_ {A = ℕ} 0 n = rw y at c in let q : ⊥ = omega (arith, size-range f) in absurd q)
-        (λ m.
-        let some = eqb-false (first .count) 0 m in
-        let one : first .count ≡ 1 = let k = most (omega (arith, some)) in omega (arith, some) in
-        let sh = run-shows f n first (getD ss from 0 ∷ []) others others-symbols others-none-open (omega arith) (others-most (omega arith)) (begun-shows f n (r .received) (getD ss from 0) first-symbol one) in
-        let cons = slice-cons ss from stop a (omega arith) in
-        let long : length (slice ss from stop) ≡ n = length-slice ss from stop (omega arith) (omega arith) ∙ e in
-        whole-frame (runOf first others) (slice ss from stop) n (omega (arith, size-range f)) long (rw (← received-is, cons) sh))
-
-    pub strides : (next : Reader) → next ≡ whenWhole (withRegister r ((r .place + (stop - from)) % n) (runOf first others)) → Strides r ss from to next (stop - from)
-    strides next e = strides-by (runOf first others) received-is (first-not-whole f n (r .received) (getD ss from 0) others (size-positive f) others-symbols others-none-open others-most) next e
 
 -- ---- the ways out of the functions
 
@@ -310,31 +332,3 @@ unfolding whenWhole
 whole-way r n whole reading result e c f rd j =
     let same : readOf (r .format) whole ≡ readOf (r .format) (frameOf (r .received) (size (r .format))) = ap (readOf (r .format)) (sym f ∙ ap (frameOf (r .received)) e) in
     j ∙ rw (eq-eqb (r .received .count) (size (r .format)) (c ∙ e)) (ap (readerWithReading r) (rd ∙ same))
-
-module _ (r : Reader) (ss : List ℕ) (from to n : ℕ) (first : Register) (stop : ℕ) (received : Register) (place : ℕ) (after : Reader)
-    (v : Ready r) (l : to ≤ length ss) (below : SymbolsBelow ss to) (en : n ≡ size (r .format)) (ef : first ≡ receiveOf (r .format) n (r .received) (getD ss from 0)) (a : from < stop) (b : stop ≤ to)
-    (none-open : (j : ℕ) → from + 1 ≤ j → j < stop → opensAt (r .format) ss j ≡ false) (most : 1 ≤ first .count → first .count + (stop - (from + 1)) ≤ n)
-    (eh : received ≡ runOf first (slice ss (from + 1) stop)) (ep : place ≡ (r .place + (stop - from)) % n) (ea : after ≡ withRegister r place received) where
-  first-is : first ≡ receiveOf (r .format) (size (r .format)) (r .received) (getD ss from 0)
-  first-is = ef ∙ ap (λ (k : ℕ). receiveOf (r .format) k (r .received) (getD ss from 0)) en
-
-  most-is : 1 ≤ receiveOf (r .format) (size (r .format)) (r .received) (getD ss from 0) .count → receiveOf (r .format) (size (r .format)) (r .received) (getD ss from 0) .count + (stop - (from + 1)) ≤ size (r .format)
-  most-is = rw (first-is, en) at most
-
-  pub advance-way : (next : Reader) → next ≡ whenWhole after → Strides r ss from to next (stop - from)
-  advance-way next es = strides r ss from stop to v a b l below none-open most-is next (es ∙ rw (ea, ep, eh, first-is, en))
-
-  pub frame-way : stop - from ≡ n → after .received .count ≡ n → frameOf (after .received) n ≡ slice ss from stop
-  frame-way e c =
-      let whole : received ≡ runOf (receiveOf (r .format) (size (r .format)) (r .received) (getD ss from 0)) (slice ss (from + 1) stop) = eh ∙ ap (λ (h : Register). runOf h (slice ss (from + 1) stop)) first-is in
-      let same : after .received ≡ runOf (receiveOf (r .format) (size (r .format)) (r .received) (getD ss from 0)) (slice ss (from + 1) stop) = ap (λ (q : Reader). q .received) ea ∙ whole in
-      rw (en, same) (frame-is r ss from stop to v a b l below none-open most-is (e ∙ en) (sym (ap (λ (h : Register). h .count) same) ∙ c ∙ en))
-
-pub open-way : (r : Reader) (ss : List ℕ) (from to n : ℕ) (first : Register) (last : ℕ) (next : Reader) → Ready r → to ≤ length ss → SymbolsBelow ss to → n ≡ size (r .format) → first ≡ receiveOf (r .format) n (r .received) (getD ss from 0) → first .count ≡ 1 → from < last → last < to
-    → CloseOpenings (r .format) n ss from last
-    → next ≡ withRegister r ((r .place + (last + 1 - from)) % n) (begunOf (pushAll (first .newest) (slice ss (from + 1) (last + 1))) 1 0) → Strides r ss from to next (last + 1 - from)
-open-way r ss from to n first last next v l below en ef one a b close e =
-    let same : first ≡ receiveOf (r .format) (size (r .format)) (r .received) (getD ss from 0) = ef ∙ ap (λ (k : ℕ). receiveOf (r .format) k (r .received) (getD ss from 0)) en in
-    let there : last + 1 - 1 ≡ last = omega arith in
-    let close-there : CloseOpenings (r .format) (size (r .format)) ss from (last + 1 - 1) = rw (there, ← en) close in
-    strides-open r ss from (last + 1) to v (omega arith) (omega arith) l below (omega arith) (sym (ap (λ (h : Register). h .count) same) ∙ one) close-there next (e ∙ rw (same, en))

@@ -3,13 +3,13 @@
 ghost use mathlib.Core.Path.{_≡_};
 ghost use mathlib.Core.Bool.{true};
 ghost use Prim.Native.Nat.{_+_, _-_, _%_, _≤_, _<_};
-ghost use lib.ListN.{length};
+ghost use lib.ListN.{getD, length};
 ghost use Rattle.timecode.specs.Formats.{size};
 ghost use Rattle.timecode.specs.Stream.{isSetting};
-ghost use Rattle.register.specs.Receiving.{begunOf, frameOf};
-ghost use Rattle.receive_many.specs.ManySymbols.{slice, pushAll, SymbolsBelow};
-ghost use Rattle.stream.specs.Feeding.{isValid, withRegister, whenWhole};
-ghost use Rattle.stride.specs.Strides.{runOf, Strides};
+ghost use Rattle.register.specs.Receiving.{frameOf};
+ghost use Rattle.receive_many.specs.ManySymbols.{slice, SymbolsBelow};
+ghost use Rattle.stream.specs.Feeding.{isValid, whenWhole};
+ghost use Rattle.stride.specs.Strides.{runOf, Runs, Strides};
 use frame::read;
 use layout::frame_size;
 use openings::last_opening;
@@ -24,11 +24,27 @@ use stream::Reader;
 use stream::reader_with_reading;
 use stream::when_whole;
 use stream::with_register;
+use timecode::Format;
 
 // The reader after a stride, and how many symbols it took.
 pub struct Stride {
     pub reader: Reader,
     pub taken: usize,
+}
+
+// The register after a run, and where it stopped.
+pub struct Run {
+    pub received: Register,
+    pub stop: usize,
+}
+
+fn run_to(received: Register, stop: usize) -> Run
+    ensures { λ r. ⌜ (r .received ≡ received) × (r .stop ≡ stop) ⌝ }
+{
+    Run {
+        received: received,
+        stop: stop,
+    }
 }
 
 // The furthest end of a stride: the frame's end, and outside a frame 4,096 symbols, so that the sum with the place is small.
@@ -87,7 +103,7 @@ fn when_whole_here(reader: Reader, n: usize, symbols: &[u8], from: usize, to: us
 }
 
 // It divides only where the sum is n or more.
-fn place_after_many(place: usize, taken: usize, n: usize) -> usize
+pub fn place_after_many(place: usize, taken: usize, n: usize) -> usize
     requires { ⌜ (place < 100) × (taken ≤ 4097) × (1 ≤ n) ⌝ }
     ensures { λ r. ⌜ r ≡ (place + taken) % n ⌝ }
 {
@@ -97,27 +113,31 @@ fn place_after_many(place: usize, taken: usize, n: usize) -> usize
     (place + taken) % n
 }
 
-// Openings, each before the frame of the one before is whole: a frame begins with the last of them.
-fn stride_of_openings(
-    reader: Reader,
-    first: Register,
+// Symbols after a first, up to the next opening or to an end that lies in the frame. Where the first began a frame, openings that come before it is whole go together.
+pub fn run_from(
+    format: Format,
     n: usize,
+    first: Register,
     symbols: &[u8],
-    from: usize,
-    stop: usize,
-) -> Stride
-    requires { ⌜ (reader .place < 100) × (1 ≤ n) × (from < stop) × (stop - from ≤ 4097) × (stop ≤ length (now symbols)) × SymbolsBelow (now symbols) stop ⌝ }
-    ensures { λ r. ⌜ (r .reader ≡ withRegister reader ((reader .place + (stop - from)) % n) (begunOf (pushAll (first .newest) (slice (now (symbols .entry)) (from + 1) stop)) 1 0)) × (r .taken ≡ stop - from) ⌝ }
+    next: usize,
+    end: usize,
+    to: usize,
+) -> Run
+    requires { ⌜ (2 ≤ n) × (n ≤ 100) × (1 ≤ next) × (next ≤ end) × (end ≤ to) × (to ≤ length (now symbols)) × (end - next ≤ 4096) × (1 ≤ first .count → first .count + (end - next) ≤ n) × (first .newest % 4 ≡ getD (now symbols) (next - 1) 0) × SymbolsBelow (now symbols) to ⌝ }
+    ensures { λ r. ⌜ Runs format n first (now (symbols .entry)) next end to (r .received) (r .stop) ⌝ }
 {
-    let newest = push_many(first.newest, symbols, from + 1, stop);
-    let received = begun(newest, 1, 0);
-    let taken = stop - from;
-    let place = place_after_many(reader.place, taken, n);
-    let next = with_register(reader, place, received);
-    Stride {
-        reader: next,
-        taken: taken,
+    let stop = next_opening(format, symbols, next, end);
+    if first.count == 1 {
+        if stop < end {
+            let from = next - 1;
+            let last = last_opening(format, symbols, n, from, openings_limit(from, to));
+            if from < last {
+                let newest = push_many(first.newest, symbols, next, last + 1);
+                return run_to(begun(newest, 1, 0), last + 1);
+            }
+        }
     }
+    run_to(receive_run(first, symbols, next, stop), stop)
 }
 
 // From one index on, up to another at most.
@@ -130,16 +150,9 @@ pub fn advance(reader: Reader, symbols: &[u8], from: usize, to: usize) -> Stride
     let first = receive(format, n, reader.received, symbols[from]);
     let next = from + 1;
     let end = stride_limit(first.count, n, next, to);
-    let stop = next_opening(format, symbols, next, end);
-    if first.count == 1 {
-        if stop < end {
-            let last = last_opening(format, symbols, n, from, openings_limit(from, to));
-            if from < last {
-                return stride_of_openings(reader, first, n, symbols, from, last + 1);
-            }
-        }
-    }
-    let received = receive_run(first, symbols, next, stop);
+    let others = run_from(format, n, first, symbols, next, end, to);
+    let received = others.received;
+    let stop = others.stop;
     let taken = stop - from;
     let place = place_after_many(reader.place, taken, n);
     let after = with_register(reader, place, received);
