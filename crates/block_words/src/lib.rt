@@ -1,13 +1,11 @@
-// A block's answer as C's struct, by value, and what a block brought put into the caller's fourteen words.
-// Any words are allowed. The definitions, and each field against the answer's result, stand in specs/.
+// A block's answer as C's struct, by value.
+// The definitions, each field against the answer's result, and the words after a block stand in specs/.
 ghost use mathlib.Core.Path.{_≡_};
 ghost use Rattle.block.specs.Blocks.{stopNumber};
-ghost use Rattle.block_words.specs.BlockWords.{blockResultOf, fedBlockWith, blockWordsLeft};
+ghost use Rattle.block_words.specs.BlockWords.{blockResultOf};
 use block::BlockAnswer;
 use block::Stop;
-use reader_words::put_words;
 use refusals::number_of;
-use stream::Reader;
 
 #[repr(C)]
 pub struct BlockResult {
@@ -49,16 +47,4 @@ pub fn block_result(answer: BlockAnswer) -> BlockResult
             reports: 0,
         },
     }
-}
-
-// What a block brought: the reader's new words, or nothing written where it was refused.
-pub fn put_block(next: Reader, answer: BlockAnswer, reader: &mut [u64; 14]) -> BlockResult
-    ensures { λ r. ⌜ r ≡ blockResultOf answer ⌝ }
-    ensures { λ _. ⌜ now (reader .exit) ≡ blockWordsLeft (fedBlockWith next answer) (now (reader .entry)) ⌝ }
-{
-    let result = block_result(answer);
-    if result.number == 0 {
-        put_words(reader, next);
-    }
-    result
 }

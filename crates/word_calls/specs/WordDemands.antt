@@ -25,12 +25,12 @@ use Rattle.block.specs.declared.BlockAnswer.{BlockAnswer}
 use Rattle.pulse_feed.specs.PulseFeeds.{feedPulseOf, refused-pulse-same-reader}
 use Rattle.reader_calls.specs.MixedCalls.{call-reader, calls-are-plain}
 use Rattle.reader_calls.specs.ReaderCalls.{ReaderCall, symbol, symbolInPlace, pulse, block, CallResult, symbolsFed, allFed, allAnswers, callResult, readerOf, callResults, readerAfterCalls, plainCallResults}
-use Rattle.ffi.specs.Fields.{refusal-numbered, feed-number}
+use Rattle.ffi.specs.Fields.{feed-number}
 use Rattle.ffi.specs.Structs.{feedResultOf}
-use Rattle.reader_words.specs.WordLaws.{Fits, words-back, fresh-fits, after-fits, into-words, left-fed}
+use Rattle.reader_words.specs.WordLaws.{Fits, words-back, fresh-fits, after-fits, left-fed}
 use Rattle.reader_words.specs.Words.{wordsFor, readerIn, freshResultOf, freshLeft, feedWords}
-use Rattle.block_words.specs.BlockFields.{block-number}
-use Rattle.block_words.specs.BlockWords.{fedBlockWith, feedBlockWords, blockWordsLeft}
+use Rattle.block_words.specs.BlockFields.{block-number, left-block}
+use Rattle.block_words.specs.BlockWords.{feedBlockWords}
 use Rattle.word_calls.specs.WordCalls.{feedPulseWords, wordsResult, wordsAfter, wordsResults, wordsAfterCalls, givenOf, numberGiven}
 
 -- ---- demand 1
@@ -52,10 +52,6 @@ pub refused-block-leaves-lists : (words ss : List ℕ) (l : Lists) (x : Refusal)
 refused-block-leaves-lists words ss l x h = refused-block-leaves (readerIn words) ss l x h .1
 
 -- ---- the words after a call are those of the reader that it gives back, refused or not
-
-left-block : (r next : Reader) (a : BlockAnswer) → ((x : Refusal) → a ≡ BlockAnswer.Refused x → next ≡ r) → blockWordsLeft (fedBlockWith next a) (wordsFor r) ≡ wordsFor next
-left-block r next (BlockAnswer.Taken taken reports why) h = into-words r next
-left-block r next (BlockAnswer.Refused x) h = rw (refusal-numbered x) (ap wordsFor (sym (h x refl)))
 
 left-words : (r : Reader) (c : ReaderCall) → Fits r → wordsAfter (wordsFor r) c ≡ wordsFor (readerOf r c)
 left-words r (symbol s) h = rw (words-back r h) (left-fed r (feedOf r s .reader) (feedOf r s .answer) (refused-feed-same-reader r s))

@@ -20,10 +20,11 @@ use Rattle.timecode.specs.declared.Format.{Format}
 use Rattle.layout.specs.Letters.{in-row, Other, other-row}
 use Rattle.following.specs.Rows.{opensFrame}
 use Rattle.register.specs.Receiving.{pushOf, begunOf, continuedOf, withWordOf, receiveOf}
+use Rattle.register.specs.Contents.{pushed-low, receive-newest, receive-most}
 use Rattle.register.specs.declared.Register.{Register}
 use Rattle.stream.specs.Feeding.{isValid, withRegister, whenWhole, withSymbolOf, nextOf, answerAfter, answerOf, feedOf}
 use Rattle.stream.specs.declared.Reader.{Reader}
-use Rattle.reader_words.specs.WordLaws.{Fits, words-back, no-letter, no-expression}
+use Rattle.reader_words.specs.WordLaws.{Fits, words-back, no-letter, no-expression, into-words}
 use Rattle.reader_words.specs.Words.{wordsFor, byteIn, readerIn, registerInto, wordsInto, feedWords, wordsLeft}
 
 abbrev pub formatIn : ℕ → ℕ → Format
@@ -149,7 +150,7 @@ expression-same : (l e : ℕ) → known (formatIn l e) ≡ true → byteIn e ≡
 unfolding byteIn
 expression-same l e k = by-test (ltb e 256) (λ y. rw y) (λ n. clash k (rw n (no-expression (byteIn l))))
 
-setting-same : (k : ℕ) → isSetting (byteIn k) ≡ true → byteIn k ≡ k
+pub setting-same : (k : ℕ) → isSetting (byteIn k) ≡ true → byteIn k ≡ k
 unfolding byteIn isSetting
 setting-same k h = by-test (ltb k 256) (λ y. rw y) (λ n. clash h (rw n))
 
@@ -161,7 +162,7 @@ isInside words s n = cond (isSymbol s) (cond (eqb (receiveOf (formatIn (getD wor
 
 module _ (r : Reader) (s n : ℕ) (h : Register) (k : known (r .format) ≡ true) (z : n ≡ size (r .format)) (inside : r .place < n) (is-set : isSetting (r .setting) ≡ true) (small : s ≤ 3)
     (got : receiveOf (r .format) n (r .received) s ≡ h) (not-whole : h .count ≡ n → ⊥) where
-  next-is : nextOf r s ≡ withRegister r ((r .place + 1) % n) h
+  pub next-is : nextOf r s ≡ withRegister r ((r .place + 1) % n) h
   unfolding nextOf withSymbolOf whenWhole isValid
   next-is = rw (k, ← z, lt-ltb (r .place) n inside, is-set, le-leb s 3 small, got, ne-eqb (h .count) n not-whole)
 
@@ -325,6 +326,26 @@ module _ (words : List ℕ) (s n : ℕ) (at : Ready words n) where
           rw (le-leb s 3 small, shut, ne-eqb (getD words 4 0) 0 some, lt-leb n (getD words 4 0) below)
           (by-test (eqb ((getD words 4 0 + 1) % 32) 0) (λ y. rw (y, eq-eqb (getD words 4 0 + 1) n (omega arith))) (λ k. rw (k, eq-eqb (getD words 4 0 + 1) n (omega arith)))) in
           (sym w, rw w)
+
+-- the words after a symbol with which no frame is whole: the frame under way is short of one symbol at least, and that symbol is the newest
+pub inside-left : (words : List ℕ) (s n : ℕ) → Ready words n → length words ≡ 14 → isInside words s n ≡ true → (left : List ℕ) → left ≡ cond (isInside words s n) (wordsLeft (feedWords words s) words) words
+    → (s ≤ 3) × ((getD left 4 0 < n) × (getD left 5 0 % 4 ≡ s))
+unfolding feedOf readerIn isInside wordsFor
+inside-left words s n at long i left e =
+    let f = formatIn (getD words 0 0) (getD words 1 0) in
+    let h = receiveOf f n (registerIn words) s in
+    by-test (isSymbol s)
+    (λ y.
+    let small = leb-true s 3 y in
+    let not-whole : h .count ≡ n → ⊥ = λ z. clash i (rw (y, eq-eqb (h .count) n z)) in
+    let quiet = inside-quiet words s n at i in
+    let is = next-is (readerIn words) s n h (at .is-known) (at .size-is) (at .inside) (at .is-set) small refl not-whole in
+    let next = withRegister (readerIn words) ((getD words 3 0 + 1) % n) h in
+    let into : left ≡ wordsInto words next = e ∙ rw (i, quiet, is) in
+    let packed : left ≡ wordsFor next = into ∙ ap (λ (ws : List ℕ). wordsInto ws next) (same-words words n at long) ∙ into-words (readerIn words) next in
+    let most : h .count ≤ n = receive-most f n (registerIn words) s (omega (arith, at .size-is, size-range f)) in
+    (small, (rw packed (omega (arith, most, not-whole)), rw packed (ap (λ (w : ℕ). w % 4) (receive-newest f n (registerIn words) s) ∙ pushed-low (getD words 5 0) s small))))
+    (λ k. clash i (rw k))
 
 pub ready-place : (words : List ℕ) (n : ℕ) → Ready words n → (getD words 3 0 < n) × (n ≤ 100)
 ready-place words n at = let b = size-range (formatIn (getD words 0 0) (getD words 1 0)) in let z = at .size-is in (at .inside, omega arith)

@@ -1,28 +1,33 @@
-// One Feed of a reader's fourteen words. Most symbols bring nothing and end no frame: for them the words that change are stored, and no reader is unpacked.
-// Every other Feed goes by value: the end of a frame, and what is refused.
+// One Feed of a reader's fourteen words: the words that change are stored, and no reader is unpacked.
+// Only what is refused goes by value, and words that do not fit.
 ghost use mathlib.Core.Path.{_≡_};
-ghost use mathlib.Core.Bool.{cond, _&&_};
-ghost use Prim.Native.Nat.{_+_, _/_, _≤_};
+ghost use mathlib.Core.Bool.{false, cond, _&&_};
+ghost use Prim.Native.Nat.{_+_, _/_, _%_, _≤_};
 ghost use lib.Dec.{leb};
-ghost use lib.ListN.{length, set};
+ghost use lib.ListN.{getD, length, set};
 ghost use Rattle.timecode.specs.Stream.{isSetting};
 ghost use Rattle.register.specs.Receiving.{begunOf};
 ghost use Rattle.ffi.specs.Structs.{feedResultOf};
 ghost use Rattle.reader_words.specs.Words.{byteIn, registerInto, feedWords, wordsLeft};
+ghost use Rattle.word_feed.specs.FrameEnds.{rowAt, wholeInto, endAnswer, isStored, wordsIfStored};
 ghost use Rattle.word_feed.specs.InPlace.{formatIn, otherSize, knownSize, timeFits, isReady, Ready, isInside};
 use ffi::FeedResult;
 use ffi::feed_result;
 use reader_words::byte_in;
 use reader_words::put_fed;
 use reader_words::reader_in;
+use register::Register;
 use register::opens_frame;
 use register::push;
 use register::row_before;
+use stream::Row;
 use stream::feed;
 use stream::place_after;
+use stream::row_with_frame;
 use timecode::Answer;
 use timecode::Format;
 use timecode::SPOILED;
+use timecode::Time;
 
 // The letters as words.
 const A: u64 = 65;
@@ -39,7 +44,7 @@ const H: u64 = 72;
 
 const X: u64 = 88;
 
-fn format_in(letter: u64, expression: u64) -> Format
+pub fn format_in(letter: u64, expression: u64) -> Format
     ensures { λ r. ⌜ r ≡ formatIn letter expression ⌝ }
 {
     Format {
@@ -101,7 +106,7 @@ pub fn known_size(letter: u64, expression: u64) -> u64
 }
 
 // Number 26 passes.
-fn is_set(setting: u64) -> bool
+pub fn is_set(setting: u64) -> bool
     ensures { λ r. ⌜ r ≡ isSetting (byteIn setting) ⌝ }
 {
     if 2 <= setting {
@@ -199,16 +204,96 @@ pub fn feed_inside(reader: &mut [u64; 14], symbol: u8, n: u64) -> bool
     false
 }
 
+pub fn row_at(count: u64, year: u64, day: u64, hundredths: u64, control: u64) -> Row
+    ensures { λ r. ⌜ r ≡ rowAt count year day hundredths control ⌝ }
+{
+    let time = Time {
+        year: (year % 256) as u8,
+        day: (day % 65536) as u16,
+        hundredths: (hundredths % 4294967296) as u32,
+    };
+    Row {
+        count: count as usize,
+        time: time,
+        control: control,
+    }
+}
+
+// The frame is whole: its full words stand already.
+fn put_whole(reader: &mut [u64; 14], place: u64, newest: u64, n: u64, row: Row)
+    ensures { λ _. ⌜ now (reader .exit) ≡ wholeInto (now (reader .entry)) place newest n row ⌝ }
+{
+    let time = row.time;
+    reader[10] = time.year as u64;
+    reader[11] = time.day as u64;
+    reader[12] = time.hundredths as u64;
+    reader[13] = row.control;
+    reader[9] = row.count as u64;
+    reader[5] = newest;
+    reader[4] = n;
+    reader[3] = place;
+}
+
+// The end of a frame, with the row that ends with it: stored, unless it reports and there is no room for the report.
+pub fn end_frame(reader: &mut [u64; 14], newest: u64, n: u64, row: Row, room: bool) -> Answer
+    requires { ⌜ Ready (now reader) n ⌝ }
+    ensures { λ r. ⌜ r ≡ endAnswer (getD (now (reader .entry)) 2 0) row ⌝ }
+    ensures { λ _. ⌜ now (reader .exit) ≡ cond (isStored room (endAnswer (getD (now (reader .entry)) 2 0) row)) (wholeInto (now (reader .entry)) ((getD (now (reader .entry)) 3 0 + 1) % n) newest n row) (now (reader .entry)) ⌝ }
+{
+    let place = place_after(reader[3] as usize, n as usize) as u64;
+    let time = row.time;
+    let control = row.control;
+    if reader[2] <= row.count as u64 {
+        if room {
+            put_whole(reader, place, newest, n, row);
+        }
+        return Answer::Report {
+            time: time,
+            control: control,
+        };
+    }
+    put_whole(reader, place, newest, n, row);
+    Answer::Quiet
+}
+
+// A symbol that is not fed inside a frame: above 3 it is refused, else a frame is whole with it, which is read out of the words.
+pub fn feed_outside(reader: &mut [u64; 14], symbol: u8, n: u64, room: bool) -> Answer
+    requires { ⌜ Ready (now reader) n × (length (now reader) ≡ 14) × (isInside (now reader) symbol n ≡ false) ⌝ }
+    ensures { λ r. ⌜ r ≡ feedWords (now (reader .entry)) symbol .answer ⌝ }
+    ensures { λ _. ⌜ now (reader .exit) ≡ wordsIfStored room (feedWords (now (reader .entry)) symbol) (now (reader .entry)) ⌝ }
+{
+    if SPOILED < symbol {
+        return feed_by_value(reader, symbol);
+    }
+    let newest = push(reader[5], symbol);
+    let received = Register {
+        count: n as usize,
+        newest: newest,
+        word0: reader[6],
+        word1: reader[7],
+        word2: reader[8],
+        row: reader[9] as usize,
+    };
+    let before = row_at(reader[9], reader[10], reader[11], reader[12], reader[13]);
+    let row = row_with_frame(
+        format_in(reader[0], reader[1]),
+        before,
+        received,
+        n as usize,
+    );
+    end_frame(reader, newest, n, row, room)
+}
+
 // A symbol fed to words that pass.
 fn feed_ready(reader: &mut [u64; 14], symbol: u8, n: u64) -> FeedResult
-    requires { ⌜ Ready (now reader) n ⌝ }
+    requires { ⌜ Ready (now reader) n × (length (now reader) ≡ 14) ⌝ }
     ensures { λ r. ⌜ r ≡ feedResultOf (feedWords (now (reader .entry)) symbol .answer) ⌝ }
     ensures { λ _. ⌜ now (reader .exit) ≡ wordsLeft (feedWords (now (reader .entry)) symbol) (now (reader .entry)) ⌝ }
 {
     if feed_inside(reader, symbol, n) {
         return feed_result(Answer::Quiet);
     }
-    feed_result(feed_by_value(reader, symbol))
+    feed_result(feed_outside(reader, symbol, n, true))
 }
 
 // Numbers 13 and 26 pass, with n of a known format, and the words of the time fit their widths. By value, the words are known to be fourteen.

@@ -18,7 +18,7 @@ is-ready-requires : tie.Need-is-ready-requires
 is-ready-requires c κs = search needs
 
 feed-ready-requires : tie.Need-feed-ready-requires
-feed-ready-requires c κs = ready (c .before .before .before .before .before .before .before .args .reader .now) (c .before .before .before .before .known-size .result) (c .before .before .before .before .known-size .ensures) (sym (c .before .before .is-ready .ensures .0) ∙ c .before .if1 .taken)
+feed-ready-requires c κs = (ready (c .before .before .before .before .before .before .before .args .reader .now) (c .before .before .before .before .known-size .result) (c .before .before .before .before .known-size .ensures) (sym (c .before .before .is-ready .ensures .0) ∙ c .before .if1 .taken), c .before .before .is-ready .ensures .1)
 
 returns : tie.Need-returns
 returns c = search needs

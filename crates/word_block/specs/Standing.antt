@@ -1,4 +1,4 @@
--- A block that is being fed: how many answers are taken, what they report, and the lent lists with these reports.
+-- A block that is being fed: how many answers are taken, what they report, the lent lists with these reports, and the reader so far.
 use mathlib.Core.Path.{_≡_, refl, sym, ap, ap₂, _∙_}
 use mathlib.Core.List.{List, [], _∷_, _++_, append-assoc, append-nil, map}
 use Prim.Native.Nat.{ℕ, zero, suc, _+_, _-_, _<_, _≤_}
@@ -11,17 +11,14 @@ use Rattle.timecode.specs.declared.Answer.{Answer}
 use Rattle.timecode.specs.declared.Answer.the-variants.{Quiet, Report}
 use Rattle.timecode.specs.declared.Refusal.{Refusal}
 use Rattle.timecode.specs.declared.Time.{Time}
-use Rattle.stream.specs.Feeding.{answerAfter, answerOf}
+use Rattle.stream.specs.Feeding.{answerOf}
 use Rattle.stream.specs.Refinement.{answers, readerAfter}
 use Rattle.stream.specs.declared.Reader.{Reader}
-use Rattle.stream.specs.FeedLists.{answers-at, length-feed-answers, reader-append, refused-above}
-use Rattle.stride.specs.ReadyReaders.{Ready, ready-after, reader-start}
-use Rattle.stride.specs.Strides.{Strides}
+use Rattle.stream.specs.FeedLists.{answers-at, length-feed-answers, reader-append}
+use Rattle.stride.specs.ReadyReaders.{reader-start}
 use Rattle.receive_many.specs.ManySymbols.{slice}
-use Rattle.openings.specs.Accepted.{acceptedIn, unaccepted-at}
 use Rattle.block.specs.Blocks.{Reported, reportAt, Block, stopped, withFirst, blockIn, blockOf, Lists, lists, roomIn, fieldLeft, indexOf, yearOf, dayOf, hundredthsOf, controlOf, listsLeft}
 use Rattle.block.specs.Folds.{followed, block-append, block-takes, all-taken}
-use Rattle.block_strides.specs.declared.Round.{Round}
 use Rattle.block.specs.declared.Stop.{Stop}
 use Rattle.block.specs.declared.Stop.the-variants.{AllTaken, UnknownSymbol, NoRoom}
 
@@ -196,18 +193,6 @@ module _ (from room : ℕ) (as′ : List Answer) where
           let none-left : left ≡ 0 = omega arith in
           stops-here (Report t w ∷ drop (suc i) as′) NoRoom (left-is (Report t w) is) (rw none-left)
 
--- ---- what a block returns
-
-abbrev pub roundAt : Reader → ℕ → ℕ → Stop → Round
-roundAt r taken reports why = record { reader = r; taken = taken; reports = reports; stop = why }
-
--- the reader after the symbols taken, how many they are, how many reports, and why it stopped
-abbrev pub returnedOf : Reader → List ℕ → Block → Round
-returnedOf r ss b = roundAt (readerAfter r (take (b .taken) ss)) (b .taken) (length (b .reports)) (b .stop)
-
-unfoldable pub roundOf : Reader → List ℕ → ℕ → Round
-roundOf r ss room = returnedOf r ss (blockOf r room ss)
-
 abbrev pub putSoFar : List Answer → Lists → ℕ → List Reported
 putSoFar as′ l i = soFar 0 (roomIn l) as′ i
 
@@ -270,10 +255,6 @@ module _ {as′ : List Answer} {l₀ : Lists} where
     pub standing-end : i ≡ length as′ → blockIn 0 (roomIn l₀) as′ ≡ stopsAt 0 (roomIn l₀) as′ i AllTaken
     standing-end e = reached-end 0 (roomIn l₀) as′ i (s .reached) e
 
--- what is returned, and how the lists are left
-abbrev pub Leaves : Reader → List ℕ → Lists → Round → Lists → Type 0
-Leaves r ss l₀ result l = (result ≡ roundOf r ss (roomIn l₀)) × (l ≡ putFrom 0 (blockOf r (roomIn l₀) ss .reports) l₀)
-
 -- ---- i symbols are fed to a reader
 
 pub record FedTo (r : Reader) (ss : List ℕ) (l₀ : Lists) (i reports : ℕ) (l : Lists) (current : Reader) : Type 0 where
@@ -283,31 +264,9 @@ pub record FedTo (r : Reader) (ss : List ℕ) (l₀ : Lists) (i reports : ℕ) (
 pub fed-start : (r : Reader) (ss : List ℕ) {l₀ : Lists} → FedTo r ss l₀ 0 0 l₀ r
 fed-start r ss = record { standing = standing-start; reader = reader-start r ss }
 
--- it stops there
-pub stopped-there : {r : Reader} {ss : List ℕ} {l₀ : Lists} {i reports : ℕ} {l : Lists} {current : Reader} {why : Stop} {result : Round} → FedTo r ss l₀ i reports l current
-    → blockOf r (roomIn l₀) ss ≡ stopsAt 0 (roomIn l₀) (answers r ss) i why → result ≡ roundAt current i reports why → Leaves r ss l₀ result l
-unfolding roundOf
-stopped-there {i = i} {why = why} g stops e = (e ∙ rw stops (ap₂ (λ (q : Reader) (k : ℕ). roundAt q i k why) (g .reader) (g .standing .counted)), rw stops (g .standing .filled))
-
 module _ {r : Reader} {ss : List ℕ} {l₀ : Lists} {i reports : ℕ} {l : Lists} {current : Reader} (g : FedTo r ss l₀ i reports l current) where
   pub fed-within : i ≤ length ss
   fed-within = omega (arith, g .standing .reached .0, length-feed-answers r ss)
-
-  -- no symbol is left
-  pub fed-end : {result : Round} → length ss ≤ i → result ≡ roundAt current i reports AllTaken → Leaves r ss l₀ result l
-  fed-end all e = stopped-there g (standing-end (g .standing) (omega (arith, all, fed-within, length-feed-answers r ss))) e
-
-  -- the next symbol is refused
-  pub fed-refused : {result : Round} → i < length ss → Ready current → 3 < getD ss i 0 → result ≡ roundAt current i reports UnknownSymbol → Leaves r ss l₀ result l
-  fed-refused h v b e =
-      stopped-there g (standing-refused (g .standing) (rw (length-feed-answers r ss) h) Quiet Refusal.UnknownSymbol (answers-at r ss Quiet i h ∙ ap (λ (q : Reader). answerOf q (getD ss i 0)) (sym (g .reader)) ∙ refused-above current (getD ss i 0) (v .0) (v .1) b)) e
-
-  pub fed-ready : Ready r → Ready current
-  fed-ready v = rw (g .reader) (ready-after r (take i ss) v)
-
-  -- all accepted symbols are fed, and one is left
-  pub fed-unknown : {result : Round} → Ready r → i ≡ acceptedIn ss → i < length ss → result ≡ roundAt current i reports UnknownSymbol → Leaves r ss l₀ result l
-  fed-unknown v is h e = fed-refused h (fed-ready v) (rw is (unaccepted-at ss (rw is at h))) e
 
   -- m symbols more
   module _ (m : ℕ) (within : i + m ≤ length ss) where
@@ -329,48 +288,10 @@ module _ {r : Reader} {ss : List ℕ} {l₀ : Lists} {i reports : ℕ} {l : List
     pub reader-slice : (next : Reader) → next ≡ readerAfter current (slice ss i (i + m)) → next ≡ readerAfter r (take (i + m) ss)
     reader-slice next e = e ∙ sym (ap (readerAfter r) (take-add i m ss) ∙ reader-append r (take i ss) (take m (drop i ss)) ∙ rw (mid, g .reader))
 
-  quiets : (m : ℕ) → i + m ≤ length ss → ((k : ℕ) → k < m → getD (answers r ss) (i + k) Quiet ≡ Quiet) → Standing (answers r ss) l₀ (i + m) reports l
+  -- none of which brings anything
+  pub quiets : (m : ℕ) → i + m ≤ length ss → ((k : ℕ) → k < m → getD (answers r ss) (i + k) Quiet ≡ Quiet) → Standing (answers r ss) l₀ (i + m) reports l
   quiets zero b q = rw (add-zero i) (g .standing)
   quiets (suc m) b q =
       let before = quiets m (omega arith) (λ k h. q k (omega arith)) in
       let on : i + m + 1 ≡ i + suc m = omega arith in
       rw on at (standing-quiet before (rw (length-feed-answers r ss) (omega arith)) Quiet (q m (omega arith)))
-
-  -- a stride
-  module _ {to : ℕ} {next : Reader} {taken : ℕ} (st : Strides current ss i to next taken) (bound : to ≤ length ss) where
-    inside : i + taken ≤ length ss
-    inside = omega (arith, st .within)
-
-    -- before its last symbol
-    before-last : Standing (answers r ss) l₀ (i + (taken - 1)) reports l
-    before-last = quiets (taken - 1) (omega (arith, inside)) (λ k b. answers-slice taken inside Quiet k (omega arith) ∙ st .quiet Quiet k (omega arith))
-
-    last-is : getD (answers r ss) (i + (taken - 1)) Quiet ≡ answerAfter next
-    last-is = answers-slice taken inside Quiet (taken - 1) (omega (arith, st .some)) ∙ st .last Quiet
-
-    last-within : i + (taken - 1) < length (answers r ss)
-    last-within = rw (length-feed-answers r ss) (omega (arith, inside, st .some))
-
-    at-end : i + (taken - 1) + 1 ≡ i + taken
-    at-end = omega (arith, st .some)
-
-    pub fed-quiet : answerAfter next ≡ Quiet → FedTo r ss l₀ (i + taken) reports l next
-    fed-quiet answered =
-        record {
-          standing = rw at-end at (standing-quiet before-last last-within Quiet (last-is ∙ answered));
-          reader = reader-slice taken inside next (st .reader-is);
-        }
-
-    module _ {t : Time} {w : ℕ} (answered : answerAfter next ≡ Report t w) where
-      pub fed-report : {l₁ : Lists} {index : ℕ} → reports < roomIn l → index ≡ 0 + (i + (taken - 1)) → l₁ ≡ setRecord l reports (reportAt index t w) → FedTo r ss l₀ (i + taken) (reports + 1) l₁ next
-      fed-report left there stored =
-          record {
-            standing = rw (stored, there, ← at-end) (standing-report before-last last-within Quiet t w (last-is ∙ answered) left);
-            reader = reader-slice taken inside next (st .reader-is);
-          }
-
-      pub fed-full : {before : Reader} {result : Round} → before ≡ readerAfter current (slice ss i (i + (taken - 1))) → reports ≡ roomIn l → result ≡ roundAt before (i + (taken - 1)) reports NoRoom → Leaves r ss l₀ result l
-      fed-full {before} {result} fed full e = stopped-there
-          (record { standing = before-last; reader = reader-slice (taken - 1) (omega (arith, inside)) before fed })
-          (standing-full before-last last-within Quiet t w (last-is ∙ answered) full)
-          e

@@ -1,9 +1,9 @@
 -- `are_equal` meets its contract.
 use borrow.Author.Tests.{eq-eqb, ne-eqb}
-use Rattle.block_feed.proofs.are_equal.Statement.{statement}
-use Rattle.block_feed.proofs.are_equal.Tie as tie
-use Rattle.block_feed.proofs.are_equal.Reads as reads
-use Rattle.block_feed.proofs.are_equal.Lts as lts
+use Rattle.word_block.proofs.are_equal.Statement.{statement}
+use Rattle.word_block.proofs.are_equal.Tie as tie
+use Rattle.word_block.proofs.are_equal.Reads as reads
+use Rattle.word_block.proofs.are_equal.Lts as lts
 
 returns : tie.Need-returns
 returns c = rw (eq-eqb _ _ (c .before .before .if1 .taken), eq-eqb _ _ (c .before .if2 .taken), eq-eqb _ _ (c .if3 .taken))
