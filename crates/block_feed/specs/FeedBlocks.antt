@@ -3,12 +3,10 @@ use mathlib.Core.Path.{_≡_, ap, ap₂, _∙_}
 use mathlib.Core.List.{List}
 use Prim.Native.Nat.{ℕ}
 use lib.ListN.{take}
-use Rattle.stream.specs.Refinement.{readerAfter}
 use Rattle.stream.specs.declared.Reader.{Reader}
 use Rattle.block.specs.Blocks.{Lists, blockFor, feedBlockOf, listsLeft}
 use Rattle.block.specs.Folds.{refused-block-leaves}
 use Rattle.block.specs.declared.BlockAnswer.{BlockAnswer}
-use Rattle.block.specs.declared.FedBlock.{FedBlock}
 use Rattle.reader_words.specs.WordLaws.{Fits, words-back, after-fits}
 use Rattle.reader_words.specs.Words.{wordsFor, readerIn}
 use Rattle.block_words.specs.BlockFields.{left-block}

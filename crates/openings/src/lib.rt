@@ -84,7 +84,10 @@ fn places(from: usize, to: usize) -> usize
     128
 }
 
-// Few places are looked at one by one: the first at which a frame may begin.
+// So few places are faster looked at one by one, as measured.
+const FEW_PLACES: usize = 16;
+
+// One by one: the first place at which a frame may begin.
 fn near_opening(format: Format, symbols: &[u8], from: usize, to: usize) -> usize
     requires { ⌜ (1 ≤ from) × (from ≤ to) × (to ≤ length (now symbols)) ⌝ }
     ensures { λ r. ⌜ (from ≤ r) × (r ≤ to) × ((j : ℕ) → from ≤ j → j < r → opensAt format (now (symbols .entry)) j ≡ false) ⌝ }
@@ -122,7 +125,7 @@ pub fn next_opening(format: Format, symbols: &[u8], from: usize, to: usize) -> u
     requires { ⌜ (1 ≤ from) × (from ≤ to) × (to ≤ length (now symbols)) ⌝ }
     ensures { λ r. ⌜ (from ≤ r) × (r ≤ to) × ((j : ℕ) → from ≤ j → j < r → opensAt format (now (symbols .entry)) j ≡ false) ⌝ }
 {
-    if to - from < 16 {
+    if to - from < FEW_PLACES {
         return near_opening(format, symbols, from, to);
     }
     far_opening(format, symbols, from, to)

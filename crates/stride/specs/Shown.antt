@@ -1,6 +1,5 @@
 -- What the register shows of the symbols that it received, whatever it held before them: the frame under way, if it began among them.
-use mathlib.Core.Path.{_≡_, refl, sym, ap, subst, _∙_}
-use mathlib.Core.Bool.{true, false}
+use mathlib.Core.Path.{_≡_, sym, ap, subst, _∙_}
 use mathlib.Core.List.{List, [], _∷_, _++_, append-assoc, append-nil}
 use Prim.Native.Nat.{ℕ, suc, _+_, _-_, _%_, _<_, _≤_}
 use native.Mathlib.Numerals.{add-one}
@@ -18,7 +17,7 @@ use Rattle.following.specs.Rows.{opensFrame}
 use Rattle.register.specs.Receiving.{pushOf, receiveOf, frameOf}
 use Rattle.register.specs.Contents.{Shows, whole-frame, shows-opened, shows-idle, shows-lost, shows-grown}
 use Rattle.register.specs.declared.Register.{Register}
-use Rattle.receive_many.specs.ManySymbols.{slice, receiveAll, joinedOf, AllSymbols, SymbolsBelow, receive-joins, joined-count}
+use Rattle.receive_many.specs.ManySymbols.{slice, receiveAll, AllSymbols, SymbolsBelow, receive-joins, joined-count}
 use Rattle.stream.specs.Feeding.{withRow, withRegister, readerWithReading, whenWhole, withSymbolOf, nextOf, feedOf}
 use Rattle.stream.specs.Refinement.{readerAfter}
 use Rattle.stream.specs.declared.Reader.{Reader}

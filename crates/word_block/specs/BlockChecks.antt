@@ -2,7 +2,7 @@
 use mathlib.Core.Path.{_≡_, refl, sym, ap, subst, _∙_}
 use mathlib.Core.Bool.{true, false, _&&_}
 use mathlib.Core.List.{List}
-use Prim.Native.Nat.{ℕ, _%_, _<_}
+use Prim.Native.Nat.{ℕ, _%_}
 use native.Mathlib.Omega.{arith}
 use borrow.Author.Tests.{lt-ltb, le-ltb}
 use lib.Dec.{ltb}
@@ -18,7 +18,7 @@ use Rattle.stream.specs.declared.Reader.{Reader}
 use Rattle.ffi.specs.Fields.{refusal-numbered}
 use Rattle.reader_words.specs.Words.{byteIn, readerIn, wordsInto}
 use Rattle.word_feed.specs.InPlace.{formatIn, timeFits, knownSize, isReady, Ready, ready}
-use Rattle.block.specs.Blocks.{Lists, areRecords, listsLeft, blockFor, blockAnswer, feedBlockOf}
+use Rattle.block.specs.Blocks.{Lists, areRecords, blockAnswer, feedBlockOf}
 use Rattle.block.specs.declared.BlockAnswer.{BlockAnswer}
 use Rattle.block_words.specs.BlockWords.{fedBlockWith, blockWordsLeft}
 use Rattle.word_block.specs.WordBlocks.{Gives, block-refused}

@@ -17,7 +17,7 @@ use Rattle.stream.specs.declared.Reader.{Reader}
 use Rattle.stream.specs.FeedLists.{answers-at, length-feed-answers, reader-append}
 use Rattle.stride.specs.ReadyReaders.{reader-start}
 use Rattle.receive_many.specs.ManySymbols.{slice}
-use Rattle.block.specs.Blocks.{Reported, reportAt, Block, stopped, withFirst, blockIn, blockOf, Lists, lists, roomIn, fieldLeft, indexOf, yearOf, dayOf, hundredthsOf, controlOf, listsLeft}
+use Rattle.block.specs.Blocks.{Reported, reportAt, Block, stopped, withFirst, blockIn, Lists, lists, roomIn, fieldLeft, indexOf, yearOf, dayOf, hundredthsOf, controlOf, listsLeft}
 use Rattle.block.specs.Folds.{followed, block-append, block-takes, all-taken}
 use Rattle.block.specs.declared.Stop.{Stop}
 use Rattle.block.specs.declared.Stop.the-variants.{AllTaken, UnknownSymbol, NoRoom}

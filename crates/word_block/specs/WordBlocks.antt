@@ -29,7 +29,7 @@ use Rattle.stride.specs.Shown.{frame-in-block}
 use Rattle.reader_words.specs.WordLaws.{words-back, words-fit, next-fits, into-words}
 use Rattle.reader_words.specs.Words.{wordsFor, readerIn, wordsInto, feedWords, wordsLeft}
 use Rattle.word_feed.specs.FrameEnds.{isStored, wordsIfStored, wholeRegister, received-whole}
-use Rattle.word_feed.specs.InPlace.{registerIn, Ready, isInside, same-words, ready-place, ready-valid, ready-setting, ready-format, words-ready, inside-quiet, inside-left}
+use Rattle.word_feed.specs.InPlace.{Ready, isInside, same-words, ready-place, ready-valid, ready-setting, ready-format, words-ready, inside-quiet, inside-left}
 use Rattle.word_stride.specs.WordRuns.{RunsIn}
 use Rattle.block.specs.Blocks.{Block, reportAt, blockOf, Lists, roomIn, areRecords, fieldLeft, listsLeft, blockFor, blockAnswer, feedBlockOf}
 use Rattle.block.specs.Folds.{block-takes}

@@ -1,13 +1,12 @@
 -- The Feed with which a frame is whole, in the caller's words: the row that ends with it, its answer and the words after it.
 use mathlib.Core.Path.{_≡_, refl, sym, ap, ap₂, _∙_}
-use mathlib.Core.Bool.{Bool, true, false, cond, _&&_}
+use mathlib.Core.Bool.{Bool, true, false, cond}
 use mathlib.Core.List.{List}
 use Prim.Native.Nat.{ℕ, _+_, _%_, _<_, _≤_}
 use native.Mathlib.Omega.{arith}
-use borrow.Author.Tests.{lt-ltb, le-leb, lt-leb, ltb-true, leb-false, eqb-true, eqb-false, eq-eqb, ne-eqb}
+use borrow.Author.Tests.{lt-ltb, le-leb, ltb-true, eqb-true, eq-eqb}
 use lib.Dec.{leb, ltb, eqb}
 use lib.ListN.{getD, length, set}
-use Rattle.timecode.specs.Answers.{answerResult}
 use Rattle.timecode.specs.Formats.{table, lookUp, rowOf, known, size}
 use Rattle.timecode.specs.Frames.{readOf}
 use Rattle.timecode.specs.Laws.Table.{everyFormat, of-every, size-range}
@@ -16,19 +15,17 @@ use Rattle.timecode.specs.Stream.{isSetting}
 use Rattle.timecode.specs.declared.Answer.{Answer}
 use Rattle.timecode.specs.declared.Answer.the-variants.{Quiet, Report}
 use Rattle.timecode.specs.declared.Format.{Format}
-use Rattle.timecode.specs.declared.Reading.{Reading}
-use Rattle.timecode.specs.declared.Refusal.{Refusal}
 use Rattle.following.specs.Rows.{opensFrame}
-use Rattle.register.specs.Receiving.{pushOf, begunOf, continuedOf, receiveOf, frameOf}
+use Rattle.register.specs.Receiving.{pushOf, continuedOf, receiveOf, frameOf}
 use Rattle.register.specs.declared.Register.{Register}
 use Rattle.stream.specs.FeedLists.{refused-above}
-use Rattle.stream.specs.Feeding.{isValid, rowIn, rowWith, readerWithRow, withRegister, readerWithReading, with-row-reading, whenWhole, withSymbolOf, nextOf, answerAfter, answerOf, feedOf}
+use Rattle.stream.specs.Feeding.{isValid, rowIn, rowWith, readerWithRow, withRegister, with-row-reading, whenWhole, withSymbolOf, nextOf, answerAfter, answerOf, feedOf}
 use Rattle.stream.specs.declared.Fed.{Fed}
 use Rattle.stream.specs.declared.Reader.{Reader}
 use Rattle.stream.specs.declared.Row.{Row}
 use Rattle.ffi.specs.Fields.{refusal-numbered}
 use Rattle.reader_words.specs.WordLaws.{into-words}
-use Rattle.reader_words.specs.Words.{wordsFor, byteIn, readerIn, wordsInto, feedWords, wordsLeft}
+use Rattle.reader_words.specs.Words.{wordsFor, readerIn, wordsInto, feedWords, wordsLeft}
 use Rattle.word_feed.specs.InPlace.{formatIn, registerIn, Ready, isInside, setting-same, same-words, ready-valid, ready-setting}
 
 -- the row in some words

@@ -3,7 +3,6 @@ use Rattle.stride.specs.Strides.{runs-open, runs-to}
 use mathlib.Core.Path.{ap, _∙_}
 use Prim.Native.Nat.{ℕ}
 use Rattle.register.specs.Receiving.{begunOf}
-use Rattle.register.specs.declared.Register.{Register}
 use native.Mathlib.Omega.{arith}
 use borrow.Author.Needs.{needs}
 use Rattle.stride.proofs.run_from.Statement.{statement}
