@@ -68,12 +68,15 @@ fn put_report(
     controls[at] = control;
 }
 
-// How far symbols are known to be 0 to 3, where `i` of them are. The whole block is looked through where its first run begins, so not for one symbol alone.
+// With fewer symbols left, a run takes longer than single Feeds, as measured, and none is begun.
+const FEWEST_IN_RUN: usize = 16;
+
+// How far symbols are known to be 0 to 3, where `i` of them are. The whole block is looked through where its first run begins.
 fn known_from(symbols: &[u8], i: usize, known: usize) -> usize
     requires { ⌜ (i ≤ acceptedIn (now symbols)) × (known ≤ acceptedIn (now symbols)) ⌝ }
     ensures { λ r. ⌜ (i ≤ r) × (r ≤ acceptedIn (now (symbols .entry))) ⌝ }
 {
-    if i == symbols.len() {
+    if symbols.len() - i < FEWEST_IN_RUN {
         return i;
     }
     if known < i {
