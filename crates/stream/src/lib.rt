@@ -130,7 +130,7 @@ pub fn place_after(place: usize, n: usize) -> usize
 }
 
 // The format of letter X, with its frame of 25: the newest word holds all of it.
-fn is_tape(format: Format, n: usize) -> bool
+pub fn is_tape(format: Format, n: usize) -> bool
     ensures { λ r. ⌜ r ≡ isTape format n ⌝ }
 {
     if format.letter == b'X' {
@@ -242,7 +242,7 @@ pub fn row_with_reading(format: Format, row: Row, reading: Reading) -> Row
 }
 
 // A whole frame of letter X, in the newest word: where an element does not fit it is refused, and which one is not asked.
-fn row_with_tape(format: Format, row: Row, word: u64) -> Row
+pub fn row_with_tape(format: Format, row: Row, word: u64) -> Row
     requires { ⌜ (isX format ≡ true) × (known format ≡ true) ⌝ }
     ensures { λ r. ⌜ r ≡ rowWith format row (readOf format (elementsIn word)) ⌝ }
 {

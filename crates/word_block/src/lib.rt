@@ -5,9 +5,13 @@ ghost use mathlib.Core.Bool.{true, false, _&&_};
 ghost use Prim.Native.Nat.{_+_, _-_, _≤_, _<_};
 ghost use lib.Dec.{eqb, ltb};
 ghost use lib.ListN.{getD, length};
+ghost use Rattle.timecode.specs.Frames.{readOf};
+ghost use Rattle.tape.specs.InWord.{elementsIn};
 ghost use Rattle.openings.specs.Accepted.{acceptedIn};
 ghost use Rattle.register.specs.Receiving.{frameOf};
 ghost use Rattle.receive_many.specs.ManySymbols.{slice};
+ghost use Rattle.stream.specs.Feeding.{rowWith};
+ghost use Rattle.stream.specs.Tapes.{isTape};
 ghost use Rattle.reader_words.specs.Words.{readerIn, feedWords};
 ghost use Rattle.word_feed.specs.FrameEnds.{wholeRegister, wordsIfStored};
 ghost use Rattle.word_feed.specs.InPlace.{Ready, isInside};
@@ -23,8 +27,12 @@ use block_words::block_result;
 use frame::read;
 use openings::accepted;
 use register::push;
+use stream::Row;
+use stream::is_tape;
 use stream::row_with_reading;
+use stream::row_with_tape;
 use timecode::Answer;
+use timecode::Format;
 use timecode::Refusal;
 use timecode::SPOILED;
 use timecode::Time;
@@ -85,7 +93,7 @@ fn known_from(symbols: &[u8], i: usize, known: usize) -> usize
     known
 }
 
-// The symbol i is refused, or the frame that it makes whole is read out of the words: in X, where one word has all of it, and where the block has not.
+// The symbol i is refused, or the block has not all of the frame that it makes whole.
 fn is_in_words(symbol: u8, i: usize, n: u64) -> bool
     requires { ⌜ 1 ≤ n ⌝ }
     ensures { λ r. ⌜ (r ≡ false → (symbol ≤ 3) × (n ≤ i + 1)) ⌝ }
@@ -93,13 +101,23 @@ fn is_in_words(symbol: u8, i: usize, n: u64) -> bool
     if SPOILED < symbol {
         return true;
     }
-    if n == 25 {
-        return true;
-    }
     i < (n - 1) as usize
 }
 
-// Symbol i is not fed inside a frame. A frame that is whole with it is read where it lies in the block, where it does.
+// The row with the frame that ends in the block, which is read where it lies: in X in the newest word, which has all of it.
+fn row_in_block(format: Format, n: u64, before: Row, newest: u64, symbols: &[u8], end: usize) -> Row
+    requires { ⌜ (n ≤ end) × (end ≤ length (now symbols)) × (isTape format n ≡ true → slice (now symbols) (end - n) end ≡ elementsIn newest) ⌝ }
+    ensures { λ r. ⌜ r ≡ rowWith format before (readOf format (slice (now (symbols .entry)) (end - n) end)) ⌝ }
+{
+    if is_tape(format, n as usize) {
+        return row_with_tape(format, before, newest);
+    }
+    let from = end - n as usize;
+    let reading = read(format, &symbols[from..end]);
+    row_with_reading(format, before, reading)
+}
+
+// Symbol i is not fed inside a frame. A frame that is whole with it is read in the block, where the block has all of it.
 fn feed_end(reader: &mut [u64; 14], n: u64, symbols: &[u8], i: usize, room: bool) -> Answer
     requires { ⌜ Ready (now reader) n × (length (now reader) ≡ 14) × (i < length (now symbols)) × (isInside (now reader) (getD (now symbols) i 0) n ≡ false) × (getD (now symbols) i 0 ≤ 3 → n ≤ i + 1 → frameOf (wholeRegister (now reader) (getD (now symbols) i 0) n) n ≡ slice (now symbols) (i + 1 - n) (i + 1)) ⌝ }
     ensures { λ r. ⌜ r ≡ feedWords (now (reader .entry)) (getD (now (symbols .entry)) i 0) .answer ⌝ }
@@ -112,10 +130,7 @@ fn feed_end(reader: &mut [u64; 14], n: u64, symbols: &[u8], i: usize, room: bool
     let newest = push(reader[5], symbol);
     let format = format_in(reader[0], reader[1]);
     let before = row_at(reader[9], reader[10], reader[11], reader[12], reader[13]);
-    let end = i + 1;
-    let from = end - n as usize;
-    let reading = read(format, &symbols[from..end]);
-    let row = row_with_reading(format, before, reading);
+    let row = row_in_block(format, n, before, newest, symbols, i + 1);
     end_frame(reader, newest, n, row, room)
 }
 

@@ -13,14 +13,11 @@ use Rattle.word_block.proofs.is_in_words.Lts as lts
 returns : tie.Need-returns
 returns c = λ h. clash refl h
 
-returns-2 : tie.Need-returns-2
-returns-2 c = λ h. clash refl h
-
 sub-result : tie.Need-sub-result
 sub-result c = search needs
 
-returns-3 : tie.Need-returns-3
-returns-3 c = λ h. let most = ltb-false (c .before .before .args .i) (c .before .before .args .n - 1) h in (c .before .if1 .left, omega arith)
+returns-2 : tie.Need-returns-2
+returns-2 c = λ h. let most = ltb-false (c .before .args .i) (c .before .args .n - 1) h in (c .if1 .left, omega arith)
 
 pub is-in-words-spec : {M : Type 1} → statement M
-is-in-words-spec = tie.close (tie.spec returns returns-2 sub-result returns-3)
+is-in-words-spec = tie.close (tie.spec returns sub-result returns-2)
