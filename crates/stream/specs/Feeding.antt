@@ -23,7 +23,7 @@ use Rattle.register.specs.declared.Register.{Register}
 use Rattle.stream.specs.declared.Fed.{Fed}
 use Rattle.stream.specs.declared.Made.{Made}
 use Rattle.stream.specs.declared.Reader.{Reader}
-use Rattle.stream.specs.declared.Row.{Row}
+use Rattle.stream.specs.declared.FrameRow.{FrameRow}
 
 -- no frame under way and no row, and the last symbols spoiled
 abbrev pub freshRegister : Register
@@ -57,17 +57,17 @@ abbrev pub withRegister : Reader → ℕ → Register → Reader
 withRegister r place h = record { format = r .format; setting = r .setting; place = place; received = h; time = r .time; control = r .control }
 
 -- the row that ends with the last whole frame, and with a whole frame's reading: accepted, it joins the row; refused, it ends it
-abbrev pub rowOf : ℕ → Time → ℕ → Row
-rowOf count time control = record { count = count; time = time; control = control }
+abbrev pub frameRowOf : ℕ → Time → ℕ → FrameRow
+frameRowOf count time control = record { count = count; time = time; control = control }
 
-abbrev pub rowIn : Reader → Row
-rowIn r = rowOf (r .received .row) (r .time) (r .control)
+abbrev pub rowIn : Reader → FrameRow
+rowIn r = frameRowOf (r .received .row) (r .time) (r .control)
 
-unfoldable pub rowWith : Format → Row → Reading → Row
-rowWith f q (Accepted t w) = rowOf (rowAfter f (q .count) (q .time) t) t w
-rowWith f q (Reading.Refused x) = rowOf 0 (q .time) (q .control)
+unfoldable pub rowWith : Format → FrameRow → Reading → FrameRow
+rowWith f q (Accepted t w) = frameRowOf (rowAfter f (q .count) (q .time) t) t w
+rowWith f q (Reading.Refused x) = frameRowOf 0 (q .time) (q .control)
 
-abbrev pub readerWithRow : Reader → Row → Reader
+abbrev pub readerWithRow : Reader → FrameRow → Reader
 readerWithRow r q = record { format = r .format; setting = r .setting; place = r .place; received = withRow (r .received) (q .count); time = q .time; control = q .control }
 
 -- the frame is whole

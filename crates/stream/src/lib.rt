@@ -11,7 +11,7 @@ ghost use Rattle.tape.specs.InWord.{elementsIn};
 ghost use Rattle.following.specs.Following.{rowAfter};
 ghost use Rattle.register.specs.Receiving.{frameOf};
 ghost use Rattle.stream.specs.Tapes.{isTape, isFirstDay, areSeconds, isSecondLater};
-ghost use Rattle.stream.specs.Feeding.{isValid, madeOf, withRow, rowOf, rowIn, rowWith, readerWithRow, withRegister, readerWithReading, whenWhole, withSymbolOf, nextOf, answerAfter, answerOf, feedOf};
+ghost use Rattle.stream.specs.Feeding.{isValid, madeOf, withRow, frameRowOf, rowIn, rowWith, readerWithRow, withRegister, readerWithReading, whenWhole, withSymbolOf, nextOf, answerAfter, answerOf, feedOf};
 use clock::next_after;
 use frame::read;
 use layout::frame_size;
@@ -39,7 +39,7 @@ pub struct Reader {
 }
 
 // The accepted frames in a row that end with the last whole frame: how many they are, and the last one's time and control word.
-pub struct Row {
+pub struct FrameRow {
     pub count: usize,
     pub time: Time,
     pub control: u64,
@@ -202,10 +202,10 @@ fn row_after(format: Format, row: usize, before: Time, time: Time) -> usize
     1
 }
 
-fn row_of(count: usize, time: Time, control: u64) -> Row
-    ensures { λ r. ⌜ r ≡ rowOf count time control ⌝ }
+fn frame_row(count: usize, time: Time, control: u64) -> FrameRow
+    ensures { λ r. ⌜ r ≡ frameRowOf count time control ⌝ }
 {
-    Row {
+    FrameRow {
         count: count,
         time: time,
         control: control,
@@ -228,21 +228,21 @@ fn read_received(format: Format, register: Register, n: usize) -> Reading
 }
 
 // A whole frame's reading: accepted, it joins the row; refused, it ends it.
-pub fn row_with_reading(format: Format, row: Row, reading: Reading) -> Row
+pub fn row_with_reading(format: Format, row: FrameRow, reading: Reading) -> FrameRow
     ensures { λ r. ⌜ r ≡ rowWith format row reading ⌝ }
 {
     let before = row.time;
     match reading {
         Reading::Accepted { time, control } => {
             let count = row_after(format, row.count, before, time);
-            row_of(count, time, control)
+            frame_row(count, time, control)
         }
-        Reading::Refused(_) => row_of(0, before, row.control),
+        Reading::Refused(_) => frame_row(0, before, row.control),
     }
 }
 
 // A whole frame of letter X, in the newest word: where an element does not fit it is refused, and which one is not asked.
-pub fn row_with_tape(format: Format, row: Row, word: u64) -> Row
+pub fn row_with_tape(format: Format, row: FrameRow, word: u64) -> FrameRow
     requires { ⌜ (isX format ≡ true) × (known format ≡ true) ⌝ }
     ensures { λ r. ⌜ r ≡ rowWith format row (readOf format (elementsIn word)) ⌝ }
 {
@@ -250,11 +250,11 @@ pub fn row_with_tape(format: Format, row: Row, word: u64) -> Row
         return row_with_reading(format, row, word_meaning(word));
     }
     let time = row.time;
-    row_of(0, time, row.control)
+    frame_row(0, time, row.control)
 }
 
 // A whole frame is read, once.
-pub fn row_with_frame(format: Format, row: Row, received: Register, n: usize) -> Row
+pub fn row_with_frame(format: Format, row: FrameRow, received: Register, n: usize) -> FrameRow
     requires { ⌜ n ≤ 100 ⌝ }
     ensures { λ r. ⌜ r ≡ rowWith format row (readOf format (frameOf received n)) ⌝ }
 {
@@ -265,12 +265,12 @@ pub fn row_with_frame(format: Format, row: Row, received: Register, n: usize) ->
     row_with_reading(format, row, reading)
 }
 
-fn row_in(reader: Reader) -> Row
+fn row_in(reader: Reader) -> FrameRow
     ensures { λ r. ⌜ r ≡ rowIn reader ⌝ }
 {
     let received = reader.received;
     let time = reader.time;
-    row_of(received.row, time, reader.control)
+    frame_row(received.row, time, reader.control)
 }
 
 fn register_with_row(register: Register, row: usize) -> Register
@@ -286,7 +286,7 @@ fn register_with_row(register: Register, row: usize) -> Register
     }
 }
 
-fn with_row(reader: Reader, row: Row) -> Reader
+fn with_row(reader: Reader, row: FrameRow) -> Reader
     ensures { λ r. ⌜ r ≡ readerWithRow reader row ⌝ }
 {
     let format = reader.format;

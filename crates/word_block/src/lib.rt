@@ -27,7 +27,7 @@ use block_words::block_result;
 use frame::read;
 use openings::accepted;
 use register::push;
-use stream::Row;
+use stream::FrameRow;
 use stream::is_tape;
 use stream::row_with_reading;
 use stream::row_with_tape;
@@ -105,7 +105,14 @@ fn is_in_words(symbol: u8, i: usize, n: u64) -> bool
 }
 
 // The row with the frame that ends in the block, which is read where it lies: in X in the newest word, which has all of it.
-fn row_in_block(format: Format, n: u64, before: Row, newest: u64, symbols: &[u8], end: usize) -> Row
+fn row_in_block(
+    format: Format,
+    n: u64,
+    before: FrameRow,
+    newest: u64,
+    symbols: &[u8],
+    end: usize,
+) -> FrameRow
     requires { ⌜ (n ≤ end) × (end ≤ length (now symbols)) × (isTape format n ≡ true → slice (now symbols) (end - n) end ≡ elementsIn newest) ⌝ }
     ensures { λ r. ⌜ r ≡ rowWith format before (readOf format (slice (now (symbols .entry)) (end - n) end)) ⌝ }
 {

@@ -22,26 +22,26 @@ use Rattle.stream.specs.FeedLists.{refused-above}
 use Rattle.stream.specs.Feeding.{isValid, rowIn, rowWith, readerWithRow, withRegister, with-row-reading, whenWhole, withSymbolOf, nextOf, answerAfter, answerOf, feedOf}
 use Rattle.stream.specs.declared.Fed.{Fed}
 use Rattle.stream.specs.declared.Reader.{Reader}
-use Rattle.stream.specs.declared.Row.{Row}
+use Rattle.stream.specs.declared.FrameRow.{FrameRow}
 use Rattle.ffi.specs.Fields.{refusal-numbered}
 use Rattle.reader_words.specs.WordLaws.{into-words}
 use Rattle.reader_words.specs.Words.{wordsFor, readerIn, wordsInto, feedWords, wordsLeft}
 use Rattle.word_feed.specs.InPlace.{formatIn, registerIn, Ready, isInside, setting-same, same-words, ready-valid, ready-setting}
 
 -- the row in some words
-abbrev pub rowAt : ℕ → ℕ → ℕ → ℕ → ℕ → Row
+abbrev pub rowAt : ℕ → ℕ → ℕ → ℕ → ℕ → FrameRow
 rowAt count year day hundredths control = record { count = count; time = record { year = year % 256; day = day % 65536; hundredths = hundredths % 4294967296 }; control = control }
 
-abbrev pub rowOfWords : List ℕ → Row
+abbrev pub rowOfWords : List ℕ → FrameRow
 rowOfWords words = rowAt (getD words 9 0) (getD words 10 0) (getD words 11 0) (getD words 12 0) (getD words 13 0)
 
 -- the words that change with the end of a frame
-abbrev pub wholeInto : List ℕ → ℕ → ℕ → ℕ → Row → List ℕ
+abbrev pub wholeInto : List ℕ → ℕ → ℕ → ℕ → FrameRow → List ℕ
 wholeInto words place newest n row =
     set (set (set (set (set (set (set (set words 10 (row .time .year)) 11 (row .time .day)) 12 (row .time .hundredths)) 13 (row .control)) 9 (row .count)) 5 newest) 4 n) 3 place
 
 -- a report where the row is as long as the setting asks
-unfoldable pub endAnswer : ℕ → Row → Answer
+unfoldable pub endAnswer : ℕ → FrameRow → Answer
 endAnswer setting row = cond (leb setting (row .count)) (Report (row .time) (row .control)) Quiet
 
 -- whether the words change: they do not where a report has no room, or the symbol is refused
@@ -66,7 +66,7 @@ size-no-word : (f : Format) → known f ≡ true → size f % 32 ≡ 0 → ⊥
 size-no-word f k e = let some = ltb-true 0 (size f % 32) (of-every (λ g. ltb 0 (size g % 32)) no-word-full f k) in omega arith
 
 -- the words of the reader with a whole frame
-same-packed : (r : Reader) (place newest n : ℕ) (row : Row) → wordsFor (readerWithRow (withRegister r place (continuedOf (r .received) newest n)) row) ≡ wholeInto (wordsFor r) place newest n row
+same-packed : (r : Reader) (place newest n : ℕ) (row : FrameRow) → wordsFor (readerWithRow (withRegister r place (continuedOf (r .received) newest n)) row) ≡ wholeInto (wordsFor r) place newest n row
 unfolding wordsFor
 same-packed r place newest n row = refl
 
@@ -90,12 +90,12 @@ module _ (r : Reader) (s n : ℕ) (h : Register) (k : known (r .format) ≡ true
   abbrev after : Reader
   after = withRegister r ((r .place + 1) % n) h
 
-  next-is : (row : Row) → row ≡ rowWith (r .format) (rowIn after) (readOf (r .format) (frameOf h n)) → nextOf r s ≡ readerWithRow after row
+  next-is : (row : FrameRow) → row ≡ rowWith (r .format) (rowIn after) (readOf (r .format) (frameOf h n)) → nextOf r s ≡ readerWithRow after row
   unfolding nextOf withSymbolOf whenWhole isValid
   next-is row e =
       rw (k, ← z, lt-ltb (r .place) n inside, is-set, le-leb s 3 small, got, eq-eqb (h .count) n whole) (sym (with-row-reading after (readOf (r .format) (frameOf h n))) ∙ ap (readerWithRow after) (sym e))
 
-  answer-is : (row : Row) → nextOf r s ≡ readerWithRow after row → answerOf r s ≡ endAnswer (r .setting) row
+  answer-is : (row : FrameRow) → nextOf r s ≡ readerWithRow after row → answerOf r s ≡ endAnswer (r .setting) row
   unfolding answerOf answerAfter isValid endAnswer
   answer-is row e = rw (e, k, ← z, lt-ltb (r .place) n inside, is-set, le-leb s 3 small, eq-eqb (h .count) n whole)
 
@@ -136,7 +136,7 @@ module _ (words : List ℕ) (s n : ℕ) (at : Ready words n) (long : length word
       let q : h .count + 1 ≡ n = rw (y, e, l, d) at count-whole in
       rw (y, e, l, d) (ap (continuedOf h (pushOf (getD words 5 0) s)) q)))))
 
-  module _ (row : Row) (e : row ≡ rowWith f (rowOfWords words) (readOf f (frameOf (wholeRegister words s n) n))) where
+  module _ (row : FrameRow) (e : row ≡ rowWith f (rowOfWords words) (readOf f (frameOf (wholeRegister words s n) n))) where
     abbrev next : Reader
     next = readerWithRow (withRegister (readerIn words) ((getD words 3 0 + 1) % n) (wholeRegister words s n)) row
 

@@ -20,7 +20,7 @@ use register::Register;
 use register::opens_frame;
 use register::push;
 use register::row_before;
-use stream::Row;
+use stream::FrameRow;
 use stream::feed;
 use stream::place_after;
 use stream::row_with_frame;
@@ -204,7 +204,7 @@ pub fn feed_inside(reader: &mut [u64; 14], symbol: u8, n: u64) -> bool
     false
 }
 
-pub fn row_at(count: u64, year: u64, day: u64, hundredths: u64, control: u64) -> Row
+pub fn row_at(count: u64, year: u64, day: u64, hundredths: u64, control: u64) -> FrameRow
     ensures { λ r. ⌜ r ≡ rowAt count year day hundredths control ⌝ }
 {
     let time = Time {
@@ -212,7 +212,7 @@ pub fn row_at(count: u64, year: u64, day: u64, hundredths: u64, control: u64) ->
         day: (day % 65536) as u16,
         hundredths: (hundredths % 4294967296) as u32,
     };
-    Row {
+    FrameRow {
         count: count as usize,
         time: time,
         control: control,
@@ -220,7 +220,7 @@ pub fn row_at(count: u64, year: u64, day: u64, hundredths: u64, control: u64) ->
 }
 
 // The frame is whole: its full words stand already.
-fn put_whole(reader: &mut [u64; 14], place: u64, newest: u64, n: u64, row: Row)
+fn put_whole(reader: &mut [u64; 14], place: u64, newest: u64, n: u64, row: FrameRow)
     ensures { λ _. ⌜ now (reader .exit) ≡ wholeInto (now (reader .entry)) place newest n row ⌝ }
 {
     let time = row.time;
@@ -235,7 +235,7 @@ fn put_whole(reader: &mut [u64; 14], place: u64, newest: u64, n: u64, row: Row)
 }
 
 // The end of a frame, with the row that ends with it: stored, unless it reports and there is no room for the report.
-pub fn end_frame(reader: &mut [u64; 14], newest: u64, n: u64, row: Row, room: bool) -> Answer
+pub fn end_frame(reader: &mut [u64; 14], newest: u64, n: u64, row: FrameRow, room: bool) -> Answer
     requires { ⌜ Ready (now reader) n ⌝ }
     ensures { λ r. ⌜ r ≡ endAnswer (getD (now (reader .entry)) 2 0) row ⌝ }
     ensures { λ _. ⌜ now (reader .exit) ≡ cond (isStored room (endAnswer (getD (now (reader .entry)) 2 0) row)) (wholeInto (now (reader .entry)) ((getD (now (reader .entry)) 3 0 + 1) % n) newest n row) (now (reader .entry)) ⌝ }

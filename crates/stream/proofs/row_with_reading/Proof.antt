@@ -6,7 +6,7 @@ use Rattle.stream.proofs.row_with_reading.Tie as tie
 use Rattle.stream.proofs.row_with_reading.Reads as reads
 use Rattle.stream.proofs.row_with_reading.Lts as lts
 use Rattle.stream.proofs.row_after.Reads as row-after-reads
-use Rattle.stream.proofs.row_of.Reads as row-of-reads
+use Rattle.stream.proofs.frame_row.Reads as frame-row-reads
 
 enum-known-reading : tie.Need-enum-known-reading
 enum-known-reading c = search needs
@@ -14,22 +14,22 @@ enum-known-reading c = search needs
 row-after-requires : tie.Need-row-after-requires
 row-after-requires c κs = search needs
 
-row-of-requires : tie.Need-row-of-requires
-row-of-requires c κs = search needs
+frame-row-requires : tie.Need-frame-row-requires
+frame-row-requires c κs = search needs
 
 enum-told : tie.Need-enum-told
 enum-told c = search needs
 
-row-of-requires-2 : tie.Need-row-of-requires-2
-row-of-requires-2 c κs = search needs
+frame-row-requires-2 : tie.Need-frame-row-requires-2
+frame-row-requires-2 c κs = search needs
 
 returns : tie.Need-returns
 unfolding rowWith
-returns c = rw (c .before .before .before .reading .given .1, ← c .before .row-after .ensures) (c .row-of .ensures)
+returns c = rw (c .before .before .before .reading .given .1, ← c .before .row-after .ensures) (c .frame-row .ensures)
 
 returns-2 : tie.Need-returns-2
 unfolding rowWith
-returns-2 c = rw (c .before .enum-told .given .1) (c .row-of2 .ensures)
+returns-2 c = rw (c .before .enum-told .given .1) (c .frame-row2 .ensures)
 
 pub row-with-reading-spec : {M : Type 1} → statement M
 row-with-reading-spec =
@@ -37,8 +37,8 @@ row-with-reading-spec =
     (tie.spec
     enum-known-reading
     row-after-requires
-    row-of-requires
+    frame-row-requires
     enum-told
-    row-of-requires-2
+    frame-row-requires-2
     returns
     returns-2)
