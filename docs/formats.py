@@ -87,19 +87,12 @@ def read_x():
 
 
 def read_table():
-    """The marks, and the rows by letter and first expression, from the constants of the layout crate."""
+    """The rows by letter and first expression, from the constants of the layout crate."""
     source = TABLE.read_text(encoding="utf-8")
-
-    def array(name):
-        """The numbers of a constant list."""
-        found = re.search(rf"^const {name}: \[u8; (\d+)\] = \[(.*?)\];", source, re.M | re.S)
-        if not found:
-            fail(f"no constant {name} in {TABLE}")
-        values = numbers(found[2])
-        if len(values) != int(found[1]):
-            fail(f"constant {name} has {len(values)} numbers")
-        return values
-
+    found = re.search(r"^const WIDTHS: \[u8; \d+\] = \[(.*?)\];", source, re.M | re.S)
+    if not found:
+        fail(f"no constant WIDTHS in {TABLE}")
+    widths = numbers(found[1])
     rows = {}
     for name, body in re.findall(r"^const (\w+): Row = Row \{(.*?)^\};", source, re.M | re.S):
         row = {"letter": name[0]}
@@ -114,14 +107,19 @@ def read_table():
         if not runs:
             fail(f"row {name} has no runs")
         carried = runs[1].replace("_", "")[::-1]
-        row["starts"] = array("STARTS")
-        row["widths"] = [width if bit == "1" else 0 for width, bit in zip(array("WIDTHS"), carried)]
+        for field in ("digits", "controls", "years", "marks"):
+            found = re.search(rf"\b{field}: \[(.*?)\],", body, re.S)
+            if not found:
+                fail(f"row {name} has no {field}")
+            row[field] = numbers(found[1])
+        row["starts"] = row["digits"] + row["controls"] + row["years"]
+        row["widths"] = [width if bit == "1" else 0 for width, bit in zip(widths, carried)]
         if not len(carried) == len(row["widths"]) == len(row["starts"]) == len(RUNS):
             fail(f"row {name} has {len(carried)} runs")
         rows[row["letter"], row["first"]] = row
     if sorted(rows) != sorted(sum(PANELS, [])):
         fail(f"rows for the letters and first expressions {sorted(rows)}")
-    return array("MARKS"), rows
+    return rows
 
 
 def weight_text(weight):
@@ -138,13 +136,13 @@ def cells_of_x(n):
     return cells
 
 
-def cells_of(row, marks):
+def cells_of(row):
     """For each element its kind, the text in its cell and what it is in words."""
     n = row["elements"]
     if row["letter"] == "X":
         return cells_of_x(n)
     cells = [("index", "", "index marker")] * n
-    places = [mark for mark in marks if mark < n]
+    places = [mark for mark in row["marks"] if mark < n]
     for count, mark in enumerate(places):
         name = "r" if count == 0 else "0" if count == len(places) - 1 else str(count)
         cells[mark] = ("mark", "P" + name, f"mark P{name}")
@@ -213,8 +211,8 @@ def draw_cell(x, y, kind, content, words):
     return "".join(out)
 
 
-def draw_panel(x, y, row, marks):
-    cells = cells_of(row, marks)
+def draw_panel(x, y, row):
+    cells = cells_of(row)
     letter, n = row["letter"], row["elements"]
     takes = "–".join(str(expression) for expression in sorted({row["first"], row["last"]}))
     expressions = "expressions" if "–" in takes else "expression"
@@ -282,14 +280,14 @@ def draw_legend(x, y):
 
 
 def draw():
-    marks, rows = read_table()
+    rows = read_table()
     gap = WIDTH - 2 * MARGIN - 2 * PANEL
     body, y = [], MARGIN
     body += draw_legend(MARGIN + LABEL, y + 6)
     y += LEGEND
     for pair in PANELS:
         for column, key in enumerate(pair):
-            body += draw_panel(MARGIN + column * (PANEL + gap), y, rows[key], marks)
+            body += draw_panel(MARGIN + column * (PANEL + gap), y, rows[key])
         y += HEAD + max(lines(rows[key]["elements"]) for key in pair) * LINE + 14
     height = y + MARGIN - 8
     head = [

@@ -84,7 +84,7 @@ fn other_size(letter: u64) -> u64
     0
 }
 
-// n of a known format, 0 for any other. Every Feed and every short block asks this: the words are compared as they are, and no row is looked up.
+// n of a known format, 0 for any other. Every Feed and every block asks this: the words are compared as they are, and no row is looked up.
 pub fn known_size(letter: u64, expression: u64) -> u64
     ensures { λ r. ⌜ r ≡ knownSize letter expression ⌝ }
 {
