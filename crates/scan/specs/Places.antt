@@ -1,5 +1,5 @@
 -- The places that Scan looks at, one turn after another: `lowestOf` where a frame fits, and where none fits any more.
-use mathlib.Core.Path.{_≡_, sym, ap, _∙_}
+use mathlib.Core.Path.{_≡_, sym, _∙_}
 use mathlib.Core.Bool.{Bool, true, false, _&&_}
 use mathlib.Core.List.{List}
 use Prim.Native.Nat.{ℕ, suc, _+_, _-_, _<_, _≤_}
@@ -8,8 +8,8 @@ use native.Mathlib.Numerals.{add-one}
 use native.Mathlib.Omega.{arith}
 use borrow.Author.Tests.{eq-eqb}
 use lib.Dec.{eqb}
-use lib.ListN.{getD, length, take, drop}
-use lib.Seq.{getD-take, getD-drop}
+use lib.ListN.{getD, length, take, drop, length-drop}
+use lib.Seq.{getD-take, getD-drop, length-take-le}
 use Rattle.timecode.specs.Calls.{partAt, leadAt, found, lowestOf}
 use Rattle.timecode.specs.Formats.{isX, size}
 use Rattle.timecode.specs.Frames.{readOf}
@@ -26,6 +26,7 @@ use Rattle.timecode.specs.declared.Scanned.{Scanned}
 use Rattle.timecode.specs.declared.Scanned.the-variants.{Found, None}
 use Rattle.timecode.specs.declared.Time.{Time}
 use Rattle.openings.specs.Openings.{marksMeet}
+use Rattle.scan.specs.Spoiled.{NoneSpoiled, neverSpoiled, never-spoiled-inside, accepted-unspoiled}
 
 -- how many places there are from a on
 abbrev pub placesFrom : Format → List ℕ → ℕ → ℕ
@@ -33,10 +34,6 @@ placesFrom f recording a = length recording + 1 - (a + size f)
 
 abbrev pub lowestFrom : Format → List ℕ → ℕ → Scanned
 lowestFrom f recording a = lowestOf f recording (placesFrom f recording a) a
-
--- where what was found there is known, and how many before it
-pub meet-of : (m n a : ℕ) (recording : List ℕ) (r b : Bool) → m ≡ n → r ≡ marksMeet m recording a → r ≡ b → marksMeet n recording a ≡ b
-meet-of m n a recording r b e h y = ap (λ (k : ℕ). marksMeet k recording a) (sym e) ∙ sym h ∙ y
 
 part-first : (f : Format) (recording : List ℕ) (a : ℕ) → getD (partAt f recording a) 0 0 ≡ getD recording a 0
 unfolding partAt
@@ -67,17 +64,33 @@ module _ (f : Format) (recording : List ℕ) (a : ℕ) (room : a + size f ≤ le
   pub refused-here : (x : Refusal) → readOf f (partAt f recording a) ≡ Reading.Refused x → lowestFrom f recording a ≡ lowestFrom f recording (a + 1)
   refused-here x r = turn ∙ rw r (by-test (leadAt f recording a) (λ y. rw y) (λ m. rw m))
 
-  pub found-here : marksMeet (lead f) recording a ≡ true → (t : Time) (w : ℕ) → readOf f (partAt f recording a) ≡ Accepted t w → lowestFrom f recording a ≡ Found a t w
-  found-here m t w r = turn ∙ rw (lead-there f recording a (and-right (eqb (getD recording a 0) 2) (eqb (getD recording (a - lead f) 0) 2) m), r)
+  pub found-here : (m : ℕ) → m ≡ lead f → marksMeet m recording a ≡ true → (t : Time) (w : ℕ) → readOf f (partAt f recording a) ≡ Accepted t w → lowestFrom f recording a ≡ Found a t w
+  found-here m e y t w r = turn ∙ rw (lead-there f recording a (and-right (eqb (getD recording a 0) 2) (eqb (getD recording (a - lead f) 0) 2) (rw e at y)), r)
 
-  -- Where no marks meet, no frame is found: an accepted one begins with a mark.
-  pub passed-over : marksMeet (lead f) recording a ≡ false → lowestFrom f recording a ≡ lowestFrom f recording (a + 1)
-  passed-over m =
+  -- no element of an accepted frame is spoiled, in X none before the missing pulses
+  front-unspoiled : (t : Time) (w : ℕ) → readOf f (partAt f recording a) ≡ Accepted t w → NoneSpoiled (take (neverSpoiled f) (drop a recording))
+  unfolding partAt
+  front-unspoiled t w r k h =
+      let fits = never-spoiled-inside f in
+      let inside : k < neverSpoiled f = rw (length-take-le (neverSpoiled f) (drop a recording) (omega (arith, length-drop a recording))) at h in
+      let here : getD (take (size f) (drop a recording)) k 0 ≤ 2 = accepted-unspoiled f (partAt f recording a) t w r k inside in
+      rw (getD-take (neverSpoiled f) (drop a recording) k 0 inside) (rw (getD-take (size f) (drop a recording) k 0 (omega arith)) at here)
+
+  -- where no marks meet, no frame is found: an accepted one begins with a mark
+  unmet : marksMeet (lead f) recording a ≡ false → lowestFrom f recording a ≡ lowestFrom f recording (a + 1)
+  unmet m =
       by-reading (readOf f (partAt f recording a)) refused-here
       (λ t w r.
       let first : eqb (getD recording a 0) 2 ≡ true = eq-eqb (getD recording a 0) 2 (sym (part-first f recording a) ∙ accepted-first f (partAt f recording a) t w r) in
       let before : eqb (getD recording (a - lead f) 0) 2 ≡ false = rw first at m in
       turn ∙ rw (lead-missing f recording a first before))
+
+  -- nor where a test says no that says yes at marks that meet before elements of which none is spoiled
+  pub passed-over : (m n : ℕ) (r : Bool) → m ≡ lead f → n ≡ neverSpoiled f → (marksMeet m recording a ≡ true → NoneSpoiled (take n (drop a recording)) → r ≡ true) → r ≡ false → lowestFrom f recording a ≡ lowestFrom f recording (a + 1)
+  passed-over m n r e g may answer =
+      by-test (marksMeet (lead f) recording a)
+      (λ y. by-reading (readOf f (partAt f recording a)) refused-here (λ t w x. clash (may (rw e y) (rw g (front-unspoiled t w x))) answer))
+      unmet
 
 pub none-left : (f : Format) (recording : List ℕ) (a : ℕ) → length recording < a + size f → lowestFrom f recording a ≡ None
 unfolding lowestOf

@@ -1,13 +1,15 @@
 // Scan: the lowest place of a recording where a frame begins after a mark, in X after anything.
 ghost use mathlib.Core.Path.{_≡_};
-ghost use mathlib.Core.Bool.{cond};
-ghost use Prim.Native.Nat.{_≤_, _<_};
+ghost use mathlib.Core.Bool.{true, cond};
+ghost use Prim.Native.Nat.{ℕ, _+_, _≤_, _<_};
 ghost use lib.Dec.{leb};
-ghost use lib.ListN.{length};
+ghost use lib.ListN.{length, take, drop};
 ghost use Rattle.timecode.specs.Calls.{scanOf};
+ghost use Rattle.timecode.specs.Formats.{size};
 ghost use Rattle.timecode.specs.Stream.{lead};
 ghost use Rattle.openings.specs.Openings.{marksMeet};
 ghost use Rattle.scan.specs.Places.{lowestFrom};
+ghost use Rattle.scan.specs.Spoiled.{NoneSpoiled, neverSpoiled};
 use frame::read;
 use layout::frame_size;
 use layout::is_known;
@@ -39,6 +41,51 @@ fn marks_meet(marks: usize, recording: &[u8], place: usize) -> bool
     false
 }
 
+fn larger(first: u8, second: u8) -> u8
+    ensures { λ r. ⌜ ((bound : ℕ) → first ≤ bound → second ≤ bound → r ≤ bound) ⌝ }
+{
+    if first < second {
+        return second;
+    }
+    first
+}
+
+// No element is spoiled. It looks at all of them: a loop without an early return is compiled to look at many at a time.
+fn none_spoiled(part: &[u8]) -> bool
+    ensures { λ r. ⌜ (NoneSpoiled (now (part .entry)) → r ≡ true) ⌝ }
+{
+    let mut most = 0;
+    let mut i = 0;
+    while i < part.len() {
+        most = larger(most, part[i]);
+        i += 1;
+    }
+    most <= MARK
+}
+
+// So many elements from a frame's first on are never spoiled: all, in X those before the four missing pulses.
+fn never_spoiled(format: Format, n: usize) -> usize
+    requires { ⌜ n ≡ size format ⌝ }
+    ensures { λ r. ⌜ (r ≡ neverSpoiled format) × (r ≤ n) ⌝ }
+{
+    if format.letter == b'X' {
+        return 21;
+    }
+    n
+}
+
+// Marks meet at the place, and none of so many elements from it on is spoiled. Where one is, Read would refuse the frame, but not as fast.
+fn may_begin(marks: usize, whole: usize, recording: &[u8], place: usize) -> bool
+    requires { ⌜ (marks ≤ place) × (place < length (now recording)) × (place + whole ≤ length (now recording)) ⌝ }
+    ensures { λ r. ⌜ (r ≡ true → marksMeet marks (now (recording .entry)) place ≡ true) × (marksMeet marks (now (recording .entry)) place ≡ true → NoneSpoiled (take whole (drop place (now (recording .entry)))) → r ≡ true) ⌝ }
+{
+    if marks_meet(marks, recording, place) {
+        let end = place + whole;
+        return none_spoiled(&recording[place..end]);
+    }
+    false
+}
+
 // The lowest place from the first to the last at which a frame fits.
 fn lowest(format: Format, recording: &[u8], first: usize) -> Scanned
     requires { ⌜ lead format ≤ first ⌝ }
@@ -49,10 +96,11 @@ fn lowest(format: Format, recording: &[u8], first: usize) -> Scanned
         return Scanned::None;
     }
     let marks = marks_before(format);
+    let whole = never_spoiled(format, n);
     let last = recording.len() - n;
     let mut place = first;
     while place <= last {
-        if marks_meet(marks, recording, place) {
+        if may_begin(marks, whole, recording, place) {
             let end = place + n;
             let part = &recording[place..end];
             let Reading::Accepted { time, control } = read(format, part) else {

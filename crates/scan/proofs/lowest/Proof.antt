@@ -3,15 +3,15 @@ use borrow.Author.Needs.{needs}
 use native.Mathlib.Omega.{arith}
 use mathlib.Core.Path.{_≡_, refl, sym, _∙_}
 use Prim.Native.Nat.{_+_, _-_, _≤_}
-use Rattle.scan.specs.Places.{lowestFrom, meet-of, part-at, refused-here, found-here, passed-over, none-left}
+use Rattle.scan.specs.Places.{lowestFrom, part-at, refused-here, found-here, passed-over, none-left}
 use Rattle.scan.proofs.lowest.Statement.{statement}
 use Rattle.scan.proofs.lowest.Tie as tie
 
 abbrev Inv-loop : tie.InvT-loop
-Inv-loop format recording first n marks last place₀ place = (marks ≤ place) × (lowestFrom format recording first ≡ lowestFrom format recording place)
+Inv-loop format recording first n marks whole last place₀ place = (marks ≤ place) × (lowestFrom format recording first ≡ lowestFrom format recording place)
 
 abbrev μ-loop : tie.MeasureT-loop
-μ-loop format recording first n marks last place₀ place = last + 1 - place
+μ-loop format recording first n marks whole last place₀ place = last + 1 - place
 
 frame-size-requires : tie.Need-frame-size-requires Inv-loop μ-loop
 frame-size-requires c κs = search needs
@@ -25,11 +25,14 @@ sub-last c = omega arith
 marks-before-requires : tie.Need-marks-before-requires Inv-loop μ-loop
 marks-before-requires c κs = search needs
 
-loop-holds : tie.Need-loop-holds Inv-loop μ-loop
-loop-holds c = (omega (arith, c .before .before .before .before .pre, c .marks-before .ensures .0), refl)
+never-spoiled-requires : tie.Need-never-spoiled-requires Inv-loop μ-loop
+never-spoiled-requires c κs = c .before .before .frame-size .ensures .0
 
-marks-meet-requires : tie.Need-marks-meet-requires Inv-loop μ-loop
-marks-meet-requires c κs = (omega arith, omega (arith, c .before .before .before .before .frame-size .ensures))
+loop-holds : tie.Need-loop-holds Inv-loop μ-loop
+loop-holds c = (omega (arith, c .before .before .before .before .before .pre, c .before .marks-before .ensures .0), refl)
+
+may-begin-requires : tie.Need-may-begin-requires Inv-loop μ-loop
+may-begin-requires c κs = (omega arith, omega (arith, c .before .before .before .before .before .frame-size .ensures), omega (arith, c .before .before .never-spoiled .ensures .1))
 
 add-end : tie.Need-add-end Inv-loop μ-loop
 add-end c = omega arith
@@ -60,19 +63,20 @@ loop-less c = omega arith
 
 loop-again : tie.Need-loop-again Inv-loop μ-loop
 loop-again c =
-    let start = c .before .before .before .before .before .before .before .before .before .before .before .before in
-    let n = c .before .before .before .before .before .before .before .before .before .before .frame-size in
+    let start = c .before .before .before .before .before .before .before .before .before .before .before .before .before in
+    let n = c .before .before .before .before .before .before .before .before .before .before .before .frame-size in
     let reached = c .before .before .before .before .before .before .before .loop in
     let answer-is = sym (part-at (start .args .format) (start .args .recording .now) (reached .place) (n .result) (n .ensures .0)) ∙ sym (c .before .before .read .ensures) ∙ c .enum-told .given .1 in
     (omega arith, reached .inv .1 ∙ refused-here (start .args .format) (start .args .recording .now) (reached .place) (omega (arith, n .ensures .0)) _ answer-is)
 
 returns-2 : tie.Need-returns-2 Inv-loop μ-loop
 returns-2 c =
-    let start = c .before .before .before .before .before .before .before .before .before .before .before .before .before in
-    let n = c .before .before .before .before .before .before .before .before .before .before .before .frame-size in
+    let start = c .before .before .before .before .before .before .before .before .before .before .before .before .before .before in
+    let n = c .before .before .before .before .before .before .before .before .before .before .before .before .frame-size in
     let reached = c .before .before .before .before .before .before .before .before .loop in
     let answer-is = sym (part-at (start .args .format) (start .args .recording .now) (reached .place) (n .result) (n .ensures .0)) ∙ sym (c .before .before .before .read .ensures) ∙ c .before .time .given .1 in
-    sym (reached .inv .1 ∙ found-here (start .args .format) (start .args .recording .now) (reached .place) (omega (arith, n .ensures .0)) (meet-of _ _ (reached .place) (start .args .recording .now) _ _ (c .before .before .before .before .before .before .before .before .before .marks-before .ensures .0) (c .before .before .before .before .before .before .marks-meet .ensures) (c .before .before .before .before .before .if2 .taken)) _ _ answer-is)
+    let meet = c .before .before .before .before .before .before .may-begin .ensures .0 (c .before .before .before .before .before .if2 .taken) in
+    sym (reached .inv .1 ∙ found-here (start .args .format) (start .args .recording .now) (reached .place) (omega (arith, n .ensures .0)) _ (c .before .before .before .before .before .before .before .before .before .before .marks-before .ensures .0) meet _ _ answer-is)
 
 add-place-2 : tie.Need-add-place-2 Inv-loop μ-loop
 add-place-2 c = omega arith
@@ -82,13 +86,14 @@ loop-less-2 c = omega arith
 
 loop-again-2 : tie.Need-loop-again-2 Inv-loop μ-loop
 loop-again-2 c =
-    let start = c .before .before .before .before .before .before .before .before in
-    (omega arith, c .before .before .before .loop .inv .1 ∙ passed-over (start .args .format) (start .args .recording .now) (c .before .before .before .loop .place) (omega (arith, c .before .before .before .before .before .before .frame-size .ensures .0)) (meet-of _ _ (c .before .before .before .loop .place) (start .args .recording .now) _ _ (c .before .before .before .before .marks-before .ensures .0) (c .before .marks-meet .ensures) (c .if2 .left)))
+    let start = c .before .before .before .before .before .before .before .before .before in
+    let reached = c .before .before .before .loop in
+    (omega arith, reached .inv .1 ∙ passed-over (start .args .format) (start .args .recording .now) (reached .place) (omega (arith, c .before .before .before .before .before .before .before .frame-size .ensures .0)) _ _ _ (c .before .before .before .before .before .marks-before .ensures .0) (c .before .before .before .before .never-spoiled .ensures .0) (c .before .may-begin .ensures .1) (c .if2 .left))
 
 returns-3 : tie.Need-returns-3 Inv-loop μ-loop
 returns-3 c =
-    let start = c .before .before .before .before .before .before in
-    sym (c .before .loop .inv .1 ∙ none-left (start .args .format) (start .args .recording .now) (c .before .loop .place) (omega (arith, c .before .before .before .before .frame-size .ensures .0)))
+    let start = c .before .before .before .before .before .before .before in
+    sym (c .before .loop .inv .1 ∙ none-left (start .args .format) (start .args .recording .now) (c .before .loop .place) (omega (arith, c .before .before .before .before .before .frame-size .ensures .0)))
 
 pub lowest-spec : {M : Type 1} → statement M
 lowest-spec =
@@ -99,9 +104,10 @@ lowest-spec =
     frame-size-requires
     returns
     marks-before-requires
+    never-spoiled-requires
     sub-last
     loop-holds
-    marks-meet-requires
+    may-begin-requires
     add-end
     sub-part
     part-part-start
