@@ -6,8 +6,8 @@ use Prim.Native.Nat.{ℕ, _+_, _-_, _%_, _<_, _≤_}
 use native.Mathlib.Nat.{zero-add}
 use native.Mathlib.Numerals.{add-one}
 use native.Mathlib.Omega.{arith}
-use borrow.Author.Tests.{eqb-true, ltb-true, ltb-false, leb-true, leb-false}
-use lib.Dec.{eqb, ltb, leb}
+use borrow.Author.Tests.{eqb-true, leb-true, leb-false}
+use lib.Dec.{eqb, leb}
 use lib.ListN.{getD, length, take, set}
 use lib.Seq.{take-suc}
 use Rattle.timecode.specs.Formats.{isSymbol, size}
@@ -24,12 +24,13 @@ use Rattle.stream.specs.Refinement.{answers, readerAfter, symbol-leaves}
 use Rattle.stream.specs.declared.Reader.{Reader}
 use Rattle.register.specs.Receiving.{receiveOf, frameOf}
 use Rattle.receive_many.specs.ManySymbols.{slice}
-use Rattle.openings.specs.Accepted.{acceptedIn, accepted-within, accepted-at, unaccepted-at}
+use Rattle.openings.specs.Accepted.{acceptedIn, accepted-within, accepted-at}
 use Rattle.stride.specs.Shown.{frame-in-block}
 use Rattle.reader_words.specs.WordLaws.{words-back, words-fit, next-fits, into-words}
 use Rattle.reader_words.specs.Words.{wordsFor, readerIn, wordsInto, feedWords, wordsLeft}
 use Rattle.word_feed.specs.FrameEnds.{isStored, wordsIfStored, wholeRegister, received-whole}
 use Rattle.word_feed.specs.InPlace.{Ready, isInside, same-words, ready-place, ready-valid, ready-setting, ready-format, words-ready, inside-quiet, inside-left}
+use Rattle.word_stride.specs.FewSymbols.{accepted-more}
 use Rattle.word_stride.specs.WordRuns.{RunsIn}
 use Rattle.block.specs.Blocks.{Block, reportAt, blockOf, Lists, roomIn, areRecords, fieldLeft, listsLeft, blockFor, blockAnswer, feedBlockOf}
 use Rattle.block.specs.Folds.{block-takes}
@@ -71,18 +72,6 @@ module _ (r : Reader) (ss : List ℕ) (l : Lists) where
     rw (v, is-set, same, stops) (ap₂ (λ (q : Reader) (k : ℕ). takenBlock q i k why) (g .reader) (g .standing .counted)),
     rw (v, is-set, same) (g .standing .filled ∙ ap (λ (b : Block). putFrom 0 (b .reports) l) (sym stops) ∙ put-left (blockOf r (roomIn l) ss) l (block-takes 0 (roomIn l) (answers r ss) .fits) (records-even l same)),
   )
-
--- ---- how many symbols are accepted
-
-pub accepted-more : (ss : List ℕ) (i : ℕ) → i ≤ acceptedIn ss → i < length ss → getD ss i 0 ≤ 3 → i + 1 ≤ acceptedIn ss
-accepted-more ss i a l b =
-    by-test (ltb i (acceptedIn ss))
-    (λ y. let less = ltb-true i (acceptedIn ss) y in omega arith)
-    (λ n.
-    let same : i ≡ acceptedIn ss = let most = ltb-false i (acceptedIn ss) n in omega arith in
-    let above = unaccepted-at ss (rw same at l) in
-    let no : ⊥ = let here : 3 < getD ss i 0 = rw (← same) at above in omega arith in
-    absurd no)
 
 -- ---- i symbols are fed to the words
 
@@ -138,15 +127,15 @@ module _ {words₀ : List ℕ} {n : ℕ} {ss : List ℕ} {l₀ : Lists} {i repor
   in-still {left} outside e = let same : left ≡ words = rw outside at e in rw same outside
 
   -- a run
-  pub in-run : {to stop : ℕ} {left : List ℕ} → to ≤ acceptedIn ss → RunsIn words n ss i to left stop → FedIn words₀ n ss l₀ stop reports l left
-  in-run {to} {stop} {left} known run =
+  pub in-run : {stop : ℕ} {left : List ℕ} → RunsIn words n ss i (acceptedIn ss) left stop → FedIn words₀ n ss l₀ stop reports l left
+  in-run {stop} {left} run =
       let there : i + (stop - i) ≡ stop = omega (arith, run .start) in
-      let within : i + (stop - i) ≤ length ss = omega (arith, run .within, known, accepted-within ss, there) in
+      let within : i + (stop - i) ≤ length ss = omega (arith, run .within, accepted-within ss, there) in
       let same : slice ss i (i + (stop - i)) ≡ slice ss i stop = ap (slice ss i) there in
       let quiet = quiets (g .fed) (stop - i) within (λ k b. answers-slice (g .fed) (stop - i) within Quiet k b ∙ rw same (run .quiet Quiet k b)) in
       record {
         fed = record { standing = rw there at quiet; reader = rw there at (reader-slice (g .fed) (stop - i) within (readerIn left) (run .reader-is ∙ ap (readerAfter r) (sym same))) };
-        accepted = omega (arith, run .within);
+        accepted = run .within;
         ready = run .ready;
         long = run .long;
       }

@@ -43,6 +43,7 @@ use word_feed::format_in;
 use word_feed::is_set;
 use word_feed::known_size;
 use word_feed::row_at;
+use word_stride::FEW_SYMBOLS;
 use word_stride::feed_run;
 
 fn taken_at(symbols: usize, reports: usize, stop: Stop) -> BlockAnswer
@@ -76,21 +77,14 @@ fn put_report(
     controls[at] = control;
 }
 
-// With fewer symbols left, a run takes longer than single Feeds, as measured, and none is begun.
-const FEWEST_IN_RUN: usize = 16;
-
-// How far symbols are known to be 0 to 3, where `i` of them are. The whole block is looked through where its first run begins.
-fn known_from(symbols: &[u8], i: usize, known: usize) -> usize
-    requires { ⌜ (i ≤ acceptedIn (now symbols)) × (known ≤ acceptedIn (now symbols)) ⌝ }
-    ensures { λ r. ⌜ (i ≤ r) × (r ≤ acceptedIn (now (symbols .entry))) ⌝ }
+// How many symbols stand before the first above 3, of a block that has more than few: of few, each is looked at when it is received.
+fn known_in(symbols: &[u8]) -> usize
+    ensures { λ r. ⌜ (16 < length (now (symbols .entry)) → r ≡ acceptedIn (now (symbols .entry))) ⌝ }
 {
-    if symbols.len() - i < FEWEST_IN_RUN {
-        return i;
+    if symbols.len() <= FEW_SYMBOLS {
+        return 0;
     }
-    if known < i {
-        return accepted(symbols);
-    }
-    known
+    accepted(symbols)
 }
 
 // The symbol i is refused, or the block has not all of the frame that it makes whole.
@@ -156,14 +150,12 @@ fn feed_strides(
     ensures { λ _. ⌜ now (reader .exit) ≡ blockWordsLeft (feedBlockWords (now (reader .entry)) (now (symbols .entry)) (lists (now (indexes .entry)) (now (years .entry)) (now (days .entry)) (now (hundredths .entry)) (now (controls .entry)))) (now (reader .entry)) ⌝ }
     ensures { λ _. ⌜ lists (now (indexes .exit)) (now (years .exit)) (now (days .exit)) (now (hundredths .exit)) (now (controls .exit)) ≡ listsLeft (blockFor (readerIn (now (reader .entry))) (now (symbols .entry)) (lists (now (indexes .entry)) (now (years .entry)) (now (days .entry)) (now (hundredths .entry)) (now (controls .entry)))) (lists (now (indexes .entry)) (now (years .entry)) (now (days .entry)) (now (hundredths .entry)) (now (controls .entry))) ⌝ }
 {
-    let mut known = 0;
+    let known = known_in(symbols);
     let mut reports = 0;
     let mut i = 0;
     while i < symbols.len() {
         if feed_inside(reader, symbols[i], n) {
-            i += 1;
-            known = known_from(symbols, i, known);
-            i = feed_run(reader, n, symbols, i, known);
+            i = feed_run(reader, n, symbols, i + 1, known);
             continue;
         }
         let answer = feed_end(reader, n, symbols, i, reports < indexes.len());

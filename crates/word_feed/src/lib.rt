@@ -126,7 +126,7 @@ fn time_fits(year: u64, day: u64, hundredths: u64) -> bool
     false
 }
 
-fn put_begun(reader: &mut [u64; 14], place: u64, newest: u64, count: u64, row: u64)
+pub fn put_begun(reader: &mut [u64; 14], place: u64, newest: u64, count: u64, row: u64)
     ensures { λ _. ⌜ now (reader .exit) ≡ registerInto (now (reader .entry)) place (begunOf newest count row) ⌝ }
 {
     reader[9] = row;
@@ -138,7 +138,7 @@ fn put_begun(reader: &mut [u64; 14], place: u64, newest: u64, count: u64, row: u
     reader[3] = place;
 }
 
-fn put_continued(reader: &mut [u64; 14], place: u64, newest: u64, count: u64)
+pub fn put_continued(reader: &mut [u64; 14], place: u64, newest: u64, count: u64)
     ensures { λ _. ⌜ now (reader .exit) ≡ set (set (set (now (reader .entry)) 5 newest) 4 count) 3 place ⌝ }
 {
     reader[5] = newest;

@@ -43,6 +43,18 @@ runs-none words n ss from at long =
       long = long;
     }
 
+-- up to a further end
+pub runs-until : {words : List ℕ} {n : ℕ} {ss : List ℕ} {from to further : ℕ} {left : List ℕ} {stop : ℕ} → to ≤ further → RunsIn words n ss from to left stop → RunsIn words n ss from further left stop
+runs-until b run =
+    record {
+      start = run .start;
+      within = omega (arith, b, run .within);
+      reader-is = run .reader-is;
+      quiet = run .quiet;
+      ready = run .ready;
+      long = run .long;
+    }
+
 packed : (r : Reader) (place : ℕ) (h : Register) → registerInto (wordsFor r) place h ≡ wordsFor (withRegister r place h)
 unfolding wordsFor
 packed r place h = refl
