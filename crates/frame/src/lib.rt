@@ -241,7 +241,8 @@ fn offence_beside(places: &[u8], marks: &[u8], digits: &[u64], frame: &[u8]) -> 
     }
     let mut again = [0u8; 60];
     put_tens(marks, &mut again, 0, 6, head);
-    offence_in(&again, frame)
+    // The slice says that there are 60: else the loops would look at the last 12 singly.
+    offence_in(&again, &frame[0..60])
 }
 
 fn read_frame(row: Row, frame: &[u8]) -> Reading

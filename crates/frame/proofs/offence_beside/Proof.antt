@@ -4,7 +4,8 @@ use native.Mathlib.Omega.{arith}
 use mathlib.Core.Path.{_≡_, refl, sym, ap, _∙_}
 use mathlib.Core.List.{List}
 use Prim.Native.Nat.{ℕ}
-use lib.ListN.{length}
+use lib.ListN.{length, take}
+use lib.Seq.{length-take-le, take-all}
 use Rattle.elements.specs.RunBits.{putIn}
 use Rattle.elements.specs.Tens.{not-100, tens, length-tens}
 use Rattle.frame.specs.Exits.{put-60, put-100, beside-asked}
@@ -66,23 +67,35 @@ put-tens-requires-3 c κs = (c .before .before .before .before .before .before .
 slice-aggregate-offence-in-2 : tie.Need-slice-aggregate-offence-in-2
 slice-aggregate-offence-in-2 c = search needs
 
+sub-offence-in : tie.Need-sub-offence-in
+sub-offence-in c = search needs
+
+part-offence-in-start : tie.Need-part-offence-in-start
+part-offence-in-start c = search needs
+
+part-offence-in-end : tie.Need-part-offence-in-end
+part-offence-in-end c = let long = not-100 _ (c .before .before .before .before .before .before .before .before .before .before .before .pre .3) (c .before .before .before .before .if1 .left) in omega arith
+
 offence-in-requires-2 : tie.Need-offence-in-requires-2
 offence-in-requires-2 c κs =
-    let start = c .before .before .before .before .before .before .before .before .before .before .before in
-    let digits = start .args .digits .now in
-    let time = c .before .before .before .before .before .before .time-bits in
-    let middle = c .before .before .before .before .before .middle-bits in
-    let put = c .before .before .put-tens3 .ensures ∙ put-60 _ digits (time .result) (middle .result) (start .pre .2) (time .ensures .0) (middle .ensures .0) refl in
-    beside-asked 60 digits _ (start .args .frame .now) put (not-100 _ (start .pre .3) (c .before .before .before .before .if1 .left)) (omega arith)
-
-returns-2 : tie.Need-returns-2
-returns-2 c =
     let start = c .before .before .before .before .before .before .before .before .before .before .before .before in
     let digits = start .args .digits .now in
     let time = c .before .before .before .before .before .before .before .time-bits in
     let middle = c .before .before .before .before .before .before .middle-bits in
     let put = c .before .before .before .put-tens3 .ensures ∙ put-60 _ digits (time .result) (middle .result) (start .pre .2) (time .ensures .0) (middle .ensures .0) refl in
-    c .offence-in2 .ensures ∙ ap (λ (ss : List ℕ). offenceIn ss (start .args .frame .now)) (put ∙ ap (λ (n : ℕ). putIn n digits) (sym (not-100 _ (start .pre .3) (c .before .before .before .before .before .if1 .left))))
+    let long = not-100 _ (start .pre .3) (c .before .before .before .before .before .if1 .left) in
+    beside-asked 60 digits _ (take 60 (start .args .frame .now)) put (length-take-le 60 (start .args .frame .now) (omega arith)) (omega arith)
+
+returns-2 : tie.Need-returns-2
+returns-2 c =
+    let start = c .before .before .before .before .before .before .before .before .before .before .before .before .before in
+    let frame = start .args .frame .now in
+    let digits = start .args .digits .now in
+    let time = c .before .before .before .before .before .before .before .before .time-bits in
+    let middle = c .before .before .before .before .before .before .before .middle-bits in
+    let put = c .before .before .before .before .put-tens3 .ensures ∙ put-60 _ digits (time .result) (middle .result) (start .pre .2) (time .ensures .0) (middle .ensures .0) refl in
+    let long = not-100 _ (start .pre .3) (c .before .before .before .before .before .before .if1 .left) in
+    c .offence-in2 .ensures ∙ ap (λ (ss : List ℕ). offenceIn ss (take 60 frame)) (put ∙ ap (λ (n : ℕ). putIn n digits) (sym long)) ∙ ap (λ (ss : List ℕ). offenceIn (putIn (length frame) digits) ss) (take-all 60 frame (omega arith))
 
 pub offence-beside-spec : {M : Type 1} → statement M
 offence-beside-spec =
@@ -102,5 +115,8 @@ offence-beside-spec =
     slice-aggregate-put-tens-3
     put-tens-requires-3
     slice-aggregate-offence-in-2
+    sub-offence-in
+    part-offence-in-start
+    part-offence-in-end
     offence-in-requires-2
     returns-2)
