@@ -6,7 +6,7 @@ use Prim.Native.Nat.{ℕ, zero, suc, _+_, _*_, _-_, _^_, _<_, _≤_}
 use native.Mathlib.Nat.{zero-add, two-pow-succ}
 use native.Mathlib.Numerals.{add-one}
 use native.Mathlib.Omega.{arith}
-use borrow.Author.Tests.{leb-true, le-leb, lt-leb, eq-eqb, ne-eqb}
+use borrow.Author.Tests.{leb-true, le-leb, eq-eqb, ne-eqb}
 use lib.Dec.{leb, ltb, eqb}
 use lib.ListN.{getD, length, drop, drop-of-length-le}
 use lib.Pow.{pow-mono}
@@ -209,11 +209,8 @@ checked-all frame i answer h = rw (drop-of-length-le frame {i = i} h) refl
 
 -- ---- no symbol above 3
 
-pub symbols-more : (frame : List ℕ) (i : ℕ) → i < length frame → getD frame i 0 ≤ 3 → areSymbols (drop i frame) ≡ areSymbols (drop (i + 1) frame)
-symbols-more frame i h s = rw (drop-cons frame i 0 h, le-leb (getD frame i 0) 3 s, add-one i) refl
-
-pub symbols-not : (frame : List ℕ) (i : ℕ) → i < length frame → 3 < getD frame i 0 → areSymbols (drop i frame) ≡ false
-symbols-not frame i h s = rw (drop-cons frame i 0 h, lt-leb (getD frame i 0) 3 s) refl
+pub symbols-turn : (frame : List ℕ) (i : ℕ) → i < length frame → areSymbols (drop i frame) ≡ (leb (getD frame i 0) 3 && areSymbols (drop (i + 1) frame))
+symbols-turn frame i h = rw (drop-cons frame i 0 h, add-one i)
 
 pub symbols-end : (frame : List ℕ) (i : ℕ) → length frame ≤ i → areSymbols (drop i frame) ≡ true
 symbols-end frame i h = rw (drop-of-length-le frame {i = i} h) refl

@@ -2,13 +2,15 @@
 // first, and four spoiled elements. It assumes 25 elements; Write's checks and Read's first two are the caller's.
 ghost use mathlib.Core.Path.{_≡_};
 ghost use Prim.Native.Nat.{ℕ, _+_, _*_, _/_, _%_, _^_, _≤_, _<_};
-ghost use mathlib.Core.Bool.{true};
+ghost use mathlib.Core.Bool.{true, cond, _&&_};
+ghost use lib.Dec.{ltb};
 ghost use lib.ListN.{length};
 ghost use Rattle.timecode.specs.Formats.{isX, known};
 ghost use Rattle.timecode.specs.Frames.{written, areSymbols, readOf, Valid};
 ghost use Rattle.timecode.specs.declared.Format.{Format};
 ghost use Rattle.tape.specs.Tape.{DigitPut, RunsPut, numberRuns, numberDigits, blankAt, blank};
-ghost use Rattle.tape.specs.Readings.{digitOf, isNumber, daytime, digitsMeaning, meaningOf, markFits, elementIs, checkFrom};
+ghost use Rattle.tape.specs.Readings.{digitOf, isNumber, daytime, digitsMeaning, meaningOf, markFits, elementIs};
+ghost use Rattle.tape.specs.Offences.{allFit, LowestBelow, offenceAt};
 ghost use Rattle.tape.specs.InWord.{elementIn, elementsIn, wordFits};
 use timecode::MARK;
 use timecode::Reading;
@@ -17,6 +19,9 @@ use timecode::SPOILED;
 use timecode::Time;
 
 const ELEMENTS: usize = 25;
+
+// The lowest index that offends where none does: past the end of the frame.
+const NOWHERE: u8 = 255;
 
 // Bit k of a digit.
 fn bit(digit: u32, k: usize) -> u8
@@ -187,37 +192,85 @@ fn element_is(index: usize, symbol: u8) -> bool
     symbol == SPOILED
 }
 
-// What offends at the lowest index, or the answer.
-fn check_elements(frame: &[u8], answer: Reading) -> Reading
-    requires { ⌜ length (now frame) ≡ 25 ⌝ }
-    ensures { λ r. ⌜ r ≡ checkFrom (now (frame .entry)) 0 answer ⌝ }
+fn both(first: bool, second: bool) -> bool
+    ensures { λ r. ⌜ r ≡ (first && second) ⌝ }
 {
-    let mut index = 0;
-    while index < ELEMENTS {
-        let symbol = frame[index];
-        if !mark_fits(index, symbol) {
-            return Reading::Refused(Refusal::MisplacedMark(index));
-        }
-        if !element_is(index, symbol) {
-            return Reading::Refused(Refusal::InvalidElement(index));
-        }
-        index += 1;
+    if first {
+        return second;
     }
-    answer
+    false
 }
 
-// No symbol is above 3.
+// Every element fits. It looks at each of them: a loop that never ends early is compiled to take many at a time.
+fn all_fit(frame: &[u8]) -> bool
+    requires { ⌜ length (now frame) ≡ 25 ⌝ }
+    ensures { λ r. ⌜ r ≡ allFit (now (frame .entry)) 25 ⌝ }
+{
+    let mut all = true;
+    let mut index = 0;
+    while index < ELEMENTS {
+        all = both(element_is(index, frame[index]), all);
+        index += 1;
+    }
+    all
+}
+
+// No symbol is above 3. Like `all_fit` it looks at every element.
 fn are_symbols(frame: &[u8]) -> bool
+    requires { ⌜ length (now frame) ≡ 25 ⌝ }
     ensures { λ r. ⌜ r ≡ areSymbols (now (frame .entry)) ⌝ }
 {
+    let mut all = true;
     let mut i = 0;
-    while i < frame.len() {
-        if SPOILED < frame[i] {
-            return false;
-        }
+    while i < ELEMENTS {
+        all = both(all, frame[i] <= SPOILED);
         i += 1;
     }
-    true
+    all
+}
+
+fn lesser(first: u8, second: u8) -> u8
+    ensures { λ r. ⌜ r ≡ cond (ltb first second) first second ⌝ }
+{
+    if first < second {
+        return first;
+    }
+    second
+}
+
+// The index where its element offends, else no index.
+fn place(index: usize, symbol: u8) -> u8
+    requires { ⌜ index < 25 ⌝ }
+    ensures { λ r. ⌜ r ≡ cond (elementIs index symbol) 255 index ⌝ }
+{
+    if element_is(index, symbol) {
+        return NOWHERE;
+    }
+    index as u8
+}
+
+// The lowest index that offends. Like `all_fit` it looks at every element.
+fn lowest_offending(frame: &[u8]) -> u8
+    requires { ⌜ length (now frame) ≡ 25 ⌝ }
+    ensures { λ r. ⌜ LowestBelow (now (frame .entry)) 25 r ⌝ }
+{
+    let mut lowest = NOWHERE;
+    let mut index = 0;
+    while index < ELEMENTS {
+        lowest = lesser(lowest, place(index, frame[index]));
+        index += 1;
+    }
+    lowest
+}
+
+// What offends at an index where something does.
+fn offence_at(index: usize, symbol: u8) -> Refusal
+    ensures { λ r. ⌜ r ≡ offenceAt index symbol ⌝ }
+{
+    if mark_fits(index, symbol) {
+        return Refusal::InvalidElement(index);
+    }
+    Refusal::MisplacedMark(index)
 }
 
 // The time that the frame's elements say.
@@ -225,10 +278,14 @@ pub fn read_tape(frame: &[u8]) -> Reading
     requires { ⌜ length (now frame) ≡ 25 ⌝ }
     ensures { λ r. ⌜ ((f : Format) → isX f ≡ true → known f ≡ true → r ≡ readOf f (now (frame .entry))) ⌝ }
 {
+    if all_fit(frame) {
+        return meaning(frame);
+    }
     if !are_symbols(frame) {
         return Reading::Refused(Refusal::UnknownSymbol);
     }
-    check_elements(frame, meaning(frame))
+    let index = lowest_offending(frame) as usize;
+    Reading::Refused(offence_at(index, frame[index]))
 }
 
 // An element of the frame in a word, two bits for each, the last one lowest.
