@@ -5,7 +5,7 @@ use mathlib.Core.List.{List, [], _∷_}
 use mathlib.Core.Logic.{inl, inr}
 use Prim.Native.Nat.{ℕ, zero, suc, _+_, _%_, _<_, _≤_}
 use native.Mathlib.Omega.{arith}
-use borrow.Author.Tests.{eq-eqb, le-leb, leb-true, ltb-true, ltb-false}
+use borrow.Author.Tests.{eq-eqb, leb-true, ltb-true, ltb-false}
 use lib.Dec.{leb, ltb, eqb}
 use lib.ListN.{getD, length}
 use Rattle.timecode.specs.Formats.{isX, known, size, interval, dayLength, lastDay, daysIn, lastDayIn, inRange, onFormat, carriesLeap, carriesYear, secondCarried}
@@ -23,6 +23,7 @@ use Rattle.layout.specs.declared.Row.{Row}
 use Rattle.elements.specs.Tens.{IsFrame, tens, frame-of-60, frame-of-100}
 use Rattle.elements.specs.RunBits.{packed, packedRuns, packedYear, putIn, put-parts, length-put, put-mark, put-binary}
 use Rattle.elements.specs.RunLoops.{runs-narrow, length-runs, small-digit, RunsInside, runs-inside, digitsAt, digits-at}
+use Rattle.tape.specs.Offences.{symbols-all}
 use Rattle.digits.specs.Meaning.{meaningOf, meaning-is}
 use Rattle.digits.specs.Splitting.{Widths, Digits}
 use Rattle.frame.specs.Offences.{offendedOf, offenceIn, refusedOr, same-nothing, some-offence, offended-refuses, offended-clean}
@@ -106,10 +107,6 @@ put-symbol n xs k l = by-test (isMark k) (λ y. omega (arith, put-mark n xs k l 
 -- where it is as long as the frame, what the search asks
 pub beside-asked : (n : ℕ) (xs again frame : List ℕ) → again ≡ putIn n xs → length frame ≡ n → n ≤ 100 → (length frame ≤ length again) × ((k : ℕ) → k < length frame → getD again k 0 ≤ 3) × (length frame ≤ 255)
 beside-asked n xs again frame e l m = (omega (arith, ap length e ∙ length-put n xs), (λ k h. rw e (put-symbol n xs k (omega arith))), omega arith)
-
-symbols-all : (frame : List ℕ) → ((k : ℕ) → k < length frame → getD frame k 0 ≤ 3) → areSymbols frame ≡ true
-symbols-all [] h = refl
-symbols-all (s ∷ ss) h = rw (le-leb s 3 (h 0 (omega arith))) (symbols-all ss (λ k l. h (suc k) (omega arith)))
 
 -- where it agrees with the frame nothing offends
 pub agree-nothing : (again frame : List ℕ) → length frame ≤ length again → ((k : ℕ) → k < length frame → getD again k 0 ≤ 3) → ((k : ℕ) → k < length frame → getD frame k 0 ≡ getD again k 0) → offenceIn again frame ≡ Nothing

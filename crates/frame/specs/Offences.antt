@@ -1,13 +1,13 @@
 -- What offends in a frame, found beside the frame that is written again from its digits: the lowest index where the two differ.
 use mathlib.Core.Path.{_≡_, refl, sym, ap, _∙_}
-use mathlib.Core.Bool.{true, false, cond, not, _&&_}
+use mathlib.Core.Bool.{true, false, cond, not}
 use mathlib.Core.List.{List, [], _∷_}
 use Prim.Native.Nat.{ℕ, zero, suc, _+_, _<_, _≤_}
 use native.Mathlib.Nat.{not-suc-le-zero, zero-add}
 use native.Mathlib.Numerals.{add-one}
 use native.Mathlib.Omega.{arith}
 use borrow.Author.Tests.{eqb-true, eqb-false, eq-eqb, ne-eqb, ltb-true, ltb-false, lt-ltb, le-ltb}
-use lib.Dec.{leb, ltb, eqb}
+use lib.Dec.{ltb, eqb}
 use lib.ListN.{getD, length, drop, drop-of-length-le}
 use lib.Seq.{drop-cons}
 use Rattle.timecode.specs.Formats.{isX, known, size}
@@ -58,12 +58,6 @@ refusedOr Nothing answer = answer
 refusedOr (At r) answer = Reading.Refused r
 
 -- ---- turns of the loops
-
-pub symbols-turn : (frame : List ℕ) (i : ℕ) → i < length frame → areSymbols (drop i frame) ≡ (leb (getD frame i 0) 3 && areSymbols (drop (i + 1) frame))
-symbols-turn frame i h = rw (drop-cons frame i 0 h, add-one i)
-
-pub symbols-end : (frame : List ℕ) (i : ℕ) → length frame ≤ i → areSymbols (drop i frame) ≡ true
-symbols-end frame i h = rw (drop-of-length-le frame {i = i} h)
 
 -- the lowest index so far, or the one that is found from i on
 abbrev pub lowestOr : ℕ → ℕ → ℕ

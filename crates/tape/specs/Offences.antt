@@ -95,7 +95,8 @@ fits-symbol i s e =
     (λ y. omega (arith, ltb-true s 2 (rw (n, y) at e)))
     (λ m. omega (arith, eqb-true s 3 (rw (n, m) at e))))
 
-symbols-all : (frame : List ℕ) → ((k : ℕ) → k < length frame → getD frame k 0 ≤ 3) → areSymbols frame ≡ true
+-- no symbol above 3
+pub symbols-all : (frame : List ℕ) → ((k : ℕ) → k < length frame → getD frame k 0 ≤ 3) → areSymbols frame ≡ true
 symbols-all [] h = refl
 symbols-all (s ∷ ss) h = rw (le-leb s 3 (h 0 (omega arith))) (symbols-all ss (λ k l. h (suc k) (omega arith)))
 

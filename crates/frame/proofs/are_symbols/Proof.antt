@@ -6,7 +6,7 @@ use mathlib.Core.Bool.{Bool, _&&_, and-assoc, and-true}
 use Prim.Native.Nat.{_+_, _-_, _≤_}
 use lib.Dec.{leb}
 use lib.ListN.{getD, length, drop}
-use Rattle.frame.specs.Offences.{symbols-turn, symbols-end}
+use Rattle.tape.specs.Readings.{symbols-turn, symbols-end}
 use Rattle.timecode.specs.Frames.{areSymbols}
 use Rattle.frame.proofs.are_symbols.Statement.{statement}
 use Rattle.frame.proofs.are_symbols.Tie as tie
