@@ -500,15 +500,20 @@ fn feed_rows() {
 fn scan_rows() {
     for (name, format, last) in formats() {
         let (n, _, _) = table(format);
-        let mut recording = stream(format, 1_000 * n);
-        for frame in recording.chunks_exact_mut(n) {
-            frame[last] = 3;
+        for (what, symbol) in [
+            ("every frame spoiled", 3),
+            ("a mark too many in every frame", 2),
+        ] {
+            let mut recording = stream(format, 1_000 * n);
+            for frame in recording.chunks_exact_mut(n) {
+                frame[last] = symbol;
+            }
+            row(
+                &format!("scan {name}, {what}"),
+                "element",
+                scan(format, &recording),
+            );
         }
-        row(
-            &format!("scan {name}, every frame spoiled"),
-            "element",
-            scan(format, &recording),
-        );
         let recording = vec![0; 1_000 * n];
         row(
             &format!("scan {name}, no marks"),
