@@ -1,8 +1,8 @@
 -- The places that Scan looks at, one turn after another: `lowestOf` where a frame fits, and where none fits any more.
-use mathlib.Core.Path.{_≡_, sym, _∙_}
+use mathlib.Core.Path.{_≡_, refl, sym, ap, _∙_}
 use mathlib.Core.Bool.{Bool, true, false, _&&_}
 use mathlib.Core.List.{List}
-use Prim.Native.Nat.{ℕ, suc, _+_, _-_, _<_, _≤_}
+use Prim.Native.Nat.{ℕ, zero, suc, _+_, _-_, _<_, _≤_}
 use native.Mathlib.Nat.{add-zero}
 use native.Mathlib.Numerals.{add-one}
 use native.Mathlib.Omega.{arith}
@@ -25,7 +25,7 @@ use Rattle.timecode.specs.declared.Refusal.{Refusal}
 use Rattle.timecode.specs.declared.Scanned.{Scanned}
 use Rattle.timecode.specs.declared.Scanned.the-variants.{Found, None}
 use Rattle.timecode.specs.declared.Time.{Time}
-use Rattle.openings.specs.Openings.{marksMeet}
+use Rattle.openings.specs.Openings.{marksMeet, opensAt, meet-opens}
 use Rattle.scan.specs.Spoiled.{NoneSpoiled, neverSpoiled, never-spoiled-inside, accepted-unspoiled}
 
 -- how many places there are from a on
@@ -91,6 +91,20 @@ module _ (f : Format) (recording : List ℕ) (a : ℕ) (room : a + size f ≤ le
       by-test (marksMeet (lead f) recording a)
       (λ y. by-reading (readOf f (partAt f recording a)) refused-here (λ t w x. clash (may (rw e y) (rw g (front-unspoiled t w x))) answer))
       unmet
+
+-- places at which no frame may begin
+skipped : (f : Format) (recording : List ℕ) (a k : ℕ) → a + k + size f ≤ length recording + 1 → ((j : ℕ) → a ≤ j → j < a + k → opensAt f recording j ≡ false) → lowestFrom f recording a ≡ lowestFrom f recording (a + k)
+skipped f recording a zero room none = ap (lowestFrom f recording) (sym (add-zero a))
+skipped f recording a (suc k) room none =
+    let on : a + 1 + k ≡ a + suc k = omega arith in
+    unmet f recording a (omega arith) (meet-opens f recording (lead f) a refl ∙ none a (omega arith) (omega arith))
+    ∙ skipped f recording (a + 1) k (omega arith) (λ j l b. none j (omega arith) (omega arith))
+    ∙ ap (lowestFrom f recording) on
+
+pub skipped-to : (f : Format) (recording : List ℕ) (a next : ℕ) → a ≤ next → next + size f ≤ length recording + 1 → ((j : ℕ) → a ≤ j → j < next → opensAt f recording j ≡ false) → lowestFrom f recording a ≡ lowestFrom f recording next
+skipped-to f recording a next l room none =
+    let there : a + (next - a) ≡ next = omega arith in
+    skipped f recording a (next - a) (omega arith) (λ j b c. none j b (omega arith)) ∙ ap (lowestFrom f recording) there
 
 pub none-left : (f : Format) (recording : List ℕ) (a : ℕ) → length recording < a + size f → lowestFrom f recording a ≡ None
 unfolding lowestOf

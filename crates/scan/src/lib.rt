@@ -14,6 +14,7 @@ use frame::read;
 use layout::frame_size;
 use layout::is_known;
 use openings::marks_before;
+use openings::next_opening;
 use timecode::Format;
 use timecode::MARK;
 use timecode::Reading;
@@ -86,7 +87,7 @@ fn may_begin(marks: usize, whole: usize, recording: &[u8], place: usize) -> bool
     false
 }
 
-// The lowest place from the first to the last at which a frame fits.
+// The lowest place from the first to the last at which a frame fits. The next one to look at is looked for at many at once.
 fn lowest(format: Format, recording: &[u8], first: usize) -> Scanned
     requires { ⌜ lead format ≤ first ⌝ }
     ensures { λ r. ⌜ r ≡ lowestFrom format (now (recording .entry)) first ⌝ }
@@ -104,7 +105,7 @@ fn lowest(format: Format, recording: &[u8], first: usize) -> Scanned
             let end = place + n;
             let part = &recording[place..end];
             let Reading::Accepted { time, control } = read(format, part) else {
-                place += 1;
+                place = next_opening(format, recording, place + 1, last + 1);
                 continue;
             };
             return Scanned::Found {
@@ -113,7 +114,7 @@ fn lowest(format: Format, recording: &[u8], first: usize) -> Scanned
                 control: control,
             };
         }
-        place += 1;
+        place = next_opening(format, recording, place + 1, last + 1);
     }
     Scanned::None
 }

@@ -3,7 +3,7 @@ use borrow.Author.Needs.{needs}
 use native.Mathlib.Omega.{arith}
 use mathlib.Core.Path.{_≡_, refl, sym, _∙_}
 use Prim.Native.Nat.{_+_, _-_, _≤_}
-use Rattle.scan.specs.Places.{lowestFrom, part-at, refused-here, found-here, passed-over, none-left}
+use Rattle.scan.specs.Places.{lowestFrom, part-at, refused-here, found-here, passed-over, skipped-to, none-left}
 use Rattle.scan.proofs.lowest.Statement.{statement}
 use Rattle.scan.proofs.lowest.Tie as tie
 
@@ -55,19 +55,26 @@ enum-known-time c = search needs
 enum-told : tie.Need-enum-told Inv-loop μ-loop
 enum-told c = search needs
 
-add-place : tie.Need-add-place Inv-loop μ-loop
-add-place c = omega arith
+add-next-opening : tie.Need-add-next-opening Inv-loop μ-loop
+add-next-opening c = omega arith
+
+add-next-opening-2 : tie.Need-add-next-opening-2 Inv-loop μ-loop
+add-next-opening-2 c = omega arith
+
+next-opening-requires : tie.Need-next-opening-requires Inv-loop μ-loop
+next-opening-requires c κs = (omega arith, omega arith, omega (arith, c .before .before .before .before .before .before .before .before .before .before .before .frame-size .ensures))
 
 loop-less : tie.Need-loop-less Inv-loop μ-loop
-loop-less c = omega arith
+loop-less c = omega (arith, c .next-opening .ensures .0)
 
 loop-again : tie.Need-loop-again Inv-loop μ-loop
 loop-again c =
-    let start = c .before .before .before .before .before .before .before .before .before .before .before .before .before in
-    let n = c .before .before .before .before .before .before .before .before .before .before .before .frame-size in
-    let reached = c .before .before .before .before .before .before .before .loop in
-    let answer-is = sym (part-at (start .args .format) (start .args .recording .now) (reached .place) (n .result) (n .ensures .0)) ∙ sym (c .before .before .read .ensures) ∙ c .enum-told .given .1 in
-    (omega arith, reached .inv .1 ∙ refused-here (start .args .format) (start .args .recording .now) (reached .place) (omega (arith, n .ensures .0)) _ answer-is)
+    let start = c .before .before .before .before .before .before .before .before .before .before .before .before .before .before in
+    let n = c .before .before .before .before .before .before .before .before .before .before .before .before .frame-size in
+    let reached = c .before .before .before .before .before .before .before .before .loop in
+    let next = c .next-opening in
+    let answer-is = sym (part-at (start .args .format) (start .args .recording .now) (reached .place) (n .result) (n .ensures .0)) ∙ sym (c .before .before .before .read .ensures) ∙ c .before .enum-told .given .1 in
+    (omega (arith, next .ensures .0), reached .inv .1 ∙ refused-here (start .args .format) (start .args .recording .now) (reached .place) (omega (arith, n .ensures .0)) _ answer-is ∙ skipped-to (start .args .format) (start .args .recording .now) (reached .place + 1) (next .result) (next .ensures .0) (omega (arith, n .ensures .0, next .ensures .1)) (next .ensures .2))
 
 returns-2 : tie.Need-returns-2 Inv-loop μ-loop
 returns-2 c =
@@ -78,17 +85,25 @@ returns-2 c =
     let meet = c .before .before .before .before .before .before .may-begin .ensures .0 (c .before .before .before .before .before .if2 .taken) in
     sym (reached .inv .1 ∙ found-here (start .args .format) (start .args .recording .now) (reached .place) (omega (arith, n .ensures .0)) _ (c .before .before .before .before .before .before .before .before .before .before .marks-before .ensures .0) meet _ _ answer-is)
 
-add-place-2 : tie.Need-add-place-2 Inv-loop μ-loop
-add-place-2 c = omega arith
+add-next-opening-3 : tie.Need-add-next-opening-3 Inv-loop μ-loop
+add-next-opening-3 c = omega arith
+
+add-next-opening-4 : tie.Need-add-next-opening-4 Inv-loop μ-loop
+add-next-opening-4 c = omega arith
+
+next-opening-requires-2 : tie.Need-next-opening-requires-2 Inv-loop μ-loop
+next-opening-requires-2 c κs = (omega arith, omega arith, omega (arith, c .before .before .before .before .before .before .before .frame-size .ensures))
 
 loop-less-2 : tie.Need-loop-less-2 Inv-loop μ-loop
-loop-less-2 c = omega arith
+loop-less-2 c = omega (arith, c .next-opening2 .ensures .0)
 
 loop-again-2 : tie.Need-loop-again-2 Inv-loop μ-loop
 loop-again-2 c =
-    let start = c .before .before .before .before .before .before .before .before .before in
-    let reached = c .before .before .before .loop in
-    (omega arith, reached .inv .1 ∙ passed-over (start .args .format) (start .args .recording .now) (reached .place) (omega (arith, c .before .before .before .before .before .before .before .frame-size .ensures .0)) _ _ _ (c .before .before .before .before .before .marks-before .ensures .0) (c .before .before .before .before .never-spoiled .ensures .0) (c .before .may-begin .ensures .1) (c .if2 .left))
+    let start = c .before .before .before .before .before .before .before .before .before .before in
+    let n = c .before .before .before .before .before .before .before .before .frame-size in
+    let reached = c .before .before .before .before .loop in
+    let next = c .next-opening2 in
+    (omega (arith, next .ensures .0), reached .inv .1 ∙ passed-over (start .args .format) (start .args .recording .now) (reached .place) (omega (arith, n .ensures .0)) _ _ _ (c .before .before .before .before .before .before .marks-before .ensures .0) (c .before .before .before .before .before .never-spoiled .ensures .0) (c .before .before .may-begin .ensures .1) (c .before .if2 .left) ∙ skipped-to (start .args .format) (start .args .recording .now) (reached .place + 1) (next .result) (next .ensures .0) (omega (arith, n .ensures .0, next .ensures .1)) (next .ensures .2))
 
 returns-3 : tie.Need-returns-3 Inv-loop μ-loop
 returns-3 c =
@@ -115,11 +130,15 @@ lowest-spec =
     read-requires
     enum-known-time
     enum-told
-    add-place
+    add-next-opening
+    add-next-opening-2
+    next-opening-requires
     loop-less
     loop-again
     returns-2
-    add-place-2
+    add-next-opening-3
+    add-next-opening-4
+    next-opening-requires-2
     loop-less-2
     loop-again-2
     returns-3)
