@@ -500,13 +500,15 @@ fn feed_rows() {
 fn scan_rows() {
     for (name, format, last) in formats() {
         let (n, _, _) = table(format);
-        for (what, symbol) in [
-            ("every frame spoiled", 3),
-            ("a mark too many in every frame", 2),
-        ] {
+        // A mark beside the frame's last one would begin a frame.
+        let damages = [
+            ("every frame spoiled", last, 3),
+            ("a mark too many in every frame", last - 5, 2),
+        ];
+        for (what, index, symbol) in damages {
             let mut recording = stream(format, 1_000 * n);
             for frame in recording.chunks_exact_mut(n) {
-                frame[last] = symbol;
+                frame[index] = symbol;
             }
             row(
                 &format!("scan {name}, {what}"),
@@ -571,6 +573,10 @@ fn main() {
         Some("commands") => commands::rows(),
         Some("streams") => stream_tables(),
         Some("frames") => frames::rows(),
+        Some("scans") => {
+            heading("call");
+            scan_rows();
+        }
         Some("pulses") => {
             heading("call");
             pulse_rows();
