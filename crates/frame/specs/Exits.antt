@@ -1,5 +1,5 @@
 -- Where Write and Read return, and what the calls within them need.
-use mathlib.Core.Path.{_≡_, refl, sym, ap, ap₂, _∙_}
+use mathlib.Core.Path.{_≡_, refl, sym, ap, _∙_}
 use mathlib.Core.Bool.{Bool, true, false, cond, _&&_}
 use mathlib.Core.List.{List, [], _∷_}
 use mathlib.Core.Logic.{inl, inr}
@@ -26,7 +26,7 @@ use Rattle.elements.specs.RunLoops.{runs-narrow, length-runs, small-digit, Runs
 use Rattle.tape.specs.Offences.{symbols-all}
 use Rattle.digits.specs.Meaning.{meaningOf, meaning-is}
 use Rattle.digits.specs.Splitting.{Widths, Digits}
-use Rattle.frame.specs.Offences.{offendedOf, offenceIn, refusedOr, same-nothing, some-offence, offended-refuses, offended-clean}
+use Rattle.frame.specs.Offences.{offenceIn, refusedOr, same-nothing, some-offence, offended-refuses, offended-clean}
 use Rattle.frame.specs.declared.Offence.the-variants.{Nothing}
 
 -- ---- what a row gives

@@ -15,7 +15,7 @@ use Rattle.timecode.specs.Frames.{areSymbols, covered, marksAgree, elementFits,
 use Rattle.timecode.specs.Laws.Runs.{getD-tabulate, length-tabulate, Clean, fits-agree, clean-bits, encode-decode, covered-inside, small-decoded}
 use Rattle.timecode.specs.Laws.Table.{size-range}
 use Rattle.timecode.specs.Laws.Tests.{by-test, clash}
-use Rattle.timecode.specs.Layout.{Run, isMark, filler, runs, tabulate, decode}
+use Rattle.timecode.specs.Layout.{isMark, filler, runs, tabulate, decode}
 use Rattle.timecode.specs.declared.Format.{Format}
 use Rattle.timecode.specs.declared.Reading.{Reading}
 use Rattle.timecode.specs.declared.Refusal.{Refusal}

@@ -1,7 +1,7 @@
 -- What Read says of a frame of letter X: the lowest element that offends, or the time that its digits say.
 use mathlib.Core.Path.{_≡_, refl, sym, ap, _∙_}
 use mathlib.Core.Bool.{Bool, true, false, cond, not, _&&_}
-use mathlib.Core.List.{List, [], _∷_}
+use mathlib.Core.List.{List}
 use Prim.Native.Nat.{ℕ, zero, suc, _+_, _*_, _-_, _^_, _<_, _≤_}
 use native.Mathlib.Nat.{zero-add, two-pow-succ}
 use native.Mathlib.Numerals.{add-one}

@@ -1,13 +1,13 @@
 -- `feed_few` meets its contract: one symbol after another is received, and the words are stored at the end.
 use borrow.Author.Needs.{needs}
-use mathlib.Core.Path.{_≡_, refl, sym, subst, _∙_}
+use mathlib.Core.Path.{_≡_, refl}
 use native.Mathlib.Omega.{arith}
-use Prim.Native.Nat.{ℕ, _-_}
+use Prim.Native.Nat.{_-_}
 use lib.ListN.{getD}
 use Rattle.openings.specs.Accepted.{accepted-within}
 use Rattle.word_feed.specs.InPlace.{formatIn, registerIn, ready-place}
 use Rattle.word_stride.specs.FewSymbols.{Received, few-start, few-next, few-in, large}
-use Rattle.word_stride.specs.WordRuns.{RunsIn, runs-none, runs-until}
+use Rattle.word_stride.specs.WordRuns.{runs-none, runs-until}
 use Rattle.word_stride.proofs.feed_few.Statement.{statement}
 use Rattle.word_stride.proofs.feed_few.Tie as tie
 

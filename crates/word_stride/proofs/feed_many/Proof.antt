@@ -8,13 +8,6 @@ use Rattle.word_feed.specs.InPlace.{ready-place}
 use borrow.Author.Needs.{needs}
 use Rattle.word_stride.proofs.feed_many.Statement.{statement}
 use Rattle.word_stride.proofs.feed_many.Tie as tie
-use Rattle.word_stride.proofs.feed_many.Reads as reads
-use Rattle.word_stride.proofs.feed_many.Lts as lts
-use Rattle.stride.proofs.place_after_many.Reads as place-after-many-reads
-use Rattle.stride.proofs.run_from.Reads as run-from-reads
-use Rattle.word_feed.proofs.format_in.Reads as format-in-reads
-use Rattle.word_stride.proofs.put_register.Reads as put-register-reads
-use Rattle.word_stride.proofs.run_end.Reads as run-end-reads
 
 returns : tie.Need-returns
 returns c = subst (λ (k : ℕ). RunsIn (c .before .before .args .reader .now) (c .before .before .args .n) (c .before .before .args .symbols .now) (c .before .before .args .from) k (c .before .before .args .reader .now) (c .before .before .args .from)) (c .if1 .taken) (runs-none (c .before .before .args .reader .now) (c .before .before .args .n) (c .before .before .args .symbols .now) (c .before .before .args .from) (c .before .before .pre .0) (c .before .before .pre .1))
