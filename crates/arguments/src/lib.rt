@@ -1,9 +1,10 @@
 // Numbers as a program's arguments write them.
+#![tactic(auto)]
 ghost use Rattle.std.specs.Prelude.{◌≡◌, ◌+◌, ◌*◌, ◌≤◌, ◌<◌};
 ghost use Rattle.arguments.specs.Numbers.{digit_of, limited, number_of};
 
 // The value of the digits, or 2^64 - 1 where it is past that; or other characters, or none.
-#[derive(Drop)]
+#[derive(Clone, Copy)]
 pub enum Number {
     Value(u64),
     Malformed,

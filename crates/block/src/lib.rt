@@ -1,10 +1,11 @@
 // What a block of symbols takes and what it answers: types only, no function.
 // A block is the list of Feeds of its symbols, up to where it stops: its definitions and theorems stand in specs/.
+#![tactic(auto)]
 use stream::Reader;
 use timecode::Refusal;
 
 // Why a block stopped: it had no more symbols, or before a symbol above 3, or before a report with no room left for it.
-#[derive(Drop)]
+#[derive(Clone, Copy)]
 pub enum Stop {
     AllTaken,
     UnknownSymbol,
@@ -12,7 +13,7 @@ pub enum Stop {
 }
 
 // How many symbols were taken, how many reports were put in, and why it stopped.
-#[derive(Drop)]
+#[derive(Clone, Copy)]
 pub enum BlockAnswer {
     Taken {
         symbols: usize,
@@ -23,7 +24,7 @@ pub enum BlockAnswer {
 }
 
 // The reader handed back, with the answer.
-#[derive(Drop)]
+#[derive(Clone, Copy)]
 pub struct FedBlock {
     pub reader: Reader,
     pub answer: BlockAnswer,

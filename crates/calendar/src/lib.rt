@@ -1,10 +1,11 @@
 // What the calendar of test windows takes and what it answers: types only, no function.
 // Dates, moments, windows and a calendar's answers are defined, and their theorems stand, in specs/.
+#![tactic(auto)]
 use timecode::{Refusal, Time, Written};
 
 // A day by its month: the year after 2000, the month from 1 and the day of the month from 1.
 #[repr(C)]
-#[derive(Drop)]
+#[derive(Clone, Copy)]
 pub struct Date {
     pub year: u8,
     pub month: u8,
@@ -13,35 +14,35 @@ pub struct Date {
 
 // A date and hundredths of a second since its midnight.
 #[repr(C)]
-#[derive(Drop)]
+#[derive(Clone, Copy)]
 pub struct DateTime {
     pub date: Date,
     pub hundredths: u32,
 }
 
 // Whole months of a year, and a day of the next.
-#[derive(Drop)]
+#[derive(Clone, Copy)]
 pub struct Place {
     pub months: usize,
     pub day: u16,
 }
 
 // Month and day from day of year.
-#[derive(Drop)]
+#[derive(Clone, Copy)]
 pub enum Dated {
     On(Date),
     Refused(Refusal),
 }
 
 // Day of year from month and day.
-#[derive(Drop)]
+#[derive(Clone, Copy)]
 pub enum Counted {
     Day(u16),
     Refused(Refusal),
 }
 
 // From a start, which belongs to it, to an end, which does not.
-#[derive(Drop)]
+#[derive(Clone, Copy)]
 pub struct Window {
     pub start: Time,
     pub end: Time,
@@ -50,7 +51,7 @@ pub struct Window {
 // The windows added, the first of them at 0, each moment as one number, its key: the arrays are lent to one loop that compares
 // whole moments. Behind the count they hold what they did.
 #[repr(C)]
-#[derive(Drop)]
+#[derive(Clone, Copy)]
 pub struct Calendar {
     pub count: usize,
     pub starts: [u64; 32],
@@ -65,28 +66,28 @@ impl Calendar {
 }
 
 // A window to be added: its start's key and its end's, or why it is not taken.
-#[derive(Drop)]
+#[derive(Clone, Copy)]
 pub enum Keyed {
     Keys { start: u64, end: u64 },
     Refused(Refusal),
 }
 
 // Adding: the calendar handed back, and whether the window was taken.
-#[derive(Drop)]
+#[derive(Clone, Copy)]
 pub struct Added {
     pub calendar: Calendar,
     pub answer: Written,
 }
 
 // The next start or end after a time.
-#[derive(Drop)]
+#[derive(Clone, Copy)]
 pub enum Following {
     At(Time),
     None,
 }
 
 // Which windows hold a time, bit 0 the first added, and what follows it.
-#[derive(Drop)]
+#[derive(Clone, Copy)]
 pub enum Asked {
     Windows { mask: u32, next: Following },
     Refused(Refusal),

@@ -1,5 +1,6 @@
 // The calendar of test windows for C: a calendar as 65 words in the caller's memory, its count, 32 starts and 32 ends, and the answers as structs by value.
 // Any words are allowed. That each struct has its answer's number and values, and what adding leaves in the words, stands in specs/.
+#![tactic(auto)]
 ghost use Rattle.std.specs.Prelude.{◌≡◌, ◌+◌, ◌<◌, length, set};
 ghost use Rattle.calendar.specs.Dates.{date_of, day_of};
 ghost use Rattle.calendar.specs.Moments.{ask_of};
@@ -14,14 +15,14 @@ use timecode::Time;
 use windows::{ask_keys, book};
 
 #[repr(C)]
-#[derive(Drop)]
+#[derive(Clone, Copy)]
 pub struct DateResult {
     pub number: u8,
     pub date: Date,
 }
 
 #[repr(C)]
-#[derive(Drop)]
+#[derive(Clone, Copy)]
 pub struct DayResult {
     pub number: u8,
     pub day: u16,
@@ -29,7 +30,7 @@ pub struct DayResult {
 
 // follows: 1 where a start or end follows the time, 0 where none does.
 #[repr(C)]
-#[derive(Drop)]
+#[derive(Clone, Copy)]
 pub struct AskResult {
     pub number: u8,
     pub follows: u8,

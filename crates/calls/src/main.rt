@@ -3,6 +3,7 @@
 // feeds_tapes.txt, widths.txt, holdover.txt, log.txt and simulate.txt came with their own; those of rows.txt are worked rows that were proved
 // of the definitions; those of hostile.txt, settings.txt, hostile_year.txt and hostile_tapes.txt, and those of base.txt that the
 // leap second, the year, letter X or the deviation changed, are from an independent plain version of the rules in another language.
+#![tactic(auto)]
 fn write_part(text: &[u8], used: usize) {
     if used <= text.len() {
         io::write_all(libc::STDOUT_FILENO, &text[0..used]);
@@ -49,7 +50,7 @@ fn take_bytes(bytes: &[u8], line: &mut [u8; 4096], used: usize) -> usize {
     used
 }
 
-#[derive(Drop)]
+#[derive(Clone, Copy)]
 struct Taken {
     used: usize,
     open: bool,

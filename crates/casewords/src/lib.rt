@@ -1,5 +1,6 @@
 // The words of a line that is a call, such as `step B 4 24 366 8639900 365 0`: its name, numbers, format, times, elements, bytes and listeners.
 // A word that is no number, or is not there, is 0.
+#![tactic(auto)]
 ghost use Rattle.std.specs.Prelude.{◌≤◌, length};
 
 use arguments::{Number, decimal_in, hexadecimal_in};
@@ -196,7 +197,7 @@ fn put_end(ends: &mut [usize; 1024], listeners: usize, end: usize) {
 }
 
 // How many listeners a word has, and how many damages they have together.
-#[derive(Drop)]
+#[derive(Clone, Copy)]
 pub struct Listed {
     pub listeners: usize,
     pub damages: usize,

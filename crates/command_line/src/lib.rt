@@ -1,9 +1,10 @@
 // The arguments of timewrite and timetry: a format, and numbers.
 // Nothing beneath says which arguments a program was given, so no contract here can.
+#![tactic(auto)]
 use arguments::{Number, decimal_in, hexadecimal_in};
 use timecode::Format;
 
-#[derive(Drop)]
+#[derive(Clone, Copy)]
 pub enum Named {
     Known(Format),
     Malformed,

@@ -1,5 +1,6 @@
 // Damages of a run: an element's number, from 1, and the symbol that is received in its place, in two lent lists.
 // They come from a text with a line for each, or are scattered over the run by a seed.
+#![tactic(auto)]
 ghost use Rattle.std.specs.Prelude.{◌+◌, ◌≤◌, length, ◌≡◌};
 ghost use Rattle.characters.specs.ByteSymbols.{symbol_of_byte};
 
@@ -13,13 +14,13 @@ pub const MOST: usize = 16_384;
 const HIGH: u64 = 8_589_934_592;
 
 // How many damages the lists begin with, and whether these are all.
-#[derive(Drop)]
+#[derive(Clone, Copy)]
 pub struct Listed {
     pub count: usize,
     pub all: bool,
 }
 
-#[derive(Drop)]
+#[derive(Clone, Copy)]
 enum Damage {
     At(u64, u8),
     Malformed,

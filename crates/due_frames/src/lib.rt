@@ -1,5 +1,6 @@
 // Frames that are due: one after another, n elements apart, each read by itself; behind a refused one the next may begin earlier.
 // It assumes nothing of the recording.
+#![tactic(auto)]
 ghost use Rattle.std.specs.Prelude.{◌≡◌, List, ℕ, ◌+◌, ◌-◌, ◌≤◌, length, take};
 ghost use Rattle.timecode.specs.Formats.{size};
 ghost use Rattle.due_frames.specs.Due.{resume_at, look_at};
@@ -10,7 +11,7 @@ use scan::scan;
 use timecode::{Format, Reading, Refusal, Scanned, Time};
 
 // What the frame says that is due at a place, and where the next is due; or there is no whole frame.
-#[derive(Drop)]
+#[derive(Clone, Copy)]
 pub enum Looked {
     Accepted { time: Time, next: usize },
     Refused { refusal: Refusal, next: usize },

@@ -1,5 +1,6 @@
 // The answers as C's structs, by value: the number of the refusal or 0 first, with Read's, the converters' and decoding's the index, then the values.
 // A field for which an answer has no value is 0. Which struct belongs to which answer, and that it has the answer's number and values, stands in specs/.
+#![tactic(auto)]
 ghost use Rattle.std.specs.Prelude.{◌≡◌};
 ghost use Rattle.timecode.specs.Frames.{no_time};
 ghost use Rattle.ffi.specs.Structs.{refusal_index, write_result_of, convert_result_of, read_result_of, step_result_of, difference_result_of, classify_result_of, scan_result_of, feed_result_of, with_deviation, forecast_result_of};
@@ -10,21 +11,21 @@ use timecode::{Answer, Classified, Reading, Refusal, Scanned, Stepped, Subtracte
 
 // Write, the classifier over lists, a fresh reader, and encoding: whether the lent memory was written.
 #[repr(C)]
-#[derive(Drop)]
+#[derive(Clone, Copy)]
 pub struct WriteResult {
     pub number: u8,
 }
 
 // The converters between the editions, which refuse as Read does, and decoding: with 5, 6 and 25 goes the index.
 #[repr(C)]
-#[derive(Drop)]
+#[derive(Clone, Copy)]
 pub struct ConvertResult {
     pub number: u8,
     pub index: usize,
 }
 
 #[repr(C)]
-#[derive(Drop)]
+#[derive(Clone, Copy)]
 pub struct ReadResult {
     pub number: u8,
     pub index: usize,
@@ -33,21 +34,21 @@ pub struct ReadResult {
 }
 
 #[repr(C)]
-#[derive(Drop)]
+#[derive(Clone, Copy)]
 pub struct StepResult {
     pub number: u8,
     pub time: Time,
 }
 
 #[repr(C)]
-#[derive(Drop)]
+#[derive(Clone, Copy)]
 pub struct DifferenceResult {
     pub number: u8,
     pub hundredths: i64,
 }
 
 #[repr(C)]
-#[derive(Drop)]
+#[derive(Clone, Copy)]
 pub struct ClassifyResult {
     pub number: u8,
     pub symbol: u8,
@@ -55,7 +56,7 @@ pub struct ClassifyResult {
 }
 
 #[repr(C)]
-#[derive(Drop)]
+#[derive(Clone, Copy)]
 pub struct ScanResult {
     pub number: u8,
     pub found: u8,
@@ -65,7 +66,7 @@ pub struct ScanResult {
 }
 
 #[repr(C)]
-#[derive(Drop)]
+#[derive(Clone, Copy)]
 pub struct FeedResult {
     pub number: u8,
     pub reported: u8,
@@ -75,7 +76,7 @@ pub struct FeedResult {
 
 // A pulse classified and fed: what the Feed brought, and the pulse's deviation.
 #[repr(C)]
-#[derive(Drop)]
+#[derive(Clone, Copy)]
 pub struct FeedPulseResult {
     pub number: u8,
     pub reported: u8,
@@ -86,7 +87,7 @@ pub struct FeedPulseResult {
 
 // The hold-over forecast.
 #[repr(C)]
-#[derive(Drop)]
+#[derive(Clone, Copy)]
 pub struct ForecastResult {
     pub number: u8,
     pub error: f64,

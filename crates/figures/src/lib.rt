@@ -1,5 +1,6 @@
 // What a caller asks before it lends memory or prints: a format's elements, interval and number of control bits, and hour, minute, second and hundredth of a time.
 // Both answers are C's structs, by value: the number of the refusal or 0 first; where it is not 0, every other field is 0.
+#![tactic(auto)]
 ghost use Rattle.std.specs.Prelude.{◌≡◌, cond, ◌≤◌, ◌<◌};
 ghost use Rattle.layout.specs.Tables.{is_carried};
 ghost use Rattle.timecode.specs.Formats.{last_day, last_hundredth, in_range};
@@ -12,7 +13,7 @@ use timecode::{Format, Refusal, Time};
 
 // The elements of a frame, the frame interval in hundredths and how many control bits are carried.
 #[repr(C)]
-#[derive(Drop)]
+#[derive(Clone, Copy)]
 pub struct FormatFiguresResult {
     pub number: u8,
     pub control_bits: u8,
@@ -22,7 +23,7 @@ pub struct FormatFiguresResult {
 
 // 23:59:60 in a second that was added to the day.
 #[repr(C)]
-#[derive(Drop)]
+#[derive(Clone, Copy)]
 pub struct TimeOfDayResult {
     pub number: u8,
     pub hour: u8,

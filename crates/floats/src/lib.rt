@@ -1,4 +1,5 @@
 // A float's bits and the float of bits, for programs that read and print them: every pattern of no number is one.
+#![tactic(auto)]
 ghost use Rattle.std.specs.Prelude.{◌≡◌};
 ghost use Rattle.std.specs.Float.{binary64};
 ghost use Rattle.std.specs.Float.Ieee.{of_bits};
@@ -10,7 +11,7 @@ const SIGN: u64 = 0x8000_0000_0000_0000;
 const INFINITE: u64 = 0x7ff0_0000_0000_0000;
 
 // The bits of a float, or that it is no number.
-#[derive(Drop)]
+#[derive(Clone, Copy)]
 pub enum Pattern {
     Bits(u64),
     NoNumber,

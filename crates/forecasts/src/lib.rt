@@ -1,10 +1,11 @@
 // What the hold-over forecast takes and answers: types only, no function. An oscillator is C's struct too.
 // Document 02's formula as a definition, and the theorems over it, stand in specs/.
+#![tactic(auto)]
 use timecode::Refusal;
 
 // An oscillator's four figures: its starting error E0 in seconds, its own frequency f0, the reference fr and its ageing a for each second.
 #[repr(C)]
-#[derive(Drop)]
+#[derive(Clone, Copy)]
 pub struct Oscillator {
     pub error: f64,
     pub frequency: f64,
@@ -13,7 +14,7 @@ pub struct Oscillator {
 }
 
 // The expected error in seconds, which may be infinite or no number.
-#[derive(Drop)]
+#[derive(Clone, Copy)]
 pub enum Forecast {
     Expected(f64),
     Refused(Refusal),

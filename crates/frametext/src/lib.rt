@@ -1,4 +1,5 @@
 // A frame as a line of text in the characters that timeread reads, and the first line of a recording.
+#![tactic(auto)]
 ghost use Rattle.std.specs.Prelude.{◌≡◌, ◌++◌, ◌+◌, ◌≤◌, length, take};
 ghost use Rattle.timecode.specs.Formats.{size};
 ghost use Rattle.timecode.specs.Frames.{written};
@@ -11,7 +12,7 @@ use lines::put;
 use timecode::{Format, MARK, ONE, Refusal, Time, Written, ZERO};
 
 // How many bytes the line has, or why there is none.
-#[derive(Drop)]
+#[derive(Clone, Copy)]
 pub enum Lined {
     Line(usize),
     Refused(Refusal),

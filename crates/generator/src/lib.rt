@@ -1,5 +1,6 @@
 // The lines of a generator's frames, as many at a time as lent memory has room for.
 // The day on which it starts has any kind that Step takes; every later day is usual.
+#![tactic(auto)]
 ghost use Rattle.std.specs.Prelude.{◌≡◌, ◌++◌, ◌+◌, ◌≤◌, take};
 ghost use Rattle.timecode.specs.declared.Written.TheVariants.{Done};
 ghost use Rattle.generator.specs.Sending.{begun, begun_of, kind_after, next_start, frame_line_for, Generates};
@@ -13,14 +14,14 @@ use timecode::{Format, Stepped, Time, Written};
 const LAST_START: usize = 65_280;
 
 // Where frames start: the time of the first, and the kind of its day.
-#[derive(Drop)]
+#[derive(Clone, Copy)]
 pub struct Start {
     pub time: Time,
     pub kind: u8,
 }
 
 // Where the next frame starts, how many frames are left, and how many bytes were put.
-#[derive(Drop)]
+#[derive(Clone, Copy)]
 pub struct Generated {
     pub next: Start,
     pub left: u64,

@@ -1,4 +1,5 @@
 // Some bytes of a recording heard at once: the progress after them, and their lines.
+#![tactic(auto)]
 ghost use Rattle.std.specs.Prelude.{◌≡◌, false, ◌++◌, ◌+◌, ◌*◌, ◌≤◌, length, take};
 ghost use Rattle.block.specs.Blocks.{lists};
 ghost use Rattle.progress.specs.Progress.{after_feeds, text_feeds};
@@ -14,7 +15,7 @@ use progress::{
 use timecode::Time;
 
 // The progress after some symbols, how many they were, and where their lines end.
-#[derive(Drop)]
+#[derive(Clone, Copy)]
 struct Heard {
     progress: Progress,
     taken: usize,

@@ -1,5 +1,6 @@
 // The layout as constant rows, one for each of the letters A, B, D, E, G, H and X and one more for A and B with the year, lent to writer and reader alike.
 // Each function gives what document 01's table and document 02's year and XR3 give, for every format; a letter that is none of the seven has a row of its own.
+#![tactic(auto)]
 ghost use Rattle.std.specs.Prelude.{◌≡◌, false, cond, ◌&&◌, ℕ, ◌≤◌, ◌<◌, leb};
 ghost use Rattle.timecode.specs.Formats.{known, size, interval, carries_leap, carries_year};
 ghost use Rattle.layout.specs.Tables.{RowFor, RowOf, IsRow, run_starts, full_widths, is_carried, run_widths, runs_in, has_year, takes_year, without_year, with-letter};
@@ -8,7 +9,7 @@ use timecode::Format;
 
 // A row: n, S, its expressions (first to last), whether it carries the leap second and the year, and which runs of elements it
 // carries, a bit for each by its number, the first the lowest; then where its runs start, carried or not, by their numbers, and its marks.
-#[derive(Drop)]
+#[derive(Clone, Copy)]
 pub struct Row {
     pub elements: usize,
     pub interval: u32,

@@ -1,4 +1,5 @@
 // timeread's work: a recording in characters becomes the list of Feeds that it is, and its reports lines.
+#![tactic(auto)]
 ghost use Rattle.std.specs.Prelude.{◌≡◌, ◌+◌, ◌≤◌, ◌<◌, length, take};
 ghost use Rattle.lines.specs.Text.{counts_line};
 ghost use Rattle.progress.specs.Progress.{running_at};
@@ -17,7 +18,7 @@ const LAST_START: usize = 32_704;
 const SETTING: u8 = 2;
 
 // How many bytes were taken, how many were put, and the progress.
-#[derive(Drop)]
+#[derive(Clone, Copy)]
 pub struct Listed {
     pub progress: Progress,
     pub taken: usize,

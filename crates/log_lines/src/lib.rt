@@ -1,4 +1,5 @@
 // The lines of timelog: a report as timeread prints it, with the year where timeread has the number of the element; and the report of such a line.
+#![tactic(auto)]
 ghost use Rattle.std.specs.Prelude.{◌≡◌, ◌≤◌, length, take};
 ghost use Rattle.lines.specs.Text.{report_line};
 ghost use Rattle.report_log.specs.Log.{no_report};
@@ -9,7 +10,7 @@ use report_log::Report;
 use timecode::Time;
 
 // A line's first number, and a report with that year and what else the line says; or any other line.
-#[derive(Drop)]
+#[derive(Clone, Copy)]
 pub enum LineRead {
     Report { number: u64, report: Report },
     Other,

@@ -1,5 +1,6 @@
 // The answers of the report log as C's structs, by value: the number of the refusal or 0 first, then the values.
 // A field for which an answer has no value is 0. That each struct has its answer's number and values stands in specs/.
+#![tactic(auto)]
 ghost use Rattle.std.specs.Prelude.{◌≡◌};
 ghost use Rattle.log_results.specs.LogStructs.{log_write_result_of, log_read_result_of};
 
@@ -10,7 +11,7 @@ use timecode::Time;
 
 // put_in: 1 where the record was put in, 0 where it does not fit.
 #[repr(C)]
-#[derive(Drop)]
+#[derive(Clone, Copy)]
 pub struct LogWriteResult {
     pub number: u8,
     pub put_in: u8,
@@ -19,7 +20,7 @@ pub struct LogWriteResult {
 
 // found: 1 with a report, 0 at the log's end.
 #[repr(C)]
-#[derive(Drop)]
+#[derive(Clone, Copy)]
 pub struct LogReadResult {
     pub number: u8,
     pub found: u8,

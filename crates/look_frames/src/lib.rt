@@ -1,5 +1,6 @@
 // What timelook has found and printed so far, and the frames that are due: one after another, with a line for each that is refused and
 // for each whose time does not follow. Nothing says which bytes a write moves, so these promise to be safe and to end, and no more.
+#![tactic(auto)]
 use clock::next_after;
 use due_frames::{Looked, look_at};
 use frame_lines::{put_jump, put_more_refused, put_next, put_offending, put_refused};
@@ -17,7 +18,7 @@ const LINES_IN_A_ROW: u64 = 3;
 
 // How much of the output is filled and whether all before it was written; the place where the next frame is due, how many refused ones
 // stand before it in a row, and whether an accepted one does, with its time; the stretch under way; and the stretches and reports before it.
-#[derive(Drop)]
+#[derive(Clone, Copy)]
 pub struct Look {
     pub filled: usize,
     pub more: bool,

@@ -1,5 +1,6 @@
 // The stretches of a recording that report, the gaps between them, and in each gap the frames that are due.
 // Nothing says which bytes a write moves, so these promise to be safe and to end, and no more.
+#![tactic(auto)]
 use frame_lines::put_cut;
 use layout::frame_size;
 use look_frames::{Look, with_frames, with_line};

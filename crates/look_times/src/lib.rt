@@ -1,5 +1,6 @@
 // Lines of reports and gaps, as timelook prints them behind what its output has. Elements are counted from 1.
 // Nothing says which bytes a write moves, so these promise to be safe and to end, and no more.
+#![tactic(auto)]
 use lines::report_line;
 use std::num::wrapping_add_u64;
 use texts::{put_byte, put_bytes, put_decimal, put_numbers};
@@ -9,7 +10,7 @@ use timecode::Time;
 const BEHIND_TIME: usize = 14;
 
 // The first and the last report of a stretch, and how many there are.
-#[derive(Drop)]
+#[derive(Clone, Copy)]
 pub struct Stretch {
     pub reports: u64,
     pub first: u64,

@@ -1,6 +1,7 @@
 // Prints the listing of the recording behind a descriptor on standard output.
 // What a read brings and where a write goes is the C library's: beneath this crate nothing says which bytes they are,
 // or that a call failed.
+#![tactic(auto)]
 ghost use Rattle.std.specs.Prelude.{◌≡◌, false};
 ghost use Rattle.progress.specs.Progress.{running_at};
 ghost use Rattle.printing.specs.Printing.{stopped, Prints, AfterRead, Reads, ReadsAll};
@@ -12,7 +13,7 @@ use recording_head::read_head;
 use stream::{Made, Reader};
 
 // The progress after a read, and whether another is to come.
-#[derive(Drop)]
+#[derive(Clone, Copy)]
 struct Printed {
     progress: Progress,
     more: bool,

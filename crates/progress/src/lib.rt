@@ -1,4 +1,5 @@
 // timeread's progress: what one Feed makes of it, and the line of its answer.
+#![tactic(auto)]
 ghost use Rattle.std.specs.Prelude.{◌≡◌, false, ◌++◌, ◌+◌, ◌≤◌, length, take};
 ghost use Rattle.timecode.specs.Answers.{refusal_number};
 ghost use Rattle.lines.specs.Text.{report_line, refused_line};
@@ -10,7 +11,7 @@ use stream::{Reader, answer_to, next_reader};
 use timecode::{Answer, Refusal, Time};
 
 // What timeread keeps from one read to the next.
-#[derive(Drop)]
+#[derive(Clone, Copy)]
 pub struct Progress {
     pub reader: Reader,
     pub elements: u64,
@@ -19,7 +20,7 @@ pub struct Progress {
 }
 
 // The progress after some bytes, and where their lines end.
-#[derive(Drop)]
+#[derive(Clone, Copy)]
 pub struct Progressed {
     pub progress: Progress,
     pub filled: usize,

@@ -1,4 +1,5 @@
 // One pulse classified and fed: the classifier's refusal first, else one Feed of the pulse's symbol, with the pulse's deviation beside the answer.
+#![tactic(auto)]
 ghost use Rattle.std.specs.Prelude.{◌≡◌};
 ghost use Rattle.pulse_feed.specs.PulseFeeds.{refused_pulse, handed_up, feed_pulse_of};
 
@@ -7,7 +8,7 @@ use stream::{Fed, Reader, feed};
 use timecode::{Answer, Classified, Refusal, WidthSettings};
 
 // What a Feed hands back, and the deviation of the pulse: 0 for a spoiled element and beside a refusal.
-#[derive(Drop)]
+#[derive(Clone, Copy)]
 pub struct PulseFed {
     pub reader: Reader,
     pub answer: Answer,

@@ -1,12 +1,13 @@
 // A line of a counter's export: the width and the period of a pulse, in decimal, with blanks or a comma between them.
 // It assumes nothing of the bytes; a newline is no part of the line.
+#![tactic(auto)]
 ghost use Rattle.std.specs.Prelude.{◌≡◌, ◌≤◌, length};
 ghost use Rattle.pulse_lines.specs.PulseLines.{is_blank, is_digit, opens_heading, end_of, comma_end, separator_end, pulse_with, pulse_line_of, is_heading};
 
 use arguments::{Number, decimal_in};
 
 // What a line says: a pulse, nothing at all, or anything else.
-#[derive(Drop)]
+#[derive(Clone, Copy)]
 pub enum PulseLine {
     Pulse { width: u32, period: u32 },
     Empty,

@@ -1,1 +1,2 @@
 // timeread reads what timewrite prints: theorems over both, no code.
+#![tactic(auto)]

@@ -1,8 +1,9 @@
 // The first three bytes of a recording: letter, expression digit and LF, if it is one.
 // Nothing beneath says which bytes a read brings, so no contract here can.
+#![tactic(auto)]
 
 // The next byte of the input, or why there is none.
-#[derive(Drop)]
+#[derive(Clone, Copy)]
 enum Next {
     Byte(u8),
     End,

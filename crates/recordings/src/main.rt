@@ -2,6 +2,7 @@
 // The expected lines are not this program's: they came with the recordings, and for those named own_, for leap_added_A0,
 // which the leap second changed, for line_a4_baseonly and line_b7_baseonly, which the year changed, and for line_x2_baseonly, which
 // letter X changed, they are the plain version's in reference/.
+#![tactic(auto)]
 fn print_recording(argument: usize) {
     let mut name = io::buffer();
     let n = os::arg(argument, &mut name);

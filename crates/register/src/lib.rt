@@ -1,5 +1,6 @@
 // The frame under way: its symbols so far, two bits each, from where a frame may begin; and how many accepted frames in a row end right before it.
 // The newest word takes every symbol and is copied when the frame has 32, 64 and 96 of them, so that no other word is shifted.
+#![tactic(auto)]
 ghost use Rattle.std.specs.Prelude.{◌≡◌, cond, ◌+◌, ◌%◌, ◌≤◌, length, take, drop};
 ghost use Rattle.following.specs.Rows.{opens_frame};
 ghost use Rattle.register.specs.Receiving.{push_of, begun_of, continued_of, with_word_of, receive_of, SymbolsPut, frame_of};
@@ -8,7 +9,7 @@ use timecode::{Format, MARK};
 
 // How many symbols the frame under way has, or 0 where there is none; the last 32 symbols; the frame's first, second and third 32, or 0;
 // how many accepted frames, each next after the one before, end right before the frame, or with it once it is whole.
-#[derive(Drop)]
+#[derive(Clone, Copy)]
 pub struct Register {
     pub count: usize,
     pub newest: u64,

@@ -1,10 +1,11 @@
 // What writing and reading a report log take and what they answer: types only, no function.
 // The record of a report and the log of a list of reports are defined, and their theorems stand, in specs/.
+#![tactic(auto)]
 use timecode::{Refusal, Time};
 
 // What a stream reader reports: a time and a control word.
 #[repr(C)]
-#[derive(Drop)]
+#[derive(Clone, Copy)]
 pub struct Report {
     pub time: Time,
     pub control: u64,
@@ -16,7 +17,7 @@ impl Report {
 }
 
 // Writing: the next place, or the record was left out because it does not fit.
-#[derive(Drop)]
+#[derive(Clone, Copy)]
 pub enum LogWritten {
     Next(usize),
     LeftOut,
@@ -24,7 +25,7 @@ pub enum LogWritten {
 }
 
 // Reading: the report of a record and the next place, or none at the log's end.
-#[derive(Drop)]
+#[derive(Clone, Copy)]
 pub enum LogReading {
     Record { report: Report, next: usize },
     None,

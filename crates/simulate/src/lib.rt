@@ -1,5 +1,6 @@
 // The simulation: a generator is heard by up to eight listeners, each with its own setting and its own damages.
 // It goes frame by frame, and its memory does not grow with the frames.
+#![tactic(auto)]
 ghost use Rattle.std.specs.Prelude.{◌≡◌, true, ◌&&◌, ◌-◌, ◌≤◌, eqb, leb, get_or, length, take};
 ghost use Rattle.timecode.specs.Formats.{known, size};
 ghost use Rattle.timecode.specs.Frames.{usual, step_of, written, Valid};
@@ -19,7 +20,7 @@ use stream::{Made, Reader};
 use timecode::{Format, Refusal, Stepped, Time, Written};
 
 // Whether it was done, and what each listener counted; zeros past the last listener, and where it was refused.
-#[derive(Drop)]
+#[derive(Clone, Copy)]
 pub struct Simulation {
     pub answer: Written,
     pub counts: [Counts; 8],

@@ -1,5 +1,6 @@
 // The stream reader with its setting k: made fresh, and fed one symbol at a time.
 // It follows the one frame that can be under way and counts the accepted frames in a row before it: each frame is read once, when it is whole.
+#![tactic(auto)]
 ghost use Rattle.std.specs.Prelude.{◌≡◌, true, ◌+◌, ◌%◌, ◌≤◌, ◌<◌, length, take, drop};
 ghost use Rattle.timecode.specs.Formats.{is_x, known, size};
 ghost use Rattle.timecode.specs.Frames.{next_after, read_of};
@@ -18,7 +19,7 @@ use tape::{word_fits, word_meaning};
 use timecode::{Answer, Format, Reading, Refusal, SPOILED, Time};
 
 // The place is document 01's: the number of symbols accepted so far, modulo n. Time and control word are those of the row's last frame.
-#[derive(Drop)]
+#[derive(Clone, Copy)]
 pub struct Reader {
     pub format: Format,
     pub setting: u8,
@@ -29,7 +30,7 @@ pub struct Reader {
 }
 
 // The accepted frames in a row that end with the last whole frame: how many they are, and the last one's time and control word.
-#[derive(Drop)]
+#[derive(Clone, Copy)]
 pub struct FrameRow {
     pub count: usize,
     pub time: Time,
@@ -37,14 +38,14 @@ pub struct FrameRow {
 }
 
 // A fresh reader, or why there is none.
-#[derive(Drop)]
+#[derive(Clone, Copy)]
 pub enum Made {
     Fresh(Reader),
     Refused(Refusal),
 }
 
 // The reader handed back, with the answer.
-#[derive(Drop)]
+#[derive(Clone, Copy)]
 pub struct Fed {
     pub reader: Reader,
     pub answer: Answer,

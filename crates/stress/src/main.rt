@@ -1,5 +1,6 @@
 // Long streams, most of them damaged: for each case, format and setting how many symbols a reader accepts, reports and refuses, and a
 // checksum over its reports. The expected lines are from an independent plain version of the rules in another language.
+#![tactic(auto)]
 ghost use Rattle.std.specs.Prelude.{◌≡◌, ◌≤◌};
 ghost use Rattle.stream.specs.Feeding.{feed_of};
 
@@ -24,7 +25,7 @@ const PRIME: u64 = 1_000_000_007;
 // What a frame holds before it is written: no symbol, so that a frame that was not written is seen.
 const LENT: u8 = 7;
 
-#[derive(Drop)]
+#[derive(Clone, Copy)]
 enum Case {
     Marks,
     Spoiled,
@@ -48,7 +49,7 @@ enum Case {
 }
 
 // The reader, and what it has answered so far.
-#[derive(Drop)]
+#[derive(Clone, Copy)]
 struct Tally {
     reader: Reader,
     elements: u64,

@@ -1,5 +1,6 @@
 // A stride of a block: its first symbol, then symbols up to the next opening or to the frame's end; openings that come before a frame is whole go together.
 // Only its last symbol can report. A frame that is whole in the stride is read in the block itself.
+#![tactic(auto)]
 ghost use Rattle.std.specs.Prelude.{◌≡◌, true, ◌+◌, ◌-◌, ◌%◌, ◌≤◌, ◌<◌, get_or, length};
 ghost use Rattle.timecode.specs.Formats.{size};
 ghost use Rattle.timecode.specs.Stream.{is_setting};
@@ -17,14 +18,14 @@ use stream::{Reader, reader_with_reading, when_whole, with_register};
 use timecode::Format;
 
 // The reader after a stride, and how many symbols it took.
-#[derive(Drop)]
+#[derive(Clone, Copy)]
 pub struct Stride {
     pub reader: Reader,
     pub taken: usize,
 }
 
 // The register after a run, and where it stopped.
-#[derive(Drop)]
+#[derive(Clone, Copy)]
 pub struct Run {
     pub received: Register,
     pub stop: usize,

@@ -1,9 +1,10 @@
 // What the calls of the time code engine take and what they answer: types only, no function. A format, a time and width settings are C's structs too.
 // Document 01 and of document 02 the step back, the leap second, XR3 tapes, the width settings, the year and the setting k as definitions, and the theorems over them, stand in specs/.
+#![tactic(auto)]
 
 // A rate letter, in capital ASCII, and a coded expression.
 #[repr(C)]
-#[derive(Drop)]
+#[derive(Clone, Copy)]
 pub struct Format {
     pub letter: u8,
     pub expression: u8,
@@ -20,7 +21,7 @@ pub const SPOILED: u8 = 3;
 
 // The year, 0 to 99 for 2000 to 2099 and 0 in a format without one; the day of the year; and document 01's c: hundredths of a second since midnight.
 #[repr(C)]
-#[derive(Drop)]
+#[derive(Clone, Copy)]
 pub struct Time {
     pub year: u8,
     pub day: u16,
@@ -52,7 +53,7 @@ impl Time {
 
 // How far the widths of zeros, ones and marks may lie from their centres, in percent of the nominal interval.
 #[repr(C)]
-#[derive(Drop)]
+#[derive(Clone, Copy)]
 pub struct WidthSettings {
     pub zeros: u8,
     pub ones: u8,
@@ -66,7 +67,7 @@ impl WidthSettings {
 }
 
 // A class of widths: its symbol, and in percent of the nominal interval its centre and the setting, how far from the centre it reaches.
-#[derive(Drop)]
+#[derive(Clone, Copy)]
 pub struct WidthClass {
     pub symbol: u8,
     pub centre: u8,
@@ -74,14 +75,14 @@ pub struct WidthClass {
 }
 
 // A pulse: its symbol, and 100 times its width less its class's centre times the interval; 0 for a spoiled element.
-#[derive(Drop)]
+#[derive(Clone, Copy)]
 pub struct Pulse {
     pub symbol: u8,
     pub deviation: i32,
 }
 
 // Document 01's thirteen numbers and document 02's from 14 on, in their order. With 5 and 6 goes the index of the element, with 25 that of the cycle.
-#[derive(Drop)]
+#[derive(Clone, Copy)]
 pub enum Refusal {
     UnknownFormat,
     InvalidTime,
@@ -113,42 +114,42 @@ pub enum Refusal {
 }
 
 // Write, the converters, and the classifier over lists: whether the lent memory was written.
-#[derive(Drop)]
+#[derive(Clone, Copy)]
 pub enum Written {
     Done,
     Refused(Refusal),
 }
 
 // Read: the time and the control word.
-#[derive(Drop)]
+#[derive(Clone, Copy)]
 pub enum Reading {
     Accepted { time: Time, control: u64 },
     Refused(Refusal),
 }
 
 // Step and step back: the next time, or the time before.
-#[derive(Drop)]
+#[derive(Clone, Copy)]
 pub enum Stepped {
     To(Time),
     Refused(Refusal),
 }
 
 // Difference: signed hundredths.
-#[derive(Drop)]
+#[derive(Clone, Copy)]
 pub enum Subtracted {
     Hundredths(i64),
     Refused(Refusal),
 }
 
 // The classifier, for one pulse: its symbol and its deviation.
-#[derive(Drop)]
+#[derive(Clone, Copy)]
 pub enum Classified {
     Symbol { symbol: u8, deviation: i32 },
     Refused(Refusal),
 }
 
 // Scan: where the frame begins, its time and its control word.
-#[derive(Drop)]
+#[derive(Clone, Copy)]
 pub enum Scanned {
     Found {
         start: usize,
@@ -160,7 +161,7 @@ pub enum Scanned {
 }
 
 // Feed: what one symbol brought.
-#[derive(Drop)]
+#[derive(Clone, Copy)]
 pub enum Answer {
     Quiet,
     Report { time: Time, control: u64 },

@@ -1,5 +1,6 @@
 // Prints the reports of the log on standard input, a line each; or, with the argument `make`, makes the log of such lines.
 // With `make` and a year it takes the lines of timeread, whose first number is an element's, and gives each report that year.
+#![tactic(auto)]
 mod making;
 mod printing;
 
@@ -7,7 +8,7 @@ use arguments::{Number, decimal_in};
 use making::Year;
 use version::print_version;
 
-#[derive(Drop)]
+#[derive(Clone, Copy)]
 enum Asked {
     Print,
     Make(Year),

@@ -9,7 +9,7 @@ use std::num::wrapping_add_u64;
 use timecode::{Refusal, Time};
 
 // Whether a report's year is the line's first number, or one for all.
-#[derive(Drop)]
+#[derive(Clone, Copy)]
 pub enum Year {
     First,
     Given(u8),
@@ -17,7 +17,7 @@ pub enum Year {
 
 // How many bytes of the open line there are, and how many lines before it; the next place in the output and the last
 // report put in; and whether there is more to do.
-#[derive(Drop)]
+#[derive(Clone, Copy)]
 struct Making {
     used: usize,
     lines: u64,

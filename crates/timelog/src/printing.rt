@@ -14,7 +14,7 @@ const LAST_WITH_ROOM: usize = 65_472;
 
 // How many bytes of the log stood before those that are held, how many are held, and the place among them; how much of
 // the output is filled; the last report and how many there were; and whether there is more to do.
-#[derive(Drop)]
+#[derive(Clone, Copy)]
 struct Listing {
     gone: u64,
     held: usize,

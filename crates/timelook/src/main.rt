@@ -1,6 +1,7 @@
 // Prints why the recording on standard input gives what timeread reports of it: the stretches that report and the gaps, the frames that
 // were due and are refused, how often each symbol stands there, and which formats report on these elements, forwards and backwards.
 // At most 4,194,304 elements are held; of a longer recording the first ones are looked at.
+#![tactic(auto)]
 mod looking;
 
 use characters::decode;
@@ -17,7 +18,7 @@ use version::{print_help, print_version};
 const MOST: usize = 4_194_304;
 
 // How many elements are held, whether more may come, and whether a read failed.
-#[derive(Drop)]
+#[derive(Clone, Copy)]
 struct Held {
     count: usize,
     more: bool,

@@ -2,6 +2,7 @@
 // counter ticks; a first line that begins with a letter, a quotation mark or a number sign is a heading.
 // Its arguments are letter and expression, the nominal element interval in ticks and, if any, the settings of zeros, ones and
 // marks in percent of it. With the word `deviations` last it prints a line for each pulse in place of the recording.
+#![tactic(auto)]
 use arguments::Number;
 use command_line::{Named, format_argument, limited_8, limited_32, number_argument};
 use frametext::{character_of, first_line};
@@ -20,7 +21,7 @@ const LAST_WITH_ROOM: usize = 65_408;
 // A line that fills this many bytes is too long for any pulse.
 const LONGEST_LINE: usize = 256;
 
-#[derive(Drop)]
+#[derive(Clone, Copy)]
 struct Request {
     format: Format,
     interval: u32,
@@ -28,13 +29,13 @@ struct Request {
     deviations: bool,
 }
 
-#[derive(Drop)]
+#[derive(Clone, Copy)]
 enum Asked {
     Pulses(Request),
     Malformed,
 }
 
-#[derive(Drop)]
+#[derive(Clone, Copy)]
 enum Settings {
     Given(WidthSettings),
     Malformed,
@@ -42,7 +43,7 @@ enum Settings {
 
 // How much of the line under way is held, how many lines there were, how much of the output is filled, how many elements stand in
 // its last row, and whether there is more to do.
-#[derive(Drop)]
+#[derive(Clone, Copy)]
 struct Progress {
     used: usize,
     lines: u64,

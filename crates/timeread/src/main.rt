@@ -1,4 +1,5 @@
 // Prints the reports of the recording on standard input.
+#![tactic(auto)]
 fn main() {
     if version::print_version(b"timeread") {
         return;

@@ -3,6 +3,7 @@
 // Its arguments are letter and expression, day, hundredths, year length, number of frames and, if any, the first year. The
 // damages are read from standard input, a line for each: an element's number, a space and the character that is received
 // in its place; or two more arguments say in the place of one element in how many a random symbol stands, and a seed.
+#![tactic(auto)]
 ghost use Rattle.std.specs.Prelude.{◌≤◌};
 
 use arguments::Number;
@@ -21,7 +22,7 @@ const FIRST_SETTING: u8 = 2;
 
 const LAST_SETTING: u8 = 5;
 
-#[derive(Drop)]
+#[derive(Clone, Copy)]
 struct Request {
     format: Format,
     start: Time,
@@ -29,13 +30,13 @@ struct Request {
     frames: u32,
 }
 
-#[derive(Drop)]
+#[derive(Clone, Copy)]
 enum Asked {
     Run(Request),
     Malformed,
 }
 
-#[derive(Drop)]
+#[derive(Clone, Copy)]
 enum Started {
     At(Time),
     Malformed,

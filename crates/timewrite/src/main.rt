@@ -1,6 +1,7 @@
 // Prints a recording that timeread reads: the first line, and the frames of a generator, a line each.
 // Its arguments are letter and expression, day, hundredths, year length, number of frames and, if any, the control word,
 // the kind of the first day and the first year. Where the format carries the year, its own length counts.
+#![tactic(auto)]
 ghost use Rattle.std.specs.Prelude.{◌≡◌, ◌-◌, ◌≤◌};
 ghost use Rattle.generator.specs.Sending.{start_of};
 
@@ -15,7 +16,7 @@ use output::{print_refused, write_first};
 use timecode::{Format, Time, Written};
 use version::print_version;
 
-#[derive(Drop)]
+#[derive(Clone, Copy)]
 struct Request {
     format: Format,
     start: Start,
@@ -24,13 +25,13 @@ struct Request {
     frames: u64,
 }
 
-#[derive(Drop)]
+#[derive(Clone, Copy)]
 enum Asked {
     Recording(Request),
     Malformed,
 }
 
-#[derive(Drop)]
+#[derive(Clone, Copy)]
 enum Started {
     At(Start),
     Malformed,

@@ -1,5 +1,6 @@
 // What a program prints where its one argument is --version, its name and the engine's version, which the file VERSION has; or --help, how it is called.
 // Nothing beneath says which arguments a program was given, so no contract here can.
+#![tactic(auto)]
 use check::same;
 
 fn is_asked_for(word: &[u8]) -> bool {

@@ -1,5 +1,6 @@
 // The calendar of test windows: an empty one, adding a window, and asking which windows hold a time and what follows it.
 // Every calendar is taken: a count over 32 counts as 32, and of each number kept only the 56 bits of a key count.
+#![tactic(auto)]
 ghost use Rattle.std.specs.Prelude.{◌≡◌, cond, true, false, ◌+◌, ◌*◌, ◌%◌, ◌≤◌, ◌<◌, ltb, length, take, set};
 ghost use Rattle.calendar.specs.Dates.{has_date};
 ghost use Rattle.calendar.specs.Keys.{Small};
@@ -13,7 +14,7 @@ use months::{day_in, has_date, has_day};
 use timecode::{Refusal, Time, Written};
 
 // Of the windows looked at: which hold the time, and the key of the next start or end.
-#[derive(Drop)]
+#[derive(Clone, Copy)]
 pub struct Seen {
     pub mask: u32,
     pub next: u64,
