@@ -92,7 +92,7 @@ def turned(text, fields, kit, path):
         return new
 
     out, at = [], 0
-    for string in (LITERAL if path.endswith(".rt") else STRING).finditer(text):
+    for string in (LITERAL if path.endswith((".rt", ".edit")) else STRING).finditer(text):
         out += [WORD.sub(word, text[at : string.start()]), string.group()]
         at = string.end()
     out.append(WORD.sub(word, text[at:]))
