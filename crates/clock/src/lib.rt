@@ -1,5 +1,6 @@
 // Times: whether one lies on a format, Step, step back, next after, and Difference.
 #![tactic(auto)]
+
 ghost use Rattle.std.specs.Prelude.{◌≡◌, true, cond, ◌&&◌, ℕ, ◌+◌, ◌*◌, ◌%◌, ◌<◌, ◌≤◌, ltb, eqb, pos, ◌-ℤ◌};
 ghost use Rattle.timecode.specs.Answers.{check};
 ghost use Rattle.timecode.specs.Calls.{difference_of};

@@ -1,6 +1,7 @@
 // Days and years: how long a year is, which year a format takes, and the day and the year after and before.
 // The calls here are the clock's and the frame's own; they take whether a format carries the year, and whether it is X.
 #![tactic(auto)]
+
 ghost use Rattle.std.specs.Prelude.{◌≡◌, cond, ◌≤◌};
 ghost use Rattle.timecode.specs.Formats.{carries_year, days_in, is_x, last_day, year_carried};
 ghost use Rattle.timecode.specs.Frames.{length_in, day_after, year_after, year_of_day_after, day_before, year_before, year_of_time_before};

@@ -1,7 +1,7 @@
 -- The code's runs: twenty in every format. They are the layout's, and a range of control bits that the table does not list has no elements.
 -- So the digits at them are written and read as at the layout's runs.
 use Rattle.std.specs.Prelude.{◌≡◌, refl, Bool, true, false, cond, ◌&&◌, ◌||◌, List, [], ◌∷◌, ◌++◌, map, ℕ, zero, suc, ◌+◌, ◌*◌, ◌/◌, ◌%◌, ◌^◌, eqb, get_or, length}
-use Rattle.std.proofs.Common.{sym, ap, ◌∙◌, append-nil, div-one, one-mul, zero-add, arith, eqb-true}
+use Rattle.std.proofs.Common.{sym, ap, ◌∙◌, div-one, one-mul, zero-add, arith, eqb-true}
 use Rattle.timecode.specs.Formats.{member, is_x, table, look_up, row_of, known, size, carries_control, carries_seconds, carries_year, control_places}
 use Rattle.timecode.specs.Frames.{Valid, total_width, written, covered, marks_agree, element_fits, check_elements}
 use Rattle.timecode.specs.Laws.Fields.{Binary, binary-small}

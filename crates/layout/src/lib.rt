@@ -1,6 +1,7 @@
 // The layout as constant rows, one for each of the letters A, B, D, E, G, H and X and one more for A and B with the year, lent to writer and reader alike.
 // Each function gives what document 01's table and document 02's year and XR3 give, for every format; a letter that is none of the seven has a row of its own.
 #![tactic(auto)]
+
 ghost use Rattle.std.specs.Prelude.{◌≡◌, false, cond, ◌&&◌, ℕ, ◌≤◌, ◌<◌, leb};
 ghost use Rattle.timecode.specs.Formats.{known, size, interval, carries_leap, carries_year};
 ghost use Rattle.layout.specs.Tables.{RowFor, RowOf, IsRow, run_starts, full_widths, is_carried, run_widths, runs_in, has_year, takes_year, without_year, with-letter};

@@ -1,6 +1,7 @@
 // The lines that timeread prints, as ASCII at the start of a lent line.
 // No line is longer than 64 bytes: the longest, of the counts, has at most 59. What stands behind a line in the lent memory is free.
 #![tactic(auto)]
+
 ghost use Rattle.std.specs.Prelude.{◌≡◌, [], ◌∷◌, ◌++◌, ◌+◌, ◌≤◌, ◌<◌, length, take};
 ghost use Rattle.lines.specs.Text.{glyph, digits_of, digit_count, decimal, pair_of, clock_of, report_line, counts_line, refused_line};
 

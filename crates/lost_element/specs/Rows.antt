@@ -7,7 +7,6 @@ use Rattle.timecode.specs.Stream.{lead, opens, window_length, frame_in, next_in_
 use Rattle.timecode.specs.declared.Answer.{Answer}
 use Rattle.timecode.specs.declared.Answer.TheVariants.{Quiet, Report}
 use Rattle.timecode.specs.declared.Format.{Format}
-use Rattle.timecode.specs.declared.Time.{Time}
 use Rattle.lost_element.specs.LostElement.{left_out, put_in}
 
 abbrev x2 : Format

@@ -6,13 +6,13 @@ use Rattle.std.proofs.Math.ListN.{length, get_or, get_or-append}
 use Rattle.std.proofs.Math.Seq.{get_or-drop, get_or-append-add}
 use Rattle.timecode.specs.Demand3.{Demand3, demand-3}
 use Rattle.timecode.specs.Formats.{size}
-use Rattle.timecode.specs.Frames.{Sent, Generator, elements, sent_at}
+use Rattle.timecode.specs.Frames.{Sent, Generator, elements}
 use Rattle.timecode.specs.Laws.Machine.{answer-long, report-long, length_last, first-elements}
 use Rattle.timecode.specs.Laws.Marks.{size-large}
 use Rattle.timecode.specs.Laws.Table.{size-range}
 use Rattle.timecode.specs.Laws.Tests.{clash}
 use Rattle.timecode.specs.Laws.Windows.{long, window-long, Confirmed, window-confirmed}
-use Rattle.timecode.specs.Stream.{is_setting, lead, window_length, frame_in, window_answer, last_of, plain_answer, plain_answers, elements_of, IsElement, elements_up_to}
+use Rattle.timecode.specs.Stream.{is_setting, lead, window_length, frame_in, window_answer, last_of, plain_answer, plain_answers, elements_of, elements_up_to}
 use Rattle.timecode.specs.declared.Answer.{Answer}
 use Rattle.timecode.specs.declared.Answer.TheVariants.{Report}
 use Rattle.timecode.specs.declared.Format.{Format}

@@ -1,6 +1,6 @@
 -- A confirmed window of a generator's elements with one left out or one symbol put in: the frame that fills its last n is the generator's, whole.
 -- Marks tell where the generator's frames begin in it. No time needs to be next after another for that.
-use Rattle.std.specs.Prelude.{◌≡◌, true, false, List, ◌⊎◌, ℕ, zero, suc, ◌+◌, ◌*◌, ◌-◌, ◌/◌, ◌%◌, ◌<◌, ◌≤◌, length, get_or}
+use Rattle.std.specs.Prelude.{◌≡◌, false, List, ◌⊎◌, ℕ, zero, suc, ◌+◌, ◌*◌, ◌-◌, ◌/◌, ◌%◌, ◌<◌, ◌≤◌, length, get_or}
 use Rattle.std.proofs.Common.{sym, ap, ◌∙◌, inl, inr, add-zero, arith, ext_get_or}
 use Rattle.std.proofs.Math.Nat.{div-add-mod, lt_of_mul-lt-mul_left, add-mul-mod_self_left}
 use Rattle.std.proofs.Math.Decide.{ℕ_discrete, dec_lt}

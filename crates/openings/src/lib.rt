@@ -1,6 +1,7 @@
 // Where frames may begin among the symbols of a block, and how many of its symbols stand before the first above 3.
 // It assumes nothing of the symbols.
 #![tactic(auto)]
+
 ghost use Rattle.std.specs.Prelude.{◌≡◌, true, false, cond, ◌&&◌, ℕ, ◌+◌, ◌≤◌, ◌<◌, eqb, ltb, get_or, length};
 ghost use Rattle.timecode.specs.Stream.{lead};
 ghost use Rattle.openings.specs.Accepted.{accepted_in};

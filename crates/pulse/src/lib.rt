@@ -1,5 +1,6 @@
 // The classifier: the symbol of a pulse by its width and its period, and how far the width is from its class's centre, for one pulse and over lists.
 #![tactic(auto)]
+
 ghost use Rattle.std.specs.Prelude.{◌≡◌, true, map, ◌+◌, ◌*◌, ◌-◌, ◌<◌, ◌≤◌, pos, ◌-ℤ◌, length};
 ghost use Rattle.timecode.specs.Calls.{within, is_interval, are_width_settings, in_class, pulse_of, classify_of, pulses_of, classify_list_of, symbols_left, deviations_left};
 ghost use Rattle.timecode.specs.Laws.Widths.{class_of};

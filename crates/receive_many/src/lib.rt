@@ -1,6 +1,7 @@
 // Many symbols at once into the register, none of which begins a frame: inside a frame up to 32 at a time, outside one only the newest word changes.
 // The symbols are 0 to 3.
 #![tactic(auto)]
+
 ghost use Rattle.std.specs.Prelude.{◌≡◌, ◌+◌, ◌-◌, ◌*◌, ◌%◌, ◌≤◌, length};
 ghost use Rattle.register.specs.Receiving.{push_of, continued_of};
 ghost use Rattle.receive_many.specs.ManySymbols.{slice, push_all, joined_of, join_all, SymbolsBelow};

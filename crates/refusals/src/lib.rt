@@ -1,5 +1,6 @@
 // The number of a refusal, for programs and callers that take numbers alone.
 #![tactic(auto)]
+
 ghost use Rattle.std.specs.Prelude.{◌≡◌};
 ghost use Rattle.timecode.specs.Answers.{refusal_number};
 

@@ -1,6 +1,7 @@
 // The frame under way: its symbols so far, two bits each, from where a frame may begin; and how many accepted frames in a row end right before it.
 // The newest word takes every symbol and is copied when the frame has 32, 64 and 96 of them, so that no other word is shifted.
 #![tactic(auto)]
+
 ghost use Rattle.std.specs.Prelude.{◌≡◌, cond, ◌+◌, ◌%◌, ◌≤◌, length, take, drop};
 ghost use Rattle.following.specs.Rows.{opens_frame};
 ghost use Rattle.register.specs.Receiving.{push_of, begun_of, continued_of, with_word_of, receive_of, SymbolsPut, frame_of};

@@ -1,5 +1,5 @@
 -- What is counted in a list of answers: the first report, the reports, the false ones; and that a list which reports a part of what another reports counts no more.
-use Rattle.std.specs.Prelude.{◌≡◌, refl, Bool, true, false, not, ◌&&◌, List, [], ◌∷◌, ◌↔◌, ℕ, zero, suc, ◌+◌, ◌*◌, ◌-◌, ◌/◌, ◌%◌, ◌<◌, ◌≤◌, leb, ltb, eqb, length, get_or}
+use Rattle.std.specs.Prelude.{◌≡◌, refl, true, false, not, ◌&&◌, List, [], ◌∷◌, ◌↔◌, ℕ, zero, suc, ◌+◌, ◌*◌, ◌-◌, ◌/◌, ◌%◌, ◌<◌, ◌≤◌, leb, ltb, eqb, length, get_or}
 use Rattle.std.proofs.Common.{sym, ap, ◌∙◌, not-suc-le-zero, mul-le-mul_left, arith, eqb-true, ltb-true, leb-true, lt-ltb, le-leb}
 use Rattle.std.proofs.Math.Nat.{mul-mod_right, div-eq_of_eq-mul_right, div-add-mod, le_of_mul-le-mul_left}
 use Rattle.timecode.specs.Formats.{size}

@@ -1,5 +1,5 @@
 -- A damaged list by its index: as long as before, of symbols if it was and the damages are, and as before but at the places of the damages.
-use Rattle.std.specs.Prelude.{◌≡◌, refl, true, false, List, [], ◌∷◌, ℕ, zero, suc, ◌+◌, ◌<◌, ◌≤◌, eqb, length, get_or, set}
+use Rattle.std.specs.Prelude.{◌≡◌, refl, true, false, List, [], ◌∷◌, ℕ, zero, suc, ◌<◌, ◌≤◌, eqb, length, get_or, set}
 use Rattle.std.proofs.Common.{◌∙◌, arith, leb-true, eq-eqb, length-set, get_or-set_same, get_or-set_other}
 use Rattle.std.proofs.Math.Decide.{ℕ_discrete}
 use Rattle.timecode.specs.Formats.{member, is_symbol}

@@ -1,9 +1,9 @@
 -- The frames of a simulation are a generator's, and so many as are asked for.
-use Rattle.std.specs.Prelude.{◌≡◌, List, length}
+use Rattle.std.specs.Prelude.{◌≡◌, length}
 use Rattle.std.proofs.Math.Path.{refl}
-use Rattle.std.proofs.Common.{sym, ap, ◌∙◌, not-suc-le-zero, arith, pow_pos}
+use Rattle.std.proofs.Common.{sym, ap, not-suc-le-zero, arith, pow_pos}
 use Prim.Native.Nat.{ℕ, zero, suc, ◌<◌}
-use Rattle.timecode.specs.Frames.{usual, step_of, following, total_width, Sent, Generator, sent_at}
+use Rattle.timecode.specs.Frames.{usual, step_of, following, total_width, Generator, sent_at}
 use Rattle.timecode.specs.Laws.Back.{step-again}
 use Rattle.timecode.specs.Laws.Stepping.{length_for, went}
 use Rattle.timecode.specs.Laws.Writing.{takes}

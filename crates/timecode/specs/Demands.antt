@@ -10,7 +10,7 @@ use Rattle.timecode.specs.Formats.{member, is_x, row_of, known, size, interval, 
 use Rattle.timecode.specs.Frames.{new_year, turn_day, year_lengths, length_in, usual, kinds, day_end, same_day, next_day, step_of, Follows, next_after, step_back_of, Precedes, write_of, write_leaves, read_of, Sent, Generator, sent_at, day_before, year_of_time_before, following, preceding, on_day, time_in, frame_checks, digit_checks}
 use Rattle.timecode.specs.Laws.Back.{step_back, length_before, checks-alike, back_step, back-on-format, follows-precedes, precedes-follows, any-length-back}
 use Rattle.timecode.specs.Laws.Checks.{accepted, by-reading, all-refused-up-to}
-use Rattle.timecode.specs.Laws.Editions.{Forward, forward-done, forward-leaves, forward-reads, forward-back, back-forward, forward-keeps, backward-keeps, backward-year, with-without}
+use Rattle.timecode.specs.Laws.Editions.{forward-done, forward-leaves, forward-reads, forward-back, back-forward, forward-keeps, backward-keeps, backward-year, with-without}
 use Rattle.timecode.specs.Laws.Existence.{frames, length-frames, control-at, first-time, generator, goes_on}
 use Rattle.timecode.specs.Laws.Reading.{accepted-was-written, elements-up-to}
 use Rattle.timecode.specs.Laws.Stepping.{step-on-format, next-follows, follows_next, usual-end, step-answers, year-range, day-end-range, refuses-alike, length_for, length-in, never-refuses-length, any-length, Went, went, Lands, lands, year_is}

@@ -1,5 +1,5 @@
 -- The step back against the step: each undoes the other for every format, time, year length and kind that it takes.
-use Rattle.std.specs.Prelude.{true, false, ◌&&◌, ◌≡◌, refl, ◌⊎◌, ℕ, ◌+◌, ◌-◌, ◌%◌, ◌≤◌, ◌<◌, eqb}
+use Rattle.std.specs.Prelude.{true, ◌&&◌, ◌≡◌, refl, ◌⊎◌, ℕ, ◌+◌, ◌-◌, ◌%◌, ◌≤◌, ◌<◌, eqb}
 use Rattle.std.proofs.Common.{sym, ap, ◌∙◌, subst, inl, inr, arith, eqb-true, le-leb, eq-eqb, ne_eqb}
 use Rattle.std.proofs.Math.Nat.{add-mod_right}
 use Rattle.std.proofs.lemmas.Bool.{eqb-false}
@@ -7,7 +7,7 @@ use Rattle.timecode.specs.Formats.{interval, carries_year, last_year, days_in, y
 use Rattle.timecode.specs.Frames.{length_in, in_year, day_after, turn_day, year_after, year_of_day_after, day_end, same_day, next_day, following, check_step, step_by, step_of, Follows, day_before, year_before, year_of_time_before, same_day_before, last_before, preceding, step_back_by, step_back_of, Precedes}
 use Rattle.timecode.specs.Laws.Stepping.{Went, went_to, step-answers, answers-alike, length_for, OfYear, of-year, days-length, went, year-range, one-interval, end-on-grid, usual-end, day-end-range, day-after-inside, turn-length, turn-range, in-turn, Lands, lands, within-last, step-on-format}
 use Rattle.timecode.specs.Laws.Table.{interval-range, year-not-x}
-use Rattle.timecode.specs.Laws.Tests.{by-test, clash, and_left, and_right}
+use Rattle.timecode.specs.Laws.Tests.{by-test, clash, and_left}
 use Rattle.timecode.specs.Laws.Times.{time-path, days-range, year-small, year-carried, year-below}
 use Rattle.timecode.specs.declared.Format.{Format}
 use Rattle.timecode.specs.declared.Stepped.{Stepped}

@@ -1,6 +1,6 @@
 -- A window of its lead and m + 1 frames that is a generator's but at some places: while at most m are damaged it confirms no false time, and undamaged it confirms the last frame's.
 use Rattle.std.specs.Prelude.{◌≡◌, refl, true, false, List, map, ◌⊎◌, ℕ, zero, suc, ◌+◌, ◌*◌, ◌-◌, ◌/◌, ◌%◌, ◌<◌, ◌≤◌, length, get_or}
-use Rattle.std.proofs.Common.{sym, ap, ◌∙◌, inl, inr, mul-le-mul_left, add-zero, arith, eq-eqb, ext_get_or}
+use Rattle.std.proofs.Common.{sym, ap, ◌∙◌, inl, inr, mul-le-mul_left, add-zero, arith, ext_get_or}
 use Rattle.std.proofs.Math.Nat.{div-add-mod, lt_of_mul-lt-mul_left, add-mul-mod_self_left, le_of_mul-le-mul_left, div-eq_of_lt-le}
 use Rattle.std.proofs.lemmas.List.{length-map}
 use Rattle.timecode.specs.Formats.{is_x, member, size}

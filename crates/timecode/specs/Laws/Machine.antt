@@ -1,6 +1,6 @@
 -- The plain machine with the setting k: exactly when it reports, that its answers depend on the last kn + 1 symbols (in X kn) alone, and that a higher setting reports a part of what a lower one reports.
 use Rattle.std.specs.Prelude.{◌≡◌, refl, true, false, cond, List, [], ◌∷◌, ◌++◌, ◌↔◌, ℕ, zero, suc, ◌+◌, ◌*◌, ◌-◌, ◌<◌, ◌≤◌, get_or, length, take, drop, replicate}
-use Rattle.std.proofs.Common.{sym, ap, ap₂, ◌∙◌, subst, append_assoc, append-nil, not-suc-le-zero, mul-zero, mul-le-mul_left, arith, leb-true, leb-false, le-leb, eqb-true, eq-eqb, length-append, length-drop, drop_of_length-le, take-append-drop, drop-cons, drop-drop, drop_at, take_all, take-add, get_or-drop}
+use Rattle.std.proofs.Common.{sym, ap, ap₂, ◌∙◌, subst, append_assoc, append-nil, not-suc-le-zero, mul-zero, mul-le-mul_left, arith, leb-true, leb-false, le-leb, length-append, length-drop, drop_of_length-le, take-append-drop, drop-cons, drop-drop, drop_at, take_all, take-add, get_or-drop}
 use Rattle.std.proofs.Math.Decide.{ℕ_discrete, dec_le, dec_lt}
 use Rattle.std.proofs.lemmas.Bool.{lt-leb}
 use Rattle.std.proofs.lemmas.List.{length-replicate, take-append-le, drop-append-le}

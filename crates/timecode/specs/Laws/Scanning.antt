@@ -7,7 +7,7 @@ use native.Mathlib.Omega.{arith}
 use Rattle.std.proofs.Math.Decide.{ℕ_discrete}
 use borrow.Author.Tests.{leb-true, leb-false, le-leb}
 use Rattle.std.proofs.Math.ListN.{length-drop}
-use Rattle.timecode.specs.Calls.{part_at, lead_at, found, lowest_of, first_place, scan_of, FrameAt, Looks, LowestAt, NowhereAt, scan_checks}
+use Rattle.timecode.specs.Calls.{part_at, lead_at, lowest_of, first_place, scan_of, FrameAt, Looks, LowestAt, NowhereAt, scan_checks}
 use Rattle.timecode.specs.Formats.{size}
 use Rattle.timecode.specs.Frames.{read_of}
 use Rattle.timecode.specs.Laws.Checks.{accepted, by-reading, all-passed, all_pass}

@@ -1,6 +1,6 @@
 -- What holds for every line of the table, and what a computed test shows for every format.
 use Rattle.std.specs.Prelude.{◌≡◌, refl, Bool, true, false, cond, ◌&&◌, ◌||◌, List, [], ◌∷◌, ◌⊎◌, ℕ, ◌≤◌, leb, eqb}
-use Rattle.std.proofs.Common.{sym, subst, inl, inr, arith, leb-true, eqb-true}
+use Rattle.std.proofs.Common.{sym, subst, inl, inr, leb-true, eqb-true}
 use Rattle.timecode.specs.Formats.{member, A, B, D, E, G, H, X, is_x, Row, table, no_row, look_up, row_of, known, size, interval, carries_control, carries_seconds, carries_year, control_places}
 use Rattle.timecode.specs.Frames.{total_width}
 use Rattle.timecode.specs.Laws.Runs.{clear, proper}

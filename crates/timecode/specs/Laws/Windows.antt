@@ -1,5 +1,5 @@
 -- A window of its lead and m + 1 frames, each accepted and each time next after the one before: with the setting m + 1 it reports exactly then. Document 01's window is the case m = 1.
-use Rattle.std.specs.Prelude.{◌≡◌, refl, Bool, true, false, List, eqb, length, get_or, drop}
+use Rattle.std.specs.Prelude.{◌≡◌, refl, Bool, true, false, List, length, get_or, drop}
 use Rattle.std.proofs.Common.{sym, ◌∙◌, subst, subst₂, not-suc-le-zero, eqb-true, eq-eqb, get_or-take, get_or-drop}
 use Rattle.std.proofs.Math.Path.{ap, ap₂}
 use Rattle.std.proofs.Math.Bool.{cond}

@@ -1,0 +1,18 @@
+-- `add_words` meets its contract: the window is taken, or the words stay.
+use Rattle.calendar_words.specs.CalendarSets.{taken, refused}
+use Rattle.windows.specs.Ways.{booked}
+use mathlib.Core.Path.{sym, ◌∙◌}
+use borrow.Author.Rules.{rules}
+use Rattle.calendar_words.proofs.add_words.Goals as goal
+
+both : {A B : Type 0} → A × B → record { value : A; words_after : B }
+both p = record { value = p.0; words_after = p.1 }
+
+pub put_keys-requires : goal.put_keys-requires
+put_keys-requires c = (c.requires, (booked _ c.args.start c.args.end _ _ (sym c.in-Keys.is ∙ c.book-keyed.ensures)).room)
+
+pub returns-in-Keys : goal.returns-in-Keys
+returns-in-Keys c = both (rw c.put_keys.ensures (taken _ _ _ c.requires _ _ (sym c.in-Keys.is ∙ c.book-keyed.ensures)))
+
+pub returns-in-Refused : goal.returns-in-Refused
+returns-in-Refused c = both (rw c.number_of.ensures (refused _ _ _ c.requires _ (sym c.in-Refused.is ∙ c.book-keyed.ensures)))

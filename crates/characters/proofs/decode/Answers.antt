@@ -1,0 +1,13 @@
+-- `decode` meets its contract.
+use native.Mathlib.Omega.{arith}
+use mathlib.Core.Path.{◌∙◌, ap}
+use lib.ListN.{length}
+use Rattle.characters.specs.Decoding.{decoded-none-skipped, decoded-kept}
+use borrow.Author.Rules.{rules}
+use Rattle.characters.proofs.decode.Goals as goal
+
+pub returns-then-most-lt-SKIPPED : goal.returns-then-most-lt-SKIPPED
+returns-then-most-lt-SKIPPED c = let d = decoded-none-skipped _ _ _ _ c.requires c.put_each-most.ensures c.if-most-lt-SKIPPED.true in (d.0, d.1, c.put_each-most.ensures.long)
+
+pub returns : goal.returns
+returns c = let d = decoded-kept _ _ _ _ c.requires c.put_each-most.ensures in (c.close_up.ensures.0 ∙ ap length d, c.close_up.ensures.1 ∙ d, c.close_up.ensures.2 ∙ c.put_each-most.ensures.long)

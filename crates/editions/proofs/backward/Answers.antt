@@ -1,0 +1,36 @@
+-- `backward` meets its contract: as read and checked, or refused with the lent frame as it was.
+use mathlib.Core.Path.{refl, sym, ◌∙◌}
+use borrow.Author.Tests.{not-true, not-false, eqb-true}
+use lib.Dec.{eqb}
+use lib.ListN.{length}
+use Rattle.timecode.specs.Formats.{size}
+use Rattle.timecode.specs.Laws.Reading.{accepted-was-written}
+use Rattle.timecode.specs.Laws.Tests.{and_right}
+use Rattle.timecode.specs.Editions.{backward_of, backward_leaves}
+use borrow.Author.Rules.{rules}
+use Rattle.editions.proofs.backward.Goals as goal
+
+pub returns-then-not-carries_year : goal.returns-then-not-carries_year
+unfolding backward_of backward_leaves
+returns-then-not-carries_year c = rw (sym c.carries_year.ensures ∙ c.if-not-carries_year.true) (refl, refl)
+
+pub returns-then-not-both_fit : goal.returns-then-not-both_fit
+unfolding backward_of backward_leaves
+returns-then-not-both_fit c = rw (sym c.carries_year.ensures ∙ c.if-not-carries_year.false, sym c.both_fit.ensures ∙ c.if-not-both_fit.true) (refl, refl)
+
+pub put_backward-requires : goal.put_backward-requires
+put_backward-requires c =
+    let start = c in
+    let f = start.args.format in
+    let frame = start.args.frame.now in
+    let fit = sym c.both_fit.ensures ∙ c.if-not-both_fit.false in
+    let reads = sym c.read-reading.ensures ∙ c.in-Accepted.is in
+    (sym c.carries_year.ensures ∙ c.if-not-carries_year.false, (accepted-was-written f frame _ _ reads).0, eqb-true _ _ (and_right (eqb (length frame) (size f)) _ fit))
+
+pub returns-in-Accepted : goal.returns-in-Accepted
+unfolding backward_of backward_leaves
+returns-in-Accepted c = rw (sym c.carries_year.ensures ∙ c.if-not-carries_year.false, sym c.both_fit.ensures ∙ c.if-not-both_fit.false, sym c.read-reading.ensures ∙ c.in-Accepted.is) c.put_backward.ensures
+
+pub returns-in-Refused : goal.returns-in-Refused
+unfolding backward_of backward_leaves
+returns-in-Refused c = rw (sym c.carries_year.ensures ∙ c.if-not-carries_year.false, sym c.both_fit.ensures ∙ c.if-not-both_fit.false, sym c.read-reading.ensures ∙ c.in-Refused.is) (refl, refl)

@@ -1,0 +1,14 @@
+use borrow.Author.Rules.{rules}
+use mathlib.Core.Path.{◌≡◌, refl, ap, ap₂, ◌∙◌}
+use Prim.Native.Nat.{◌+◌, ◌*◌, ◌-◌, ◌/◌, ◌%◌, ◌^◌, ◌≤◌}
+use native.Mathlib.Omega.{arith}
+use lib.ListN.{get_or, length, set, length-set}
+use Rattle.elements.specs.Stores.{bits_stored, bits-stored-none, bits-stored-step}
+use Rattle.elements.specs.Tens.{mark-place, first-ten, later-ten}
+use Rattle.elements.proofs.put_ten.Given as goal
+
+abbrev pub invariant-loop-j : goal.invariant-loop-j
+invariant-loop-j l = (l.j ≤ 8) × (length l.frame ≡ length l.initial.frame) × (l.frame ≡ bits_stored l.initial.frame l.at l.j l.x)
+
+abbrev pub decreases-loop-j : goal.decreases-loop-j
+decreases-loop-j l = 8 - l.j

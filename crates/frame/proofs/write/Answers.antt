@@ -1,0 +1,48 @@
+-- `write` meets its contract: done as checked, or refused with the frame as it was.
+use borrow.Author.Rules.{rules}
+use mathlib.Core.Path.{refl, sym, ◌∙◌}
+use lib.ListN.{length}
+use Rattle.timecode.specs.Demands.{refused-write-leaves}
+use Rattle.timecode.specs.Laws.Table.{x-size}
+use Rattle.timecode.specs.Laws.Writing.{taken, leaves}
+use Rattle.frame.specs.Exits.{is-frame}
+use Rattle.frame.proofs.write.Goals as goal
+
+pub write_tape-requires : goal.write_tape-requires
+write_tape-requires c =
+    let start = c in
+    let f = start.args.format in
+    let done = sym (c.check_write-answer.ensures f start.args.frame.now c.row_of-row.ensures c.is_x-x.ensures refl refl) ∙ c.in-Done.is in
+    let t = taken f start.args.time start.args.control start.args.frame.now done in
+    t.1 ∙ x-size f (sym c.is_x-x.ensures ∙ c.if-x.true)
+
+pub returns-then-x : goal.returns-then-x
+returns-then-x c =
+    let start = c in
+    let f = start.args.format in
+    let done = sym (c.check_write-answer.ensures f start.args.frame.now c.row_of-row.ensures c.is_x-x.ensures refl refl) ∙ c.in-Done.is in
+    let t = taken f start.args.time start.args.control start.args.frame.now done in
+    (sym done, c.write_tape.ensures.1 f start.args.control (sym c.is_x-x.ensures ∙ c.if-x.true) t.0 ∙ sym (leaves f start.args.time start.args.control start.args.frame.now done))
+
+pub put_frame-requires : goal.put_frame-requires
+put_frame-requires c =
+    let start = c in
+    let f = start.args.format in
+    let done = sym (c.check_write-answer.ensures f start.args.frame.now c.row_of-row.ensures c.is_x-x.ensures refl refl) ∙ c.in-Done.is in
+    let t = taken f start.args.time start.args.control start.args.frame.now done in
+    ((f, c.row_of-row.ensures), is-frame f (length start.args.frame.now) (sym c.is_x-x.ensures ∙ c.if-x.false) t.1)
+
+pub returns-else-x : goal.returns-else-x
+returns-else-x c =
+    let start = c in
+    let f = start.args.format in
+    let done = sym (c.check_write-answer.ensures f start.args.frame.now c.row_of-row.ensures c.is_x-x.ensures refl refl) ∙ c.in-Done.is in
+    let t = taken f start.args.time start.args.control start.args.frame.now done in
+    (sym done, c.put_frame.ensures f c.row_of-row.ensures (sym c.is_x-x.ensures ∙ c.if-x.false) t.0 t.1 ∙ sym (leaves f start.args.time start.args.control start.args.frame.now done))
+
+pub returns-in-Refused : goal.returns-in-Refused
+returns-in-Refused c =
+    let start = c in
+    let f = start.args.format in
+    let refused = sym (c.check_write-answer.ensures f start.args.frame.now c.row_of-row.ensures c.is_x-x.ensures refl refl) ∙ c.in-Refused.is in
+    (sym refused, sym (refused-write-leaves f start.args.time start.args.control start.args.frame.now _ refused))

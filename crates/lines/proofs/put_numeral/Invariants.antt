@@ -1,0 +1,11 @@
+use mathlib.Core.Path.{◌≡◌}
+use Prim.Native.Nat.{◌-◌, ◌/◌, ◌^◌, ◌≤◌}
+use Rattle.lines.specs.Text.{digit_at}
+use Rattle.lines.specs.Filling.{Filled}
+use Rattle.lines.proofs.put_numeral.Given as goal
+
+abbrev pub invariant-loop-i : goal.invariant-loop-i
+invariant-loop-i l = (l.i ≤ l.width) × (l.rest ≡ l.number / l.base ^ l.i) × Filled l.initial.line l.line l.at l.width l.i (digit_at l.base l.width l.number)
+
+abbrev pub decreases-loop-i : goal.decreases-loop-i
+decreases-loop-i l = l.width - l.i

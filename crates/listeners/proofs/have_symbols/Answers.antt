@@ -1,0 +1,18 @@
+-- `have_symbols` meets its contract.
+use Rattle.listeners.specs.Indexes.{every_index, index_on, index-out, index-end}
+use Rattle.timecode.specs.Formats.{is_symbol}
+use Prim.Native.Nat.{◌-◌, ◌≤◌}
+use lib.ListN.{get_or}
+use borrow.Author.Tests.{le-leb, lt-leb}
+use mathlib.Core.Path.{◌≡◌, refl, sym, ◌∙◌}
+use native.Mathlib.Omega.{arith}
+use Rattle.listeners.proofs.have_symbols.Goals as goal
+
+pub returns-then-symbols-i-gt-SPOILED : goal.returns-then-symbols-i-gt-SPOILED
+returns-then-symbols-i-gt-SPOILED c = sym (index-out _ _ _ c.loop-i-test.true c.loop-i.invariant.1 (lt-leb _ _ c.if-symbols-i-gt-SPOILED.true))
+
+pub loop-i-preserved : goal.loop-i-preserved
+loop-i-preserved c = (omega (arith, c.loop-i-test.true), index_on _ _ _ c.loop-i-test.true c.loop-i.invariant.1 (le-leb _ _ c.if-symbols-i-gt-SPOILED.false))
+
+pub returns : goal.returns
+returns c = sym (c.loop-i.invariant.1 ∙ index-end _ _ _ (omega (arith, c.loop-i-test.false)))

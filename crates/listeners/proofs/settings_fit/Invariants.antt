@@ -1,0 +1,14 @@
+use Rattle.listeners.specs.Indexes.{every_index, index_on, index-out, index-end}
+use Rattle.timecode.specs.Stream.{is_setting}
+use Prim.Native.Nat.{◌-◌, ◌≤◌}
+use lib.ListN.{get_or, length}
+use mathlib.Core.Path.{◌≡◌, refl, sym, ◌∙◌}
+use native.Mathlib.Omega.{arith}
+use borrow.Author.Rules.{rules}
+use Rattle.listeners.proofs.settings_fit.Given as goal
+
+abbrev pub invariant-loop-j : goal.invariant-loop-j
+invariant-loop-j l = (l.j ≤ length l.settings) × (every_index (λ i. is_setting (get_or l.settings i 0)) (length l.settings - 0) 0 ≡ every_index (λ i. is_setting (get_or l.settings i 0)) (length l.settings - l.j) l.j)
+
+abbrev pub decreases-loop-j : goal.decreases-loop-j
+decreases-loop-j l = length l.settings - l.j

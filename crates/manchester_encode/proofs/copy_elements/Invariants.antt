@@ -1,0 +1,15 @@
+use native.Mathlib.Omega.{arith}
+use mathlib.Core.Path.{◌≡◌, refl, sym, ◌∙◌}
+use Prim.Native.Nat.{◌+◌, ◌-◌, ◌*◌, ◌≤◌}
+use native.Mathlib.Nat.{zero-mul}
+use lib.ListN.{get_or, length, take}
+use Rattle.cycles.specs.Cycles.{cycles_of}
+use Rattle.cycles.specs.Frames.{unspoiled-at, room_for, next-at}
+use Rattle.manchester_encode.specs.Encoding.{all_set, none-set, element-next, starts-length, part_room, fewer-copied, element-copied}
+use Rattle.manchester_encode.proofs.copy_elements.Given as goal
+
+abbrev pub invariant-loop-i : goal.invariant-loop-i
+invariant-loop-i l = (l.i ≤ l.last) × (l.at ≡ l.i * l.count) × (length l.cycles ≡ length l.initial.cycles) × (take l.at l.cycles ≡ cycles_of l.count (take l.i l.frame))
+
+abbrev pub decreases-loop-i : goal.decreases-loop-i
+decreases-loop-i l = l.last - l.i

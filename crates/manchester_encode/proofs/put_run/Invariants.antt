@@ -1,0 +1,13 @@
+use native.Mathlib.Omega.{arith}
+use mathlib.Core.Path.{◌≡◌, refl, ◌∙◌}
+use mathlib.Core.List.{◌++◌}
+use Prim.Native.Nat.{◌-◌, ◌≤◌}
+use lib.ListN.{length, take, replicate, length-set}
+use Rattle.manchester_encode.specs.Encoding.{run_step, run_none}
+use Rattle.manchester_encode.proofs.put_run.Given as goal
+
+abbrev pub invariant-loop-i : goal.invariant-loop-i
+invariant-loop-i l = (l.from ≤ l.i) × (l.i ≤ l.to) × (length l.cycles ≡ length l.initial.cycles) × (take l.i l.cycles ≡ take l.from l.initial.cycles ++ replicate (l.i - l.from) l.level)
+
+abbrev pub decreases-loop-i : goal.decreases-loop-i
+decreases-loop-i l = l.to - l.i

@@ -1,0 +1,11 @@
+use native.Mathlib.Omega.{arith}
+use borrow.Author.Rules.{rules}
+use Prim.Native.Nat.{◌-◌}
+use Rattle.months.specs.Counting.{Passed, passed_start, passed-turn, twelve-of, found_in, found-not}
+use Rattle.months.proofs.place_in.Given as goal
+
+abbrev pub invariant-loop-months : goal.invariant-loop-months
+invariant-loop-months l = Passed l.lengths l.day l.months l.rest
+
+abbrev pub decreases-loop-months : goal.decreases-loop-months
+decreases-loop-months l = 12 - l.months

@@ -1,0 +1,12 @@
+-- `more_by` meets its contract: the count and so many more, or the end of its 64 bits.
+use borrow.Author.Rules.{rules}
+use native.Mathlib.Omega.{arith}
+use mathlib.Core.Path.{sym}
+use Rattle.progress.specs.Steps.{more_within, more-beyond}
+use Rattle.progress.proofs.more_by.Goals as goal
+
+pub returns-then-more-count : goal.returns-then-more-count
+returns-then-more-count c = sym (more_within _ _ (omega arith))
+
+pub returns : goal.returns
+returns c = sym (more-beyond _ _ (omega arith) (omega arith))

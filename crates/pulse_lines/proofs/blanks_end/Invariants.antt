@@ -1,0 +1,14 @@
+use borrow.Author.Rules.{rules}
+use native.Mathlib.Omega.{arith}
+use mathlib.Core.Path.{◌≡◌, refl, sym, ◌∙◌}
+use Prim.Native.Nat.{◌-◌, ◌≤◌}
+use lib.ListN.{length}
+use Rattle.pulse_lines.specs.PulseLines.{is_blank, end_of}
+use Rattle.pulse_lines.specs.Runs.{run-turn, run-here, run-all}
+use Rattle.pulse_lines.proofs.blanks_end.Given as goal
+
+abbrev pub invariant-loop-i : goal.invariant-loop-i
+invariant-loop-i l = (l.from ≤ l.i) × (l.i ≤ length l.line) × (end_of is_blank l.line l.from ≡ end_of is_blank l.line l.i)
+
+abbrev pub decreases-loop-i : goal.decreases-loop-i
+decreases-loop-i l = length l.line - l.i

@@ -1,0 +1,15 @@
+use borrow.Author.Rules.{rules}
+use native.Mathlib.Omega.{arith}
+use mathlib.Core.Path.{◌≡◌, refl, sym, ap, ◌∙◌}
+use Prim.Native.Nat.{ℕ, ◌+◌, ◌-◌, ◌≤◌}
+use native.Mathlib.Nat.{zero-add}
+use lib.ListN.{length, drop}
+use Rattle.report_counts.specs.Reports.{directed, reports_of}
+use Rattle.report_counts.specs.Counting.{count-fed, count-end, length-directed}
+use Rattle.report_counts.proofs.count_reports.Given as goal
+
+abbrev pub invariant-loop-i : goal.invariant-loop-i
+invariant-loop-i l = (l.i ≤ length l.recording) × (l.count ≤ l.i) × (reports_of l.initial.current (directed l.backwards l.recording) ≡ l.count + reports_of l.current (drop l.i (directed l.backwards l.recording)))
+
+abbrev pub decreases-loop-i : goal.decreases-loop-i
+decreases-loop-i l = length l.recording - l.i

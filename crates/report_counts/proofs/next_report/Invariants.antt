@@ -1,0 +1,14 @@
+use borrow.Author.Rules.{rules}
+use native.Mathlib.Omega.{arith}
+use mathlib.Core.Path.{◌≡◌, refl, sym, ap, ◌∙◌}
+use Prim.Native.Nat.{◌-◌}
+use lib.ListN.{length, drop}
+use Rattle.report_counts.specs.Reports.{first_report}
+use Rattle.report_counts.specs.Counting.{report-turn, report-here, report-end}
+use Rattle.report_counts.proofs.next_report.Given as goal
+
+abbrev pub invariant-loop-i : goal.invariant-loop-i
+invariant-loop-i l = first_report l.initial.current l.from (drop l.from l.recording) ≡ first_report l.current l.i (drop l.i l.recording)
+
+abbrev pub decreases-loop-i : goal.decreases-loop-i
+decreases-loop-i l = length l.recording - l.i

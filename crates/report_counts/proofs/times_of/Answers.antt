@@ -1,0 +1,16 @@
+-- `times_of` meets its contract: what was counted and what the rest has is the whole.
+use borrow.Author.Rules.{rules}
+use native.Mathlib.Omega.{arith}
+use mathlib.Core.Path.{◌≡◌, refl, sym, ap, ◌∙◌}
+use Prim.Native.Nat.{ℕ, ◌+◌, ◌-◌, ◌≤◌}
+use native.Mathlib.Nat.{zero-add}
+use lib.ListN.{length, drop}
+use Rattle.report_counts.specs.Reports.{times_of}
+use Rattle.report_counts.specs.Counting.{times-turn, times-end}
+use Rattle.report_counts.proofs.times_of.Goals as goal
+
+pub loop-i-preserved : goal.loop-i-preserved
+loop-i-preserved c = (omega arith, omega (arith, c.count_if-count.ensures.1), times-turn _ _ c.loop-i.i _ _ (omega arith) c.loop-i.invariant.2 ∙ rw (← c.count_if-count.ensures.0))
+
+pub returns : goal.returns
+returns c = times-end _ _ c.loop-i.i _ _ (omega arith) c.loop-i.invariant.2

@@ -1,0 +1,13 @@
+use borrow.Author.Rules.{rules}
+use borrow.Author.Tests.{le-leb}
+use native.Mathlib.Omega.{arith}
+use Prim.Native.Nat.{◌-◌, ◌≤◌}
+use lib.ListN.{length}
+use Rattle.scan.specs.Spoiled.{NoneSpoiled}
+use Rattle.scan.proofs.none_spoiled.Given as goal
+
+abbrev pub invariant-loop-i : goal.invariant-loop-i
+invariant-loop-i l = (l.i ≤ length l.part) × (NoneSpoiled l.part → l.most ≤ 2)
+
+abbrev pub decreases-loop-i : goal.decreases-loop-i
+decreases-loop-i l = length l.part - l.i

@@ -1,0 +1,11 @@
+use Rattle.simulate.specs.Results.{valid-time, RunAt, run-start, past_bound, run-listens-n, run-more-n, run_end}
+use Prim.Native.Nat.{◌-◌, ◌≤◌}
+use native.Mathlib.Omega.{arith}
+use borrow.Author.Rules.{rules}
+use Rattle.simulate.proofs.hear_run.Given as goal
+
+abbrev pub invariant-loop-i : goal.invariant-loop-i
+invariant-loop-i l = RunAt l.format l.given l.frames l.initial.time l.settings l.ends l.numbers l.symbols l.i l.time l.past l.all
+
+abbrev pub decreases-loop-i : goal.decreases-loop-i
+decreases-loop-i l = l.frames - l.i

@@ -1,0 +1,8 @@
+-- `reader_with_reading` meets its contract.
+use mathlib.Core.Path.{◌∙◌}
+use Rattle.stream.specs.Feeding.{with-row-reading}
+use borrow.Author.Rules.{rules}
+use Rattle.stream.proofs.reader_with_reading.Goals as goal
+
+pub returns : goal.returns
+returns c = rw (c.row_with_reading-row.ensures, c.row_in.ensures) at c.with_row.ensures ∙ with-row-reading _ _

@@ -1,0 +1,10 @@
+-- `all_fit` meets its contract: whether the elements before fit.
+use borrow.Author.Rules.{rules}
+use native.Mathlib.Omega.{arith}
+use mathlib.Core.Path.{◌≡◌, refl, sym, ◌∙◌}
+use Prim.Native.Nat.{◌-◌, ◌≤◌}
+use Rattle.tape.specs.Offences.{all_fit, all-turn}
+use Rattle.tape.proofs.all_fit.Goals as goal
+
+pub returns : goal.returns
+returns c = let all : c.loop-index.index ≡ 25 = omega arith in rw all at c.loop-index.invariant.1

@@ -1,0 +1,12 @@
+use borrow.Author.Rules.{rules}
+use native.Mathlib.Omega.{arith}
+use mathlib.Core.Path.{◌≡◌, refl, sym, ◌∙◌}
+use Prim.Native.Nat.{◌-◌, ◌≤◌}
+use Rattle.tape.specs.Offences.{all_fit, all-turn}
+use Rattle.tape.proofs.all_fit.Given as goal
+
+abbrev pub invariant-loop-index : goal.invariant-loop-index
+invariant-loop-index l = (l.index ≤ 25) × (l.all ≡ all_fit l.frame l.index)
+
+abbrev pub decreases-loop-index : goal.decreases-loop-index
+decreases-loop-index l = 25 - l.index

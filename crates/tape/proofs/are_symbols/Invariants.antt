@@ -1,0 +1,16 @@
+use borrow.Author.Rules.{rules}
+use native.Mathlib.Omega.{arith}
+use mathlib.Core.Path.{◌≡◌, refl, sym, ap, ◌∙◌}
+use mathlib.Core.Bool.{Bool, ◌&&◌, and_assoc, and-true}
+use Prim.Native.Nat.{◌+◌, ◌-◌, ◌≤◌}
+use lib.Dec.{leb}
+use lib.ListN.{get_or, drop}
+use Rattle.tape.specs.Readings.{symbols-turn, symbols-end}
+use Rattle.timecode.specs.Frames.{are_symbols}
+use Rattle.tape.proofs.are_symbols.Given as goal
+
+abbrev pub invariant-loop-i : goal.invariant-loop-i
+invariant-loop-i l = (l.i ≤ 25) × (are_symbols l.frame ≡ (l.all && are_symbols (drop l.i l.frame)))
+
+abbrev pub decreases-loop-i : goal.decreases-loop-i
+decreases-loop-i l = 25 - l.i

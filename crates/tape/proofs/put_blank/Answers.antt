@@ -1,0 +1,13 @@
+-- `put_blank` meets its contract: the first i elements.
+use borrow.Author.Rules.{rules}
+use native.Mathlib.Omega.{arith}
+use mathlib.Core.Path.{◌≡◌, refl, sym, ◌∙◌}
+use Prim.Native.Nat.{◌-◌, ◌≤◌}
+use lib.ListN.{length, take, length-set}
+use Rattle.timecode.specs.Laws.Runs.{fill_step, fill_end}
+use Rattle.timecode.specs.Layout.{tabulate}
+use Rattle.tape.specs.Tape.{blank_at}
+use Rattle.tape.proofs.put_blank.Goals as goal
+
+pub loop-i-preserved : goal.loop-i-preserved
+loop-i-preserved c = (omega (arith, c.loop-i-test.true), simp length-set c.loop-i.invariant.1, rw c.blank_at.ensures (fill_step c.loop-i.frame blank_at c.loop-i.i (omega (arith, c.loop-i.invariant.1, c.loop-i-test.true)) c.loop-i.invariant.2))

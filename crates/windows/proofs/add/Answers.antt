@@ -1,0 +1,14 @@
+-- `add` meets its contract: the window is taken, or the calendar is handed back.
+use mathlib.Core.Path.{sym, ◌∙◌}
+use Rattle.windows.specs.Ways.{booked, add-taken, add-refused}
+use borrow.Author.Rules.{rules}
+use Rattle.windows.proofs.add.Goals as goal
+
+pub with_keys-requires : goal.with_keys-requires
+with_keys-requires c = (booked _ c.args.start c.args.end _ _ (sym c.in-Keys.is ∙ c.book-keyed.ensures)).room
+
+pub returns-in-Keys : goal.returns-in-Keys
+returns-in-Keys c = add-taken _ _ _ _ _ _ (sym c.in-Keys.is ∙ c.book-keyed.ensures) c.with_keys.ensures
+
+pub returns-in-Refused : goal.returns-in-Refused
+returns-in-Refused c = add-refused _ _ _ _ (sym c.in-Refused.is ∙ c.book-keyed.ensures)

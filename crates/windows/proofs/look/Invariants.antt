@@ -1,0 +1,10 @@
+use native.Mathlib.Omega.{arith}
+use borrow.Author.Rules.{rules}
+use Rattle.windows.specs.Asking.{Looked, looked-start, looked-room, looked-turn, looked-end}
+use Rattle.windows.proofs.look.Given as goal
+
+abbrev pub invariant-loop-i : goal.invariant-loop-i
+invariant-loop-i l = Looked l.key l.starts l.ends l.count l.i l.mask l.next
+
+abbrev pub decreases-loop-i : goal.decreases-loop-i
+decreases-loop-i l = l.i
