@@ -1,6 +1,7 @@
 // The arguments of timewrite and timetry: a format, and numbers.
 // Nothing beneath says which arguments a program was given, so no contract here can.
 #![tactic(auto)]
+
 use arguments::{Number, decimal_in, hexadecimal_in};
 use program_io::argument;
 use timecode::Format;

@@ -1,6 +1,7 @@
 // What timeread and timewrite print with: bytes on standard output, and the line of a refusal.
 // Nothing beneath says which bytes a write moves or when it fails, so no contract here can.
 #![tactic(auto)]
+
 use lines::refused_line;
 use program_io::write;
 use refusals::number_of;

@@ -1,6 +1,7 @@
 // The first three bytes of a recording: letter, expression digit and LF, if it is one.
 // Nothing beneath says which bytes a read brings, so no contract here can.
 #![tactic(auto)]
+
 use program_io::read;
 use std::io::Read;
 
