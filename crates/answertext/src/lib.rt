@@ -1,6 +1,7 @@
 // Answers as text: numbers, symbols, frames, logs, times and refusals, put into a text of at most 4,096 bytes; what finds no room is left out.
 // A refusal is R and its number, with 5 and 6 also @ and the index of the element, with 25 that of the cycle.
 #![tactic(auto)]
+
 use frametext::character_of;
 use refusals::number_of;
 use std::num::wrapping_add_u64;

@@ -4,43 +4,47 @@
 // of the definitions; those of hostile.txt, settings.txt, hostile_year.txt and hostile_tapes.txt, and those of base.txt that the
 // leap second, the year, letter X or the deviation changed, are from an independent plain version of the rules in another language.
 #![tactic(auto)]
-fn write_part(text: &[u8], used: usize) {
+
+use program_io::{argument, argument_count, open, print};
+use std::io::Read;
+
+fn write_part(rt: &HostRuntime, text: &[u8], used: usize) {
     if used <= text.len() {
-        io::write_all(libc::STDOUT_FILENO, &text[0..used]);
+        print(rt, &text[0..used]);
     }
 }
 
 // The array keeps its length where a caller changed it, so that the caller proves nothing.
-fn write_first(text: &[u8; 4096], used: usize) {
-    write_part(text, used);
+fn write_first(rt: &HostRuntime, text: &[u8; 4096], used: usize) {
+    write_part(rt, text, used);
 }
 
-fn answer(line: &[u8]) {
-    let mut text = io::buffer();
+fn answer(rt: &HostRuntime, line: &[u8]) {
+    let mut text = [0u8; 4096];
     let used = casetext::put_answer(line, &mut text);
     let used = answertext::put(&mut text, used, b'\n');
-    write_first(&text, used);
+    write_first(rt, &text, used);
 }
 
-fn answer_part(line: &[u8], used: usize) {
+fn answer_part(rt: &HostRuntime, line: &[u8], used: usize) {
     if used < line.len() {
-        answer(&line[0..used]);
+        answer(rt, &line[0..used]);
         return;
     }
-    io::write_all(libc::STDOUT_FILENO, b"line too long\n");
+    print(rt, b"line too long\n");
 }
 
-fn answer_first(line: &[u8; 4096], used: usize) {
-    answer_part(line, used);
+fn answer_first(rt: &HostRuntime, line: &[u8; 4096], used: usize) {
+    answer_part(rt, line, used);
 }
 
 // Answers each line that ends in these bytes; how much of an open line they leave.
-fn take_bytes(bytes: &[u8], line: &mut [u8; 4096], used: usize) -> usize {
+fn take_bytes(rt: &HostRuntime, bytes: &[u8], line: &mut [u8; 4096], used: usize) -> usize {
     let mut used = used;
     let mut i = 0;
     while i < bytes.len() {
         if bytes[i] == b'\n' {
-            answer_first(line, used);
+            answer_first(rt, line, used);
             used = 0;
         } else {
             used = answertext::put(line, used, bytes[i]);
@@ -56,17 +60,21 @@ struct Taken {
     open: bool,
 }
 
-fn answer_read(fd: i32, line: &mut [u8; 4096], used: usize) -> Taken {
-    let mut bytes = io::large_buffer();
-    let got = libc::read(fd, &mut bytes);
-    if got <= 0 {
+fn answer_read<R: Read>(
+    rt: &HostRuntime,
+    input: &mut R,
+    line: &mut [u8; 4096],
+    used: usize,
+) -> Taken {
+    let mut bytes = [0u8; 65536];
+    let n = input.read(&mut bytes).unwrap_or(0);
+    if n == 0 {
         return Taken {
             used: used,
             open: false,
         };
     }
-    let n = io::count(got, &bytes);
-    let used = take_bytes(&bytes[..n], line, used);
+    let used = take_bytes(rt, &bytes[..n], line, used);
     Taken {
         used: used,
         open: true,
@@ -74,43 +82,45 @@ fn answer_read(fd: i32, line: &mut [u8; 4096], used: usize) -> Taken {
 }
 
 // A proved loop has to end: the turns are counted down from a number that no file uses up.
-fn answer_lines(fd: i32) {
-    let mut line = io::buffer();
+fn answer_lines<R: Read>(rt: &HostRuntime, input: &mut R) {
+    let mut line = [0u8; 4096];
     let mut taken = Taken {
         used: 0,
         open: true,
     };
     let mut left = u64::MAX;
     while 0 < left && taken.open {
-        taken = answer_read(fd, &mut line, taken.used);
+        taken = answer_read(rt, input, &mut line, taken.used);
         left -= 1;
     }
     // a last line with no end
     if 0 < taken.used {
-        answer_first(&line, taken.used);
+        answer_first(rt, &line, taken.used);
     }
 }
 
-fn answer_file(argument: usize) {
-    let mut name = io::buffer();
-    let n = os::arg(argument, &mut name);
-    io::write_all(libc::STDOUT_FILENO, b"== ");
-    io::write_all(libc::STDOUT_FILENO, &name[..n]);
-    io::write_all(libc::STDOUT_FILENO, b"\n");
-    let fd = os::open_read(&name[..n]);
-    if fd < 0 {
-        os::fail(&name[..n]);
-        return;
+fn answer_named(rt: &HostRuntime, name: &[u8]) {
+    print(rt, b"== ");
+    print(rt, name);
+    print(rt, b"\n");
+    if let Some(mut file) = open(rt, name) {
+        answer_lines(rt, &mut file);
     }
-    answer_lines(fd);
-    libc::close(fd);
 }
 
-fn main() {
-    let count = os::arg_count();
+fn answer_file(rt: &HostRuntime, i: usize) {
+    let mut text = [0u8; 4096];
+    match argument(rt, i, &mut text) {
+        Some(name) => answer_named(rt, name),
+        None => answer_named(rt, b""),
+    }
+}
+
+fn main(rt: HostRuntime) {
+    let count = argument_count(&rt);
     let mut i = 1;
     while i < count {
-        answer_file(i);
+        answer_file(&rt, i);
         i += 1;
     }
 }

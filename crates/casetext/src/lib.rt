@@ -1,6 +1,7 @@
 // A call of the engine as a line of text, `step B 4 24 366 8639900 365 0`, and its answer as text, `25 1 0`: a time is its year, its day and its hundredths.
 // A line `feeds` is a whole stream: format, setting and symbols, and its answer is every report. A float is the 16 digits of its bits, a byte of a log two digits.
 #![tactic(auto)]
+
 ghost use Rattle.std.specs.Prelude.{◌≤◌};
 
 use answertext::{

@@ -1,7 +1,9 @@
 // The arguments of timewrite and timetry: a format, and numbers.
 // Nothing beneath says which arguments a program was given, so no contract here can.
 #![tactic(auto)]
+
 use arguments::{Number, decimal_in, hexadecimal_in};
+use program_io::argument;
 use timecode::Format;
 
 #[derive(Clone, Copy)]
@@ -38,39 +40,36 @@ fn format_in(text: &[u8]) -> Named {
 }
 
 // A letter and an expression.
-pub fn format_argument(i: usize) -> Named {
-    let mut text = io::buffer();
-    let n = os::arg(i, &mut text);
-    if os::errno() != 0 {
-        return Named::Malformed;
+pub fn format_argument(rt: &HostRuntime, i: usize) -> Named {
+    let mut text = [0u8; 4096];
+    match argument(rt, i, &mut text) {
+        Some(bytes) => format_in(bytes),
+        None => Named::Malformed,
     }
-    format_in(&text[..n])
 }
 
-pub fn number_argument(i: usize) -> Number {
-    let mut text = io::buffer();
-    let n = os::arg(i, &mut text);
-    if os::errno() != 0 {
-        return Number::Malformed;
+pub fn number_argument(rt: &HostRuntime, i: usize) -> Number {
+    let mut text = [0u8; 4096];
+    match argument(rt, i, &mut text) {
+        Some(bytes) => decimal_in(bytes),
+        None => Number::Malformed,
     }
-    decimal_in(&text[..n])
 }
 
-pub fn hexadecimal_argument(i: usize) -> Number {
-    let mut text = io::buffer();
-    let n = os::arg(i, &mut text);
-    if os::errno() != 0 {
-        return Number::Malformed;
+pub fn hexadecimal_argument(rt: &HostRuntime, i: usize) -> Number {
+    let mut text = [0u8; 4096];
+    match argument(rt, i, &mut text) {
+        Some(bytes) => hexadecimal_in(bytes),
+        None => Number::Malformed,
     }
-    hexadecimal_in(&text[..n])
 }
 
 // A number, or 0 where there are not that many arguments.
-pub fn number_or_0(count: usize, i: usize) -> Number {
+pub fn number_or_0(rt: &HostRuntime, count: usize, i: usize) -> Number {
     if count <= i {
         return Number::Value(0);
     }
-    number_argument(i)
+    number_argument(rt, i)
 }
 
 // A number past the end of its type becomes the type's last, which is no kind, no year, no day, no year length and no time either.

@@ -1,6 +1,7 @@
 // Lines of frames that are due, as timelook prints them behind what its output has. Elements are counted from 1, places from 0.
 // Nothing says which bytes a write moves, so these promise to be safe and to end, and no more.
 #![tactic(auto)]
+
 use frametext::character_of;
 use look_times::put_time;
 use refusals::number_of;

@@ -1,6 +1,7 @@
 // The formats that report on a recording, forwards or backwards, each with its number of reports: timeread's own count, for every format.
 // Nothing says which bytes a write moves, so these promise to be safe and to end, and no more.
 #![tactic(auto)]
+
 use layout::is_known;
 use look_lines::put_format;
 use report_counts::reports_in;

@@ -1,6 +1,7 @@
 // What timelook has found and printed so far, and the frames that are due: one after another, with a line for each that is refused and
 // for each whose time does not follow. Nothing says which bytes a write moves, so these promise to be safe and to end, and no more.
 #![tactic(auto)]
+
 use clock::next_after;
 use due_frames::{Looked, look_at};
 use frame_lines::{put_jump, put_more_refused, put_next, put_offending, put_refused};
@@ -33,23 +34,23 @@ pub struct Look {
 
 // ---- the output
 
-pub fn write_filled(out: &mut [u8; 65536], look: Look) -> Look {
+pub fn write_filled(rt: &HostRuntime, out: &mut [u8; 65536], look: Look) -> Look {
     let mut written = look;
     if look.more {
-        written.more = write_first(out, look.filled);
+        written.more = write_first(rt, out, look.filled);
     }
     written.filled = 0;
     written
 }
 
 // With a line more, which ends there.
-pub fn with_line(out: &mut [u8; 65536], look: Look, end: usize) -> Look {
+pub fn with_line(rt: &HostRuntime, out: &mut [u8; 65536], look: Look, end: usize) -> Look {
     let mut next = look;
     next.filled = end;
     if end <= LAST_WITH_ROOM {
         return next;
     }
-    write_filled(out, next)
+    write_filled(rt, out, next)
 }
 
 // ---- frames that are due
@@ -82,6 +83,7 @@ fn put_offence(
 }
 
 fn with_refused(
+    rt: &HostRuntime,
     out: &mut [u8; 65536],
     format: Format,
     recording: &[u8],
@@ -100,11 +102,11 @@ fn with_refused(
     end = put_offence(out, end, recording, look.place, refusal);
     let due = wrapping_add_usize(look.place, frame_size(format));
     end = put_next(out, end, next as u64, due as u64);
-    with_line(out, after, end)
+    with_line(rt, out, after, end)
 }
 
 // Where a row of refused frames ends, how many had no line.
-fn with_row_ended(out: &mut [u8; 65536], look: Look) -> Look {
+fn with_row_ended(rt: &HostRuntime, out: &mut [u8; 65536], look: Look) -> Look {
     let mut after = look;
     after.refused = 0;
     if look.refused <= LINES_IN_A_ROW {
@@ -116,17 +118,18 @@ fn with_row_ended(out: &mut [u8; 65536], look: Look) -> Look {
         look.refused - LINES_IN_A_ROW,
         look.place as u64,
     );
-    with_line(out, after, end)
+    with_line(rt, out, after, end)
 }
 
 fn with_accepted(
+    rt: &HostRuntime,
     out: &mut [u8; 65536],
     format: Format,
     look: Look,
     time: Time,
     next: usize,
 ) -> Look {
-    let before = with_row_ended(out, look);
+    let before = with_row_ended(rt, out, look);
     let mut after = before;
     after.place = next;
     after.accepted = true;
@@ -138,15 +141,21 @@ fn with_accepted(
         return after;
     }
     let end = put_jump(out, before.filled, look.place as u64, look.time, time);
-    with_line(out, after, end)
+    with_line(rt, out, after, end)
 }
 
-fn with_frame(out: &mut [u8; 65536], format: Format, recording: &[u8], look: Look) -> Look {
+fn with_frame(
+    rt: &HostRuntime,
+    out: &mut [u8; 65536],
+    format: Format,
+    recording: &[u8],
+    look: Look,
+) -> Look {
     let looked = look_at(format, recording, look.place);
     match looked {
-        Looked::Accepted { time, next } => with_accepted(out, format, look, time, next),
+        Looked::Accepted { time, next } => with_accepted(rt, out, format, look, time, next),
         Looked::Refused { refusal, next } => {
-            with_refused(out, format, recording, look, refusal, next)
+            with_refused(rt, out, format, recording, look, refusal, next)
         }
         Looked::End => look,
     }
@@ -154,6 +163,7 @@ fn with_frame(out: &mut [u8; 65536], format: Format, recording: &[u8], look: Loo
 
 // The frames that are due up to an element. Each is due behind the one before, so that there are no more than elements.
 pub fn with_frames(
+    rt: &HostRuntime,
     out: &mut [u8; 65536],
     format: Format,
     recording: &[u8],
@@ -167,8 +177,8 @@ pub fn with_frames(
     let mut current = look;
     let mut left = recording.len();
     while 0 < left && current.place <= end - n {
-        current = with_frame(out, format, recording, current);
+        current = with_frame(rt, out, format, recording, current);
         left -= 1;
     }
-    with_row_ended(out, current)
+    with_row_ended(rt, out, current)
 }

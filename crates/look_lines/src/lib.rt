@@ -1,6 +1,7 @@
 // Lines of a whole recording, as timelook prints them behind what its output has. Elements are counted from 1, places from 0.
 // Nothing says which bytes a write moves, so these promise to be safe and to end, and no more.
 #![tactic(auto)]
+
 use std::num::wrapping_add_u64;
 use texts::{put_byte, put_bytes, put_decimal, put_numbers};
 use timecode::Format;

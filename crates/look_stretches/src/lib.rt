@@ -1,6 +1,7 @@
 // The stretches of a recording that report, the gaps between them, and in each gap the frames that are due.
 // Nothing says which bytes a write moves, so these promise to be safe and to end, and no more.
 #![tactic(auto)]
+
 use frame_lines::put_cut;
 use layout::frame_size;
 use look_frames::{Look, with_frames, with_line};
@@ -18,7 +19,7 @@ fn continues(look: Look, format: Format, element: u64) -> bool {
     wrapping_add_u64(stretch.last, frame_size(format) as u64) == element
 }
 
-fn with_stretch_ended(out: &mut [u8; 65536], look: Look) -> Look {
+fn with_stretch_ended(rt: &HostRuntime, out: &mut [u8; 65536], look: Look) -> Look {
     let stretch = look.stretch;
     if stretch.reports == 0 {
         return look;
@@ -27,14 +28,14 @@ fn with_stretch_ended(out: &mut [u8; 65536], look: Look) -> Look {
     after.stretches = wrapping_add_u64(look.stretches, 1);
     after.reports = wrapping_add_u64(look.reports, stretch.reports);
     let end = put_stretch(out, look.filled, stretch);
-    with_line(out, after, end)
+    with_line(rt, out, after, end)
 }
 
 // From behind the last report to an element.
-fn with_gap(out: &mut [u8; 65536], look: Look, last: u64) -> Look {
+fn with_gap(rt: &HostRuntime, out: &mut [u8; 65536], look: Look, last: u64) -> Look {
     let stretch = look.stretch;
     let end = put_gap(out, look.filled, wrapping_add_u64(stretch.last, 1), last);
-    with_line(out, look, end)
+    with_line(rt, out, look, end)
 }
 
 fn before_frame(element: u64, format: Format) -> u64 {
@@ -52,6 +53,7 @@ fn with_stretch(look: Look, stretch: Stretch) -> Look {
 }
 
 fn with_report(
+    rt: &HostRuntime,
     out: &mut [u8; 65536],
     format: Format,
     recording: &[u8],
@@ -63,17 +65,23 @@ fn with_report(
     if continues(look, format, number) {
         return with_stretch(look, longer_by(look.stretch, number, time));
     }
-    let ended = with_stretch_ended(out, look);
-    let gap = with_gap(out, ended, before_frame(number, format));
-    let next = with_frames(out, format, recording, gap, element);
+    let ended = with_stretch_ended(rt, out, look);
+    let gap = with_gap(rt, out, ended, before_frame(number, format));
+    let next = with_frames(rt, out, format, recording, gap, element);
     with_stretch(next, stretch_from(number, time))
 }
 
 // Behind the last report: the last gap, and the frames in it that are due.
-fn with_rest(out: &mut [u8; 65536], format: Format, recording: &[u8], look: Look) -> Look {
-    let ended = with_stretch_ended(out, look);
-    let gap = with_gap(out, ended, recording.len() as u64);
-    let last = with_frames(out, format, recording, gap, recording.len());
+fn with_rest(
+    rt: &HostRuntime,
+    out: &mut [u8; 65536],
+    format: Format,
+    recording: &[u8],
+    look: Look,
+) -> Look {
+    let ended = with_stretch_ended(rt, out, look);
+    let gap = with_gap(rt, out, ended, recording.len() as u64);
+    let last = with_frames(rt, out, format, recording, gap, recording.len());
     if recording.len() <= last.place {
         return last;
     }
@@ -84,11 +92,17 @@ fn with_rest(out: &mut [u8; 65536], format: Format, recording: &[u8], look: Look
         place,
         wrapping_sub_u64(recording.len() as u64, place),
     );
-    with_line(out, last, end)
+    with_line(rt, out, last, end)
 }
 
 // The reports one after another: there are no more than elements.
-pub fn with_reports(out: &mut [u8; 65536], reader: Reader, recording: &[u8], look: Look) -> Look {
+pub fn with_reports(
+    rt: &HostRuntime,
+    out: &mut [u8; 65536],
+    reader: Reader,
+    recording: &[u8],
+    look: Look,
+) -> Look {
     let format = reader.format;
     let mut current = look;
     let mut hearing = reader;
@@ -102,12 +116,12 @@ pub fn with_reports(out: &mut [u8; 65536], reader: Reader, recording: &[u8], loo
             reader,
         } = reported
         else {
-            return with_rest(out, format, recording, current);
+            return with_rest(rt, out, format, recording, current);
         };
         from = wrapping_add_usize(index, 1);
         hearing = reader;
-        current = with_report(out, format, recording, current, from, time);
+        current = with_report(rt, out, format, recording, current, from, time);
         left -= 1;
     }
-    with_rest(out, format, recording, current)
+    with_rest(rt, out, format, recording, current)
 }

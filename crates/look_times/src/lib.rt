@@ -1,6 +1,7 @@
 // Lines of reports and gaps, as timelook prints them behind what its output has. Elements are counted from 1.
 // Nothing says which bytes a write moves, so these promise to be safe and to end, and no more.
 #![tactic(auto)]
+
 use lines::report_line;
 use std::num::wrapping_add_u64;
 use texts::{put_byte, put_bytes, put_decimal, put_numbers};

@@ -1,5 +1,5 @@
-// Prints the listing of the recording behind a descriptor on standard output.
-// What a read brings and where a write goes is the C library's: beneath this crate nothing says which bytes they are,
+// Prints the listing of the recording that a reader gives on standard output.
+// What a read brings and where a write goes is the system's: beneath this crate nothing says which bytes they are,
 // or that a call failed.
 #![tactic(auto)]
 ghost use Rattle.std.specs.Prelude.{◌≡◌, false};
@@ -8,8 +8,10 @@ ghost use Rattle.printing.specs.Printing.{stopped, Prints, AfterRead, Reads, Rea
 
 use listing::{begin, finish, list, start};
 use output::{print_refused, write_first};
+use program_io::read;
 use progress::Progress;
 use recording_head::read_head;
+use std::io::Read;
 use stream::{Made, Reader};
 
 // The progress after a read, and whether another is to come.
@@ -32,7 +34,7 @@ fn stop(progress: Progress) -> Printed
 }
 
 // Lists one read's bytes, and writes the lines whenever the output is full, and at the end.
-fn print_part(progress: Progress, bytes: &[u8], out: &mut [u8; 65536]) -> Printed
+fn print_part(rt: &HostRuntime, progress: Progress, bytes: &[u8], out: &mut [u8; 65536]) -> Printed
     ensures { Prints progress bytes.now result }
 {
     let mut current = progress;
@@ -41,7 +43,7 @@ fn print_part(progress: Progress, bytes: &[u8], out: &mut [u8; 65536]) -> Printe
         let listed = list(current, &bytes[taken..], out);
         current = listed.progress;
         taken += listed.taken;
-        if write_first(out, listed.filled) {
+        if write_first(rt, out, listed.filled) {
             continue;
         }
         return stop(current);
@@ -54,11 +56,10 @@ fn print_part(progress: Progress, bytes: &[u8], out: &mut [u8; 65536]) -> Printe
 }
 
 // Prints by what one read gave: that it failed, the end of the input, or how many bytes it brought.
-fn print_result(progress: Progress, got: isize, input: &[u8], out: &mut [u8; 65536]) -> Printed
+fn print_result(rt: &HostRuntime, progress: Progress, got: isize, input: &[u8], out: &mut [u8; 65536]) -> Printed
     ensures { AfterRead progress got input.now result }
 {
     if got < 0 {
-        os::fail(b"input");
         return stop(progress);
     }
     if got == 0 {
@@ -68,26 +69,26 @@ fn print_result(progress: Progress, got: isize, input: &[u8], out: &mut [u8; 655
         };
     }
     let n = io::count(got, input);
-    print_part(progress, &input[..n], out)
+    print_part(rt, progress, &input[..n], out)
 }
 
-fn print_read(fd: i32, progress: Progress, out: &mut [u8; 65536]) -> Printed
+fn print_read<R: Read>(rt: &HostRuntime, input: &mut R, progress: Progress, out: &mut [u8; 65536]) -> Printed
     ensures { Reads progress result }
 {
-    let mut input = io::large_buffer();
-    let got = libc::read(fd, &mut input);
-    print_result(progress, got, &input, out)
+    let mut bytes = [0u8; 65536];
+    let got = read(rt, input, &mut bytes);
+    print_result(rt, progress, got, &bytes, out)
 }
 
 // A proved loop has to end, and nothing says that the input does: the reads are counted down from a number that no run uses up.
-fn print_reads(fd: i32, reader: Reader, out: &mut [u8; 65536]) -> Progress
+fn print_reads<R: Read>(rt: &HostRuntime, input: &mut R, reader: Reader, out: &mut [u8; 65536]) -> Progress
     ensures { ReadsAll (running_at reader 0 0) result }
 {
     let mut progress = start(reader);
     let mut more = true;
     let mut left = u64::MAX;
     while 0 < left && more {
-        let printed = print_read(fd, progress, out);
+        let printed = print_read(rt, input, progress, out);
         progress = printed.progress;
         more = printed.more;
         left -= 1;
@@ -95,23 +96,23 @@ fn print_reads(fd: i32, reader: Reader, out: &mut [u8; 65536]) -> Progress
     progress
 }
 
-fn print_recording(fd: i32, reader: Reader) {
-    let mut out = io::large_buffer();
-    let progress = print_reads(fd, reader, &mut out);
+fn print_recording<R: Read>(rt: &HostRuntime, input: &mut R, reader: Reader) {
+    let mut out = [0u8; 65536];
+    let progress = print_reads(rt, input, reader, &mut out);
     let filled = finish(progress, &mut out);
-    write_first(&mut out, filled);
+    write_first(rt, &mut out, filled);
 }
 
-// The whole listing of what the descriptor gives; nothing where the first line cannot be read.
-pub fn print_listing(fd: i32) {
+// The whole listing of what the reader gives; nothing where the first line cannot be read.
+pub fn print_listing<R: Read>(rt: &HostRuntime, input: &mut R) {
     let mut head = [0u8; 3];
-    let got = read_head(fd, &mut head);
+    let got = read_head(rt, input, &mut head);
     if got < 0 {
         return;
     }
     let n = io::count(got, &head);
     match begin(&head[..n]) {
-        Made::Fresh(reader) => print_recording(fd, reader),
-        Made::Refused(refusal) => print_refused(refusal),
+        Made::Fresh(reader) => print_recording(rt, input, reader),
+        Made::Refused(refusal) => print_refused(rt, refusal),
     }
 }

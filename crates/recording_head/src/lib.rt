@@ -2,6 +2,9 @@
 // Nothing beneath says which bytes a read brings, so no contract here can.
 #![tactic(auto)]
 
+use program_io::read;
+use std::io::Read;
+
 // The next byte of the input, or why there is none.
 #[derive(Clone, Copy)]
 enum Next {
@@ -10,11 +13,10 @@ enum Next {
     Failed,
 }
 
-fn next_byte(fd: i32) -> Next {
+fn next_byte<R: Read>(rt: &HostRuntime, input: &mut R) -> Next {
     let mut byte = [0u8; 1];
-    let got = libc::read(fd, &mut byte);
+    let got = read(rt, input, &mut byte);
     if got < 0 {
-        os::fail(b"input");
         return Next::Failed;
     }
     if got == 0 {
@@ -24,10 +26,10 @@ fn next_byte(fd: i32) -> Next {
 }
 
 // The input's first three bytes, fewer where it ends or no more are lent: how many there are, or -1 where a read failed.
-pub fn read_head(fd: i32, head: &mut [u8]) -> isize {
+pub fn read_head<R: Read>(rt: &HostRuntime, input: &mut R, head: &mut [u8]) -> isize {
     let mut n = 0;
     while n < 3 && n < head.len() {
-        let next = next_byte(fd);
+        let next = next_byte(rt, input);
         match next {
             Next::Byte(byte) => {
                 head[n] = byte;

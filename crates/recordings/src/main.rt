@@ -3,30 +3,31 @@
 // which the leap second changed, for line_a4_baseonly and line_b7_baseonly, which the year changed, and for line_x2_baseonly, which
 // letter X changed, they are the plain version's in reference/.
 #![tactic(auto)]
-fn print_recording(argument: usize) {
-    let mut name = io::buffer();
-    let n = os::arg(argument, &mut name);
-    if os::errno() != 0 {
-        os::fail(b"argument");
-        return;
+
+use program_io::{argument, argument_count, open, print, tell};
+
+fn print_named(rt: &HostRuntime, name: &[u8]) {
+    print(rt, b"== ");
+    print(rt, name);
+    print(rt, b"\n");
+    if let Some(mut file) = open(rt, name) {
+        printing::print_listing(rt, &mut file);
     }
-    io::write_all(libc::STDOUT_FILENO, b"== ");
-    io::write_all(libc::STDOUT_FILENO, &name[..n]);
-    io::write_all(libc::STDOUT_FILENO, b"\n");
-    let fd = os::open_read(&name[..n]);
-    if fd < 0 {
-        os::fail(&name[..n]);
-        return;
-    }
-    printing::print_listing(fd);
-    libc::close(fd);
 }
 
-fn main() {
-    let count = os::arg_count();
+fn print_recording(rt: &HostRuntime, i: usize) {
+    let mut text = [0u8; 4096];
+    match argument(rt, i, &mut text) {
+        Some(name) => print_named(rt, name),
+        None => tell(rt, b"argument: File name too long\n"),
+    }
+}
+
+fn main(rt: HostRuntime) {
+    let count = argument_count(&rt);
     let mut i = 1;
     while i < count {
-        print_recording(i);
+        print_recording(&rt, i);
         i += 1;
     }
 }

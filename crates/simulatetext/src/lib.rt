@@ -1,6 +1,7 @@
 // A line `simulate` as a call, and its answer as text: for each listener the number of the element that brought its first report, or `none`; its reports; and the false ones.
 // Listeners stand apart by `;`, in the line and in the answer.
 #![tactic(auto)]
+
 ghost use Rattle.std.specs.Prelude.{◌≤◌};
 
 use answertext::{put, put_bytes, put_decimal, put_refusal};

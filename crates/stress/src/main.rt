@@ -1,12 +1,14 @@
 // Long streams, most of them damaged: for each case, format and setting how many symbols a reader accepts, reports and refuses, and a
 // checksum over its reports. The expected lines are from an independent plain version of the rules in another language.
 #![tactic(auto)]
+
 ghost use Rattle.std.specs.Prelude.{◌≡◌, ◌≤◌};
 ghost use Rattle.stream.specs.Feeding.{feed_of};
 
 use clock::step;
 use frame::write;
 use layout::{frame_interval, frame_size};
+use program_io::{print, print_number};
 use register::Register;
 use std::num::wrapping_add_u64;
 use stream::{Fed, Made, Reader, feed_in_place};
@@ -472,29 +474,29 @@ fn received_in(case: Case, format: Format, setting: u8) -> Tally {
     }
 }
 
-fn print_count(name: &[u8], count: u64) {
-    io::write_all(libc::STDOUT_FILENO, name);
-    io::print_decimal(libc::STDOUT_FILENO, count);
+fn print_count(rt: &HostRuntime, name: &[u8], count: u64) {
+    print(rt, name);
+    print_number(rt, count);
 }
 
 // Setting 2, timeread's own, is not named.
-fn print_setting(setting: u8) {
+fn print_setting(rt: &HostRuntime, setting: u8) {
     if setting != 2 {
-        print_count(b" setting ", setting as u64);
+        print_count(rt, b" setting ", setting as u64);
     }
 }
 
-fn print_line(name: &[u8], format: Format, setting: u8, tally: Tally) {
+fn print_line(rt: &HostRuntime, name: &[u8], format: Format, setting: u8, tally: Tally) {
     let letter = [b' ', format.letter];
-    io::write_all(libc::STDOUT_FILENO, name);
-    io::write_all(libc::STDOUT_FILENO, &letter);
-    print_count(b" ", format.expression as u64);
-    print_setting(setting);
-    print_count(b" elements ", tally.elements);
-    print_count(b" reports ", tally.reports);
-    print_count(b" refused ", tally.refused);
-    print_count(b" sum ", tally.sum);
-    io::write_all(libc::STDOUT_FILENO, b"\n");
+    print(rt, name);
+    print(rt, &letter);
+    print_count(rt, b" ", format.expression as u64);
+    print_setting(rt, setting);
+    print_count(rt, b" elements ", tally.elements);
+    print_count(rt, b" reports ", tally.reports);
+    print_count(rt, b" refused ", tally.refused);
+    print_count(rt, b" sum ", tally.sum);
+    print(rt, b"\n");
 }
 
 fn format_at(i: usize) -> Format {
@@ -508,21 +510,28 @@ fn format_at(i: usize) -> Format {
     }
 }
 
-fn print_lines(name: &[u8], case: Case, setting: u8) {
+fn print_lines(rt: &HostRuntime, name: &[u8], case: Case, setting: u8) {
     let mut i = 0;
     while i < FORMATS {
         let format = format_at(i);
-        print_line(name, format, setting, received_in(case, format, setting));
+        print_line(
+            rt,
+            name,
+            format,
+            setting,
+            received_in(case, format, setting),
+        );
         i += 1;
     }
 }
 
-fn print_more() {
+fn print_more(rt: &HostRuntime) {
     let b0 = Format {
         letter: b'B',
         expression: 0,
     };
     print_line(
+        rt,
         b"million",
         b0,
         2,
@@ -532,50 +541,50 @@ fn print_more() {
         letter: b'C',
         expression: 0,
     };
-    print_line(b"unknown", c0, 2, receive_bytes(fresh(c0, 2)));
+    print_line(rt, b"unknown", c0, 2, receive_bytes(fresh(c0, 2)));
 }
 
-fn print_made_up(setting: u8) {
-    print_lines(b"marks", Case::Marks, setting);
-    print_lines(b"spoiled", Case::Spoiled, setting);
-    print_lines(b"alternating", Case::Alternating, setting);
-    print_lines(b"pairs", Case::Pairs, setting);
-    print_lines(b"fours", Case::Fours, setting);
-    print_lines(b"refused", Case::Refused, setting);
-    print_lines(b"shaped", Case::Shaped, setting);
-    print_lines(b"random", Case::Random, setting);
+fn print_made_up(rt: &HostRuntime, setting: u8) {
+    print_lines(rt, b"marks", Case::Marks, setting);
+    print_lines(rt, b"spoiled", Case::Spoiled, setting);
+    print_lines(rt, b"alternating", Case::Alternating, setting);
+    print_lines(rt, b"pairs", Case::Pairs, setting);
+    print_lines(rt, b"fours", Case::Fours, setting);
+    print_lines(rt, b"refused", Case::Refused, setting);
+    print_lines(rt, b"shaped", Case::Shaped, setting);
+    print_lines(rt, b"random", Case::Random, setting);
 }
 
-fn print_generated(setting: u8) {
-    print_lines(b"valid", Case::Valid, setting);
-    print_lines(b"damaged", Case::Damaged, setting);
-    print_lines(b"lost", Case::Lost, setting);
-    print_lines(b"added", Case::Added, setting);
-    print_lines(b"interrupted", Case::Interrupted, setting);
-    print_lines(b"leap", Case::Leap, setting);
-    print_lines(b"common", Case::Common, setting);
+fn print_generated(rt: &HostRuntime, setting: u8) {
+    print_lines(rt, b"valid", Case::Valid, setting);
+    print_lines(rt, b"damaged", Case::Damaged, setting);
+    print_lines(rt, b"lost", Case::Lost, setting);
+    print_lines(rt, b"added", Case::Added, setting);
+    print_lines(rt, b"interrupted", Case::Interrupted, setting);
+    print_lines(rt, b"leap", Case::Leap, setting);
+    print_lines(rt, b"common", Case::Common, setting);
 }
 
-fn print_rows(setting: u8) {
-    print_lines(b"replaced", Case::Replaced, setting);
-    print_lines(b"repeated", Case::Repeated, setting);
+fn print_rows(rt: &HostRuntime, setting: u8) {
+    print_lines(rt, b"replaced", Case::Replaced, setting);
+    print_lines(rt, b"repeated", Case::Repeated, setting);
 }
 
 // With a setting above 2 the streams that no generator made bring no reports either: the random ones stand for them.
-fn print_higher(setting: u8) {
-    print_lines(b"random", Case::Random, setting);
-    print_generated(setting);
-    print_rows(setting);
+fn print_higher(rt: &HostRuntime, setting: u8) {
+    print_lines(rt, b"random", Case::Random, setting);
+    print_generated(rt, setting);
+    print_rows(rt, setting);
 }
 
-fn main() {
-    print_made_up(2);
-    print_generated(2);
-    print_lines(b"place", Case::Place, 2);
-    print_more();
-    print_rows(2);
-    print_higher(3);
-    print_higher(4);
-    print_higher(5);
-    print_lines(b"settings", Case::Settings, 2);
+fn main(rt: HostRuntime) {
+    print_made_up(&rt, 2);
+    print_generated(&rt, 2);
+    print_lines(&rt, b"place", Case::Place, 2);
+    print_more(&rt);
+    print_rows(&rt, 2);
+    print_higher(&rt, 3);
+    print_higher(&rt, 4);
+    print_higher(&rt, 5);
+    print_lines(&rt, b"settings", Case::Settings, 2);
 }

@@ -1,6 +1,7 @@
 // Text behind what the output of a program has: bytes and numbers, as far as there is room.
 // Nothing says which bytes a write moves, so these promise to be safe and to end, and no more.
 #![tactic(auto)]
+
 use std::num::wrapping_add_u64;
 
 pub fn put_byte(out: &mut [u8; 65536], at: usize, byte: u8) -> usize {

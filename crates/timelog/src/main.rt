@@ -1,11 +1,13 @@
 // Prints the reports of the log on standard input, a line each; or, with the argument `make`, makes the log of such lines.
 // With `make` and a year it takes the lines of timeread, whose first number is an element's, and gives each report that year.
 #![tactic(auto)]
+
 mod making;
 mod printing;
 
 use arguments::{Number, decimal_in};
 use making::Year;
+use program_io::{argument, argument_count, tell};
 use version::print_version;
 
 #[derive(Clone, Copy)]
@@ -22,13 +24,12 @@ fn is_make(text: &[u8]) -> bool {
     text[0] == b'm' && text[1] == b'a' && text[2] == b'k' && text[3] == b'e'
 }
 
-fn make_argument() -> bool {
-    let mut text = io::buffer();
-    let n = os::arg(1, &mut text);
-    if os::errno() != 0 {
-        return false;
+fn make_argument(rt: &HostRuntime) -> bool {
+    let mut text = [0u8; 4096];
+    match argument(rt, 1, &mut text) {
+        Some(bytes) => is_make(bytes),
+        None => false,
     }
-    is_make(&text[..n])
 }
 
 // A number past the end of its type becomes the type's last, which is no year either.
@@ -44,43 +45,42 @@ fn given_year(number: Number) -> Asked {
     }
 }
 
-fn year_argument() -> Asked {
-    let mut text = io::buffer();
-    let n = os::arg(2, &mut text);
-    if os::errno() != 0 {
-        return Asked::Malformed;
+fn year_argument(rt: &HostRuntime) -> Asked {
+    let mut text = [0u8; 4096];
+    match argument(rt, 2, &mut text) {
+        Some(bytes) => given_year(decimal_in(bytes)),
+        None => Asked::Malformed,
     }
-    given_year(decimal_in(&text[..n]))
 }
 
-fn asked_for() -> Asked {
-    let count = os::arg_count();
+fn asked_for(rt: &HostRuntime) -> Asked {
+    let count = argument_count(rt);
     if count < 2 {
         return Asked::Print;
     }
     if 3 < count {
         return Asked::Malformed;
     }
-    if !make_argument() {
+    if !make_argument(rt) {
         return Asked::Malformed;
     }
     if count == 2 {
         return Asked::Make(Year::First);
     }
-    year_argument()
+    year_argument(rt)
 }
 
-fn main() {
-    if print_version(b"timelog") {
+fn main(rt: HostRuntime) {
+    if print_version(&rt, b"timelog") {
         return;
     }
-    let asked = asked_for();
+    let asked = asked_for(&rt);
     match asked {
-        Asked::Print => printing::print_log(),
-        Asked::Make(year) => making::make_log(year),
+        Asked::Print => printing::print_log(&rt),
+        Asked::Make(year) => making::make_log(&rt, year),
         Asked::Malformed => {
-            io::write_all(
-                libc::STDERR_FILENO,
+            tell(
+                &rt,
                 b"usage: timelog < LOG, or timelog make [YEAR] < LINES > LOG\n",
             );
         }

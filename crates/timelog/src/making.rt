@@ -3,6 +3,7 @@
 use log_lines::{LineRead, no_report, report_in};
 use log_write::write_report;
 use output::write_first;
+use program_io::{read, tell, tell_number};
 use refusals::number_of;
 use report_log::{LogWritten, Report};
 use std::num::wrapping_add_u64;
@@ -43,9 +44,9 @@ fn dated(report: Report, year: Year) -> Report {
     }
 }
 
-fn tell_line(making: Making) {
-    io::write_all(libc::STDERR_FILENO, b"line ");
-    io::print_decimal(libc::STDERR_FILENO, making.lines);
+fn tell_line(rt: &HostRuntime, making: Making) {
+    tell(rt, b"line ");
+    tell_number(rt, making.lines);
 }
 
 // No more is made.
@@ -55,17 +56,17 @@ fn stopped(making: Making) -> Making {
     last
 }
 
-fn tell_other(making: Making) -> Making {
-    tell_line(making);
-    io::write_all(libc::STDERR_FILENO, b" is no report\n");
+fn tell_other(rt: &HostRuntime, making: Making) -> Making {
+    tell_line(rt, making);
+    tell(rt, b" is no report\n");
     stopped(making)
 }
 
-fn tell_refused(making: Making, refusal: Refusal) -> Making {
-    tell_line(making);
-    io::write_all(libc::STDERR_FILENO, b" refused ");
-    io::print_decimal(libc::STDERR_FILENO, number_of(refusal) as u64);
-    io::write_all(libc::STDERR_FILENO, b"\n");
+fn tell_refused(rt: &HostRuntime, making: Making, refusal: Refusal) -> Making {
+    tell_line(rt, making);
+    tell(rt, b" refused ");
+    tell_number(rt, number_of(refusal) as u64);
+    tell(rt, b"\n");
     stopped(making)
 }
 
@@ -82,24 +83,29 @@ fn put_in(making: Making, place: usize, report: Report) -> Making {
 }
 
 // Where the output has no room for the record, what is in it is written first, and the record then fits at its start.
-fn add_from_start(out: &mut [u8; 65536], making: Making, report: Report) -> Making {
-    if !write_first(out, making.place) {
+fn add_from_start(
+    rt: &HostRuntime,
+    out: &mut [u8; 65536],
+    making: Making,
+    report: Report,
+) -> Making {
+    if !write_first(rt, out, making.place) {
         return stopped(making);
     }
     let written = write_at(out, 0, making.last, report);
     match written {
         LogWritten::Next(next) => put_in(making, next, report),
         LogWritten::LeftOut => stopped(making),
-        LogWritten::Refused(refusal) => tell_refused(making, refusal),
+        LogWritten::Refused(refusal) => tell_refused(rt, making, refusal),
     }
 }
 
-fn add_report(out: &mut [u8; 65536], making: Making, report: Report) -> Making {
+fn add_report(rt: &HostRuntime, out: &mut [u8; 65536], making: Making, report: Report) -> Making {
     let written = write_at(out, making.place, making.last, report);
     match written {
         LogWritten::Next(next) => put_in(making, next, report),
-        LogWritten::LeftOut => add_from_start(out, making, report),
-        LogWritten::Refused(refusal) => tell_refused(making, refusal),
+        LogWritten::LeftOut => add_from_start(rt, out, making, report),
+        LogWritten::Refused(refusal) => tell_refused(rt, making, refusal),
     }
 }
 
@@ -122,7 +128,13 @@ fn is_last(line: &[u8]) -> bool {
     is_begun(line, b"elements ") || is_begun(line, b"bytes ")
 }
 
-fn make_line(line: &[u8], out: &mut [u8; 65536], making: Making, year: Year) -> Making {
+fn make_line(
+    rt: &HostRuntime,
+    line: &[u8],
+    out: &mut [u8; 65536],
+    making: Making,
+    year: Year,
+) -> Making {
     let mut counted = making;
     counted.used = 0;
     counted.lines = wrapping_add_u64(making.lines, 1);
@@ -131,25 +143,38 @@ fn make_line(line: &[u8], out: &mut [u8; 65536], making: Making, year: Year) -> 
     }
     let read = report_in(line);
     match read {
-        LineRead::Report { number: _, report } => add_report(out, counted, dated(report, year)),
-        LineRead::Other => tell_other(counted),
+        LineRead::Report { number: _, report } => add_report(rt, out, counted, dated(report, year)),
+        LineRead::Other => tell_other(rt, counted),
     }
 }
 
-fn make_part(line: &[u8], out: &mut [u8; 65536], making: Making, year: Year) -> Making {
+fn make_part(
+    rt: &HostRuntime,
+    line: &[u8],
+    out: &mut [u8; 65536],
+    making: Making,
+    year: Year,
+) -> Making {
     let used = making.used;
     if used < line.len() {
-        return make_line(&line[0..used], out, making, year);
+        return make_line(rt, &line[0..used], out, making, year);
     }
-    make_line(line, out, making, year)
+    make_line(rt, line, out, making, year)
 }
 
-fn make_open(line: &[u8; 64], out: &mut [u8; 65536], making: Making, year: Year) -> Making {
-    make_part(line, out, making, year)
+fn make_open(
+    rt: &HostRuntime,
+    line: &[u8; 64],
+    out: &mut [u8; 65536],
+    making: Making,
+    year: Year,
+) -> Making {
+    make_part(rt, line, out, making, year)
 }
 
 // A byte of the open line. One that is longer than any report's stays too long.
 fn take_byte(
+    rt: &HostRuntime,
     byte: u8,
     line: &mut [u8; 64],
     out: &mut [u8; 65536],
@@ -157,7 +182,7 @@ fn take_byte(
     year: Year,
 ) -> Making {
     if byte == b'\n' {
-        return make_open(line, out, making, year);
+        return make_open(rt, line, out, making, year);
     }
     let used = making.used;
     if 63 < used {
@@ -170,6 +195,7 @@ fn take_byte(
 }
 
 fn take_bytes(
+    rt: &HostRuntime,
     bytes: &[u8],
     line: &mut [u8; 64],
     out: &mut [u8; 65536],
@@ -179,33 +205,38 @@ fn take_bytes(
     let mut current = making;
     let mut i = 0;
     while i < bytes.len() && current.more {
-        current = take_byte(bytes[i], line, out, current, year);
+        current = take_byte(rt, bytes[i], line, out, current, year);
         i += 1;
     }
     current
 }
 
 // Makes the records of what one read brought; at the input's end also of a last line without a newline.
-fn make_read(line: &mut [u8; 64], out: &mut [u8; 65536], making: Making, year: Year) -> Making {
-    let mut input = io::large_buffer();
-    let got = libc::read(libc::STDIN_FILENO, &mut input);
+fn make_read(
+    rt: &HostRuntime,
+    line: &mut [u8; 64],
+    out: &mut [u8; 65536],
+    making: Making,
+    year: Year,
+) -> Making {
+    let mut input = [0u8; 65536];
+    let got = read(rt, &mut rt.stdin(), &mut input);
     if got < 0 {
-        os::fail(b"input");
         return stopped(making);
     }
     if got == 0 {
         if 0 < making.used {
-            return stopped(make_open(line, out, making, year));
+            return stopped(make_open(rt, line, out, making, year));
         }
         return stopped(making);
     }
     let n = io::count(got, &input);
-    take_bytes(&input[..n], line, out, making, year)
+    take_bytes(rt, &input[..n], line, out, making, year)
 }
 
-pub fn make_log(year: Year) {
+pub fn make_log(rt: &HostRuntime, year: Year) {
     let mut line = [0u8; 64];
-    let mut out = io::large_buffer();
+    let mut out = [0u8; 65536];
     let last = no_report();
     let mut making = Making {
         used: 0,
@@ -217,8 +248,8 @@ pub fn make_log(year: Year) {
     // A proved loop has to end: the reads are counted down from a number that no run uses up.
     let mut left = u64::MAX;
     while 0 < left && making.more {
-        making = make_read(&mut line, &mut out, making, year);
+        making = make_read(rt, &mut line, &mut out, making, year);
         left -= 1;
     }
-    write_first(&mut out, making.place);
+    write_first(rt, &mut out, making.place);
 }

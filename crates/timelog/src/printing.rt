@@ -2,6 +2,7 @@
 use log_lines::{log_line, no_report};
 use log_read::read_report;
 use output::write_first;
+use program_io::{print, print_number, read};
 use refusals::number_of;
 use report_log::{LogReading, Report};
 use std::num::{wrapping_add_u64, wrapping_add_usize};
@@ -56,49 +57,54 @@ fn place_in_log(listing: Listing) -> u64 {
 }
 
 // Writes what is filled; nothing more is done where that fails.
-fn write_filled(out: &mut [u8; 65536], listing: Listing) -> Listing {
+fn write_filled(rt: &HostRuntime, out: &mut [u8; 65536], listing: Listing) -> Listing {
     let mut written = listing;
-    written.more = write_first(out, listing.filled);
+    written.more = write_first(rt, out, listing.filled);
     written.filled = 0;
     written
 }
 
-fn with_room(out: &mut [u8; 65536], listing: Listing) -> Listing {
+fn with_room(rt: &HostRuntime, out: &mut [u8; 65536], listing: Listing) -> Listing {
     if listing.filled <= LAST_WITH_ROOM {
         return listing;
     }
-    write_filled(out, listing)
+    write_filled(rt, out, listing)
 }
 
 // The last line where the log breaks off: the number of the refusal, and the place of the record that has it.
-fn print_refusal(out: &mut [u8; 65536], listing: Listing, refusal: Refusal) -> Listing {
-    let mut last = write_filled(out, listing);
+fn print_refusal(
+    rt: &HostRuntime,
+    out: &mut [u8; 65536],
+    listing: Listing,
+    refusal: Refusal,
+) -> Listing {
+    let mut last = write_filled(rt, out, listing);
     if last.more {
-        io::write_all(libc::STDOUT_FILENO, b"refused ");
-        io::print_decimal(libc::STDOUT_FILENO, number_of(refusal) as u64);
-        io::write_all(libc::STDOUT_FILENO, b" at ");
-        io::print_decimal(libc::STDOUT_FILENO, place_in_log(last));
-        io::write_all(libc::STDOUT_FILENO, b"\n");
+        print(rt, b"refused ");
+        print_number(rt, number_of(refusal) as u64);
+        print(rt, b" at ");
+        print_number(rt, place_in_log(last));
+        print(rt, b"\n");
     }
     last.more = false;
     last
 }
 
 // The last line of a whole log: its bytes and its reports.
-fn print_counts(out: &mut [u8; 65536], listing: Listing) -> Listing {
-    let mut last = write_filled(out, listing);
+fn print_counts(rt: &HostRuntime, out: &mut [u8; 65536], listing: Listing) -> Listing {
+    let mut last = write_filled(rt, out, listing);
     if last.more {
-        io::write_all(libc::STDOUT_FILENO, b"bytes ");
-        io::print_decimal(libc::STDOUT_FILENO, place_in_log(last));
-        io::write_all(libc::STDOUT_FILENO, b" reports ");
-        io::print_decimal(libc::STDOUT_FILENO, last.reports);
-        io::write_all(libc::STDOUT_FILENO, b"\n");
+        print(rt, b"bytes ");
+        print_number(rt, place_in_log(last));
+        print(rt, b" reports ");
+        print_number(rt, last.reports);
+        print(rt, b"\n");
     }
     last.more = false;
     last
 }
 
-fn list_record(log: &[u8], out: &mut [u8; 65536], listing: Listing) -> Listing {
+fn list_record(rt: &HostRuntime, log: &[u8], out: &mut [u8; 65536], listing: Listing) -> Listing {
     if !listing.more {
         return listing;
     }
@@ -113,7 +119,7 @@ fn list_record(log: &[u8], out: &mut [u8; 65536], listing: Listing) -> Listing {
             after
         }
         LogReading::None => listing,
-        LogReading::Refused(refusal) => print_refusal(out, listing, refusal),
+        LogReading::Refused(refusal) => print_refusal(rt, out, listing, refusal),
     }
 }
 
@@ -129,31 +135,49 @@ fn is_readable(listing: Listing, held: usize, ending: bool) -> bool {
 }
 
 // A record has at least a byte, so that there are no more turns than bytes.
-fn list_records(log: &[u8], ending: bool, out: &mut [u8; 65536], listing: Listing) -> Listing {
+fn list_records(
+    rt: &HostRuntime,
+    log: &[u8],
+    ending: bool,
+    out: &mut [u8; 65536],
+    listing: Listing,
+) -> Listing {
     let mut current = listing;
     let mut left = log.len();
     while 0 < left && current.more {
         if !is_readable(current, log.len(), ending) {
             return current;
         }
-        current = with_room(out, current);
-        current = list_record(log, out, current);
+        current = with_room(rt, out, current);
+        current = list_record(rt, log, out, current);
         left -= 1;
     }
     current
 }
 
-fn list_part(log: &[u8], ending: bool, out: &mut [u8; 65536], listing: Listing) -> Listing {
+fn list_part(
+    rt: &HostRuntime,
+    log: &[u8],
+    ending: bool,
+    out: &mut [u8; 65536],
+    listing: Listing,
+) -> Listing {
     let held = listing.held;
     if held < log.len() {
-        return list_records(&log[0..held], ending, out, listing);
+        return list_records(rt, &log[0..held], ending, out, listing);
     }
-    list_records(log, ending, out, listing)
+    list_records(rt, log, ending, out, listing)
 }
 
 // The array keeps its length where a caller changed it, so that the caller proves nothing.
-fn list_held(log: &[u8; 65536], ending: bool, out: &mut [u8; 65536], listing: Listing) -> Listing {
-    list_part(log, ending, out, listing)
+fn list_held(
+    rt: &HostRuntime,
+    log: &[u8; 65536],
+    ending: bool,
+    out: &mut [u8; 65536],
+    listing: Listing,
+) -> Listing {
+    list_part(rt, log, ending, out, listing)
 }
 
 // Moves the bytes from the place on to the start; how many they are.
@@ -170,34 +194,38 @@ fn move_rest(log: &mut [u8; 65536], place: usize, held: usize) -> usize {
     n
 }
 
-fn read_behind(log: &mut [u8], held: usize) -> isize {
+fn read_behind(rt: &HostRuntime, log: &mut [u8], held: usize) -> isize {
     if held < log.len() {
-        return libc::read(libc::STDIN_FILENO, &mut log[held..]);
+        return read(rt, &mut rt.stdin(), &mut log[held..]);
     }
     0
 }
 
-fn read_more(log: &mut [u8; 65536], held: usize) -> isize {
-    read_behind(log, held)
+fn read_more(rt: &HostRuntime, log: &mut [u8; 65536], held: usize) -> isize {
+    read_behind(rt, log, held)
 }
 
 // Lists what one read brought.
-fn print_read(log: &mut [u8; 65536], out: &mut [u8; 65536], listing: Listing) -> Listing {
-    let got = read_more(log, listing.held);
+fn print_read(
+    rt: &HostRuntime,
+    log: &mut [u8; 65536],
+    out: &mut [u8; 65536],
+    listing: Listing,
+) -> Listing {
+    let got = read_more(rt, log, listing.held);
     if got < 0 {
-        os::fail(b"input");
-        let mut last = write_filled(out, listing);
+        let mut last = write_filled(rt, out, listing);
         last.more = false;
         return last;
     }
     let mut current = listing;
     current.held = wrapping_add_usize(listing.held, io::count(got, log));
-    let mut listed = list_held(log, got == 0, out, current);
+    let mut listed = list_held(rt, log, got == 0, out, current);
     if !listed.more {
         return listed;
     }
     if got == 0 {
-        return print_counts(out, listed);
+        return print_counts(rt, out, listed);
     }
     let gone = place_in_log(listed);
     let held = move_rest(log, listed.place, listed.held);
@@ -208,9 +236,9 @@ fn print_read(log: &mut [u8; 65536], out: &mut [u8; 65536], listing: Listing) ->
 }
 
 // A proved loop has to end: the reads are counted down from a number that no run uses up.
-pub fn print_log() {
-    let mut log = io::large_buffer();
-    let mut out = io::large_buffer();
+pub fn print_log(rt: &HostRuntime) {
+    let mut log = [0u8; 65536];
+    let mut out = [0u8; 65536];
     let last = no_report();
     let mut listing = Listing {
         gone: 0,
@@ -223,7 +251,7 @@ pub fn print_log() {
     };
     let mut left = u64::MAX;
     while 0 < left && listing.more {
-        listing = print_read(&mut log, &mut out, listing);
+        listing = print_read(rt, &mut log, &mut out, listing);
         left -= 1;
     }
 }

@@ -11,6 +11,7 @@ use stream::Reader;
 use timecode::{Format, MARK, ONE, SPOILED, Scanned, Time, ZERO};
 
 fn with_head(
+    rt: &HostRuntime,
     out: &mut [u8; 65536],
     format: Format,
     recording: &[u8],
@@ -35,33 +36,39 @@ fn with_head(
         times_of(MARK, recording) as u64,
         times_of(SPOILED, recording) as u64,
     );
-    with_line(out, look, end)
+    with_line(rt, out, look, end)
 }
 
 // The first frame that is due is the first that Scan finds.
-fn with_first_frame(out: &mut [u8; 65536], format: Format, recording: &[u8], look: Look) -> Look {
+fn with_first_frame(
+    rt: &HostRuntime,
+    out: &mut [u8; 65536],
+    format: Format,
+    recording: &[u8],
+    look: Look,
+) -> Look {
     let mut after = look;
     let scanned = scan(format, recording, 0);
     match scanned {
         Scanned::Found { start, .. } => {
             after.place = start;
             let end = put_first_frame(out, look.filled, start as u64);
-            with_line(out, after, end)
+            with_line(rt, out, after, end)
         }
         _ => {
             after.place = recording.len();
             let end = put_no_frame(out, look.filled);
-            with_line(out, after, end)
+            with_line(rt, out, after, end)
         }
     }
 }
 
 // The reports in all, and which formats report.
-fn with_formats(out: &mut [u8; 65536], recording: &[u8], look: Look) -> Look {
+fn with_formats(rt: &HostRuntime, out: &mut [u8; 65536], recording: &[u8], look: Look) -> Look {
     let mut end = put_total(out, look.filled, look.reports, look.stretches);
     end = put_formats(out, end, recording, false, b"formats that report:");
     end = put_formats(out, end, recording, true, b"read backwards:");
-    with_line(out, look, end)
+    with_line(rt, out, look, end)
 }
 
 fn start() -> Look {
@@ -90,12 +97,12 @@ fn start() -> Look {
     }
 }
 
-pub fn print_look(reader: Reader, recording: &[u8], longer: bool) {
+pub fn print_look(rt: &HostRuntime, reader: Reader, recording: &[u8], longer: bool) {
     let format = reader.format;
-    let mut out = io::large_buffer();
-    let mut current = with_head(&mut out, format, recording, start(), longer);
-    current = with_first_frame(&mut out, format, recording, current);
-    current = with_reports(&mut out, reader, recording, current);
-    current = with_formats(&mut out, recording, current);
-    write_filled(&mut out, current);
+    let mut out = [0u8; 65536];
+    let mut current = with_head(rt, &mut out, format, recording, start(), longer);
+    current = with_first_frame(rt, &mut out, format, recording, current);
+    current = with_reports(rt, &mut out, reader, recording, current);
+    current = with_formats(rt, &mut out, recording, current);
+    write_filled(rt, &mut out, current);
 }

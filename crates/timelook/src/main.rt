@@ -2,12 +2,14 @@
 // were due and are refused, how often each symbol stands there, and which formats report on these elements, forwards and backwards.
 // At most 4,194,304 elements are held; of a longer recording the first ones are looked at.
 #![tactic(auto)]
+
 mod looking;
 
 use characters::decode;
 use listing::begin;
 use openings::accepted;
 use output::print_refused;
+use program_io::{print, print_number, read};
 use recording_head::read_head;
 use std::num::wrapping_add_usize;
 use stream::{Made, Reader};
@@ -41,11 +43,10 @@ fn hold_bytes(bytes: &[u8], recording: &mut [u8; 4259840], count: usize) -> usiz
     decode_behind(bytes, recording, count)
 }
 
-fn hold_read(recording: &mut [u8; 4259840], held: Held) -> Held {
-    let mut input = io::large_buffer();
-    let got = libc::read(libc::STDIN_FILENO, &mut input);
+fn hold_read(rt: &HostRuntime, recording: &mut [u8; 4259840], held: Held) -> Held {
+    let mut input = [0u8; 65536];
+    let got = read(rt, &mut rt.stdin(), &mut input);
     if got < 0 {
-        os::fail(b"input");
         return Held {
             count: held.count,
             more: false,
@@ -62,7 +63,7 @@ fn hold_read(recording: &mut [u8; 4259840], held: Held) -> Held {
 }
 
 // A proved loop has to end: the reads are counted down from a number that no run uses up.
-fn hold(recording: &mut [u8; 4259840]) -> Held {
+fn hold(rt: &HostRuntime, recording: &mut [u8; 4259840]) -> Held {
     let mut held = Held {
         count: 0,
         more: true,
@@ -70,7 +71,7 @@ fn hold(recording: &mut [u8; 4259840]) -> Held {
     };
     let mut left = u64::MAX;
     while 0 < left && held.more {
-        held = hold_read(recording, held);
+        held = hold_read(rt, recording, held);
         left -= 1;
     }
     held
@@ -79,48 +80,48 @@ fn hold(recording: &mut [u8; 4259840]) -> Held {
 // ---- what is refused, and why
 
 // Why the first line is none.
-fn explain_head(head: &[u8]) {
+fn explain_head(rt: &HostRuntime, head: &[u8]) {
     if 3 <= head.len() {
         if head[2] == b'\r' {
-            io::write_all(
-                libc::STDOUT_FILENO,
+            print(
+                rt,
                 b"the first line ends in CR LF, and has to end in LF alone\n",
             );
             return;
         }
     }
-    io::write_all(
-        libc::STDOUT_FILENO,
+    print(
+        rt,
         b"the first line is not the letter and the expression of a format\n",
     );
 }
 
-fn refuse_head(head: &[u8], refusal: Refusal) {
-    print_refused(refusal);
-    explain_head(head);
+fn refuse_head(rt: &HostRuntime, head: &[u8], refusal: Refusal) {
+    print_refused(rt, refusal);
+    explain_head(rt, head);
 }
 
-fn refuse_character(element: usize) {
-    print_refused(Refusal::UnknownSymbol);
-    io::write_all(libc::STDOUT_FILENO, b"the character behind element ");
-    io::print_decimal(libc::STDOUT_FILENO, element as u64);
-    io::write_all(libc::STDOUT_FILENO, b" stands for no element\n");
+fn refuse_character(rt: &HostRuntime, element: usize) {
+    print_refused(rt, Refusal::UnknownSymbol);
+    print(rt, b"the character behind element ");
+    print_number(rt, element as u64);
+    print(rt, b" stands for no element\n");
 }
 
 // ---- what is looked at
 
-fn look_all(reader: Reader, recording: &[u8], longer: bool) {
+fn look_all(rt: &HostRuntime, reader: Reader, recording: &[u8], longer: bool) {
     let count = accepted(recording);
     if count < recording.len() {
-        refuse_character(count);
+        refuse_character(rt, count);
         return;
     }
-    looking::print_look(reader, recording, longer);
+    looking::print_look(rt, reader, recording, longer);
 }
 
-fn look_part(reader: Reader, recording: &[u8], count: usize, longer: bool) {
+fn look_part(rt: &HostRuntime, reader: Reader, recording: &[u8], count: usize, longer: bool) {
     if count <= recording.len() {
-        look_all(reader, &recording[0..count], longer);
+        look_all(rt, reader, &recording[0..count], longer);
     }
 }
 
@@ -131,33 +132,33 @@ fn at_most(count: usize) -> usize {
     count
 }
 
-fn look_held(reader: Reader, recording: &[u8; 4259840], count: usize) {
-    look_part(reader, recording, at_most(count), MOST < count);
+fn look_held(rt: &HostRuntime, reader: Reader, recording: &[u8; 4259840], count: usize) {
+    look_part(rt, reader, recording, at_most(count), MOST < count);
 }
 
-fn look_read(reader: Reader) {
+fn look_read(rt: &HostRuntime, reader: Reader) {
     let mut recording = [0u8; 4259840];
-    let held = hold(&mut recording);
+    let held = hold(rt, &mut recording);
     if !held.failed {
-        look_held(reader, &recording, held.count);
+        look_held(rt, reader, &recording, held.count);
     }
 }
 
-fn main() {
-    if print_version(b"timelook") {
+fn main(rt: HostRuntime) {
+    if print_version(&rt, b"timelook") {
         return;
     }
-    if print_help(b"usage: timelook < RECORDING\n") {
+    if print_help(&rt, b"usage: timelook < RECORDING\n") {
         return;
     }
     let mut head = [0u8; 3];
-    let got = read_head(libc::STDIN_FILENO, &mut head);
+    let got = read_head(&rt, &mut rt.stdin(), &mut head);
     if got < 0 {
         return;
     }
     let n = io::count(got, &head);
     match begin(&head[..n]) {
-        Made::Fresh(reader) => look_read(reader),
-        Made::Refused(refusal) => refuse_head(&head[..n], refusal),
+        Made::Fresh(reader) => look_read(&rt, reader),
+        Made::Refused(refusal) => refuse_head(&rt, &head[..n], refusal),
     }
 }

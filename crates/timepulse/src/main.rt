@@ -3,11 +3,13 @@
 // Its arguments are letter and expression, the nominal element interval in ticks and, if any, the settings of zeros, ones and
 // marks in percent of it. With the word `deviations` last it prints a line for each pulse in place of the recording.
 #![tactic(auto)]
+
 use arguments::Number;
 use command_line::{Named, format_argument, limited_8, limited_32, number_argument};
 use frametext::{character_of, first_line};
 use layout::{frame_size, is_known};
 use output::{print_refused, write_first};
+use program_io::{argument, argument_count, read, tell, tell_number};
 use pulse::classify;
 use pulse_lines::{PulseLine, is_heading, pulse_line};
 use std::num::wrapping_add_u64;
@@ -71,17 +73,16 @@ fn is_word(text: &[u8], word: &[u8]) -> bool {
     true
 }
 
-fn deviations_argument(i: usize) -> bool {
-    let mut text = io::buffer();
-    let n = os::arg(i, &mut text);
-    if os::errno() != 0 {
-        return false;
+fn deviations_argument(rt: &HostRuntime, i: usize) -> bool {
+    let mut text = [0u8; 4096];
+    match argument(rt, i, &mut text) {
+        Some(bytes) => is_word(bytes, b"deviations"),
+        None => false,
     }
-    is_word(&text[..n], b"deviations")
 }
 
 // 5, 5 and 5 where none are given.
-fn settings_arguments(count: usize) -> Settings {
+fn settings_arguments(rt: &HostRuntime, count: usize) -> Settings {
     if count < 6 {
         return Settings::Given(WidthSettings {
             zeros: 5,
@@ -89,13 +90,13 @@ fn settings_arguments(count: usize) -> Settings {
             marks: 5,
         });
     }
-    let Number::Value(zeros) = number_argument(3) else {
+    let Number::Value(zeros) = number_argument(rt, 3) else {
         return Settings::Malformed;
     };
-    let Number::Value(ones) = number_argument(4) else {
+    let Number::Value(ones) = number_argument(rt, 4) else {
         return Settings::Malformed;
     };
-    let Number::Value(marks) = number_argument(5) else {
+    let Number::Value(marks) = number_argument(rt, 5) else {
         return Settings::Malformed;
     };
     Settings::Given(WidthSettings {
@@ -105,14 +106,14 @@ fn settings_arguments(count: usize) -> Settings {
     })
 }
 
-fn request_from(count: usize, deviations: bool) -> Asked {
-    let Named::Known(format) = format_argument(1) else {
+fn request_from(rt: &HostRuntime, count: usize, deviations: bool) -> Asked {
+    let Named::Known(format) = format_argument(rt, 1) else {
         return Asked::Malformed;
     };
-    let Number::Value(interval) = number_argument(2) else {
+    let Number::Value(interval) = number_argument(rt, 2) else {
         return Asked::Malformed;
     };
-    let Settings::Given(settings) = settings_arguments(count) else {
+    let Settings::Given(settings) = settings_arguments(rt, count) else {
         return Asked::Malformed;
     };
     Asked::Pulses(Request {
@@ -124,23 +125,23 @@ fn request_from(count: usize, deviations: bool) -> Asked {
 }
 
 // The last argument is the word.
-fn asked_deviations(count: usize, last: usize) -> Asked {
-    if deviations_argument(last) {
-        return request_from(count, true);
+fn asked_deviations(rt: &HostRuntime, count: usize, last: usize) -> Asked {
+    if deviations_argument(rt, last) {
+        return request_from(rt, count, true);
     }
     Asked::Malformed
 }
 
-fn asked_for() -> Asked {
-    let count = os::arg_count();
+fn asked_for(rt: &HostRuntime) -> Asked {
+    let count = argument_count(rt);
     if count == 4 {
-        return asked_deviations(count, 3);
+        return asked_deviations(rt, count, 3);
     }
     if count == 7 {
-        return asked_deviations(count, 6);
+        return asked_deviations(rt, count, 6);
     }
     if count == 3 || count == 6 {
-        return request_from(count, false);
+        return request_from(rt, count, false);
     }
     Asked::Malformed
 }
@@ -154,28 +155,28 @@ fn stopped(progress: Progress) -> Progress {
 }
 
 // Writes what is filled; nothing more is done where that fails.
-fn write_filled(out: &mut [u8; 65536], progress: Progress) -> Progress {
+fn write_filled(rt: &HostRuntime, out: &mut [u8; 65536], progress: Progress) -> Progress {
     let mut written = progress;
-    written.more = write_first(out, progress.filled);
+    written.more = write_first(rt, out, progress.filled);
     written.filled = 0;
     written
 }
 
-fn with_room(out: &mut [u8; 65536], progress: Progress) -> Progress {
+fn with_room(rt: &HostRuntime, out: &mut [u8; 65536], progress: Progress) -> Progress {
     if progress.filled <= LAST_WITH_ROOM {
         return progress;
     }
-    write_filled(out, progress)
+    write_filled(rt, out, progress)
 }
 
 // Ends the row under way and writes what is filled.
-fn write_rest(out: &mut [u8; 65536], progress: Progress) -> Progress {
+fn write_rest(rt: &HostRuntime, out: &mut [u8; 65536], progress: Progress) -> Progress {
     let mut last = progress;
     if 0 < progress.column {
         last.filled = put_byte(out, progress.filled, b'\n');
         last.column = 0;
     }
-    write_filled(out, last)
+    write_filled(rt, out, last)
 }
 
 // As many elements stand in a row as in a frame.
@@ -215,13 +216,14 @@ fn put_deviation(
 }
 
 fn put_pulse(
+    rt: &HostRuntime,
     out: &mut [u8; 65536],
     request: Request,
     progress: Progress,
     width: u32,
     period: u32,
 ) -> Progress {
-    let roomy = with_room(out, progress);
+    let roomy = with_room(rt, out, progress);
     let classified = classify(request.settings, request.interval, width, period);
     match classified {
         Classified::Symbol { symbol, deviation } => {
@@ -237,26 +239,32 @@ fn put_pulse(
 // ---- the lines
 
 // What stands before the line is written, and nothing follows.
-fn refuse_line(out: &mut [u8; 65536], progress: Progress) -> Progress {
-    let written = write_rest(out, progress);
+fn refuse_line(rt: &HostRuntime, out: &mut [u8; 65536], progress: Progress) -> Progress {
+    let written = write_rest(rt, out, progress);
     if written.more {
-        io::write_all(libc::STDERR_FILENO, b"refused line ");
-        io::print_decimal(libc::STDERR_FILENO, progress.lines);
-        io::write_all(libc::STDERR_FILENO, b"\n");
+        tell(rt, b"refused line ");
+        tell_number(rt, progress.lines);
+        tell(rt, b"\n");
     }
     stopped(written)
 }
 
-fn take_line(line: &[u8], out: &mut [u8; 65536], request: Request, progress: Progress) -> Progress {
+fn take_line(
+    rt: &HostRuntime,
+    line: &[u8],
+    out: &mut [u8; 65536],
+    request: Request,
+    progress: Progress,
+) -> Progress {
     let mut counted = progress;
     counted.used = 0;
     counted.lines = wrapping_add_u64(progress.lines, 1);
     if LONGEST_LINE <= line.len() {
-        return refuse_line(out, counted);
+        return refuse_line(rt, out, counted);
     }
     let read = pulse_line(line);
     match read {
-        PulseLine::Pulse { width, period } => put_pulse(out, request, counted, width, period),
+        PulseLine::Pulse { width, period } => put_pulse(rt, out, request, counted, width, period),
         PulseLine::Empty => counted,
         PulseLine::Other => {
             if counted.lines == 1 {
@@ -264,31 +272,39 @@ fn take_line(line: &[u8], out: &mut [u8; 65536], request: Request, progress: Pro
                     return counted;
                 }
             }
-            refuse_line(out, counted)
+            refuse_line(rt, out, counted)
         }
     }
 }
 
-fn take_part(line: &[u8], out: &mut [u8; 65536], request: Request, progress: Progress) -> Progress {
+fn take_part(
+    rt: &HostRuntime,
+    line: &[u8],
+    out: &mut [u8; 65536],
+    request: Request,
+    progress: Progress,
+) -> Progress {
     let used = progress.used;
     if used < line.len() {
-        return take_line(&line[0..used], out, request, progress);
+        return take_line(rt, &line[0..used], out, request, progress);
     }
-    take_line(line, out, request, progress)
+    take_line(rt, line, out, request, progress)
 }
 
 // It takes the array, whose length a caller need not show.
 fn take_open(
+    rt: &HostRuntime,
     line: &[u8; 256],
     out: &mut [u8; 65536],
     request: Request,
     progress: Progress,
 ) -> Progress {
-    take_part(line, out, request, progress)
+    take_part(rt, line, out, request, progress)
 }
 
 // A byte of the line under way; one that is too long stays so.
 fn take_byte(
+    rt: &HostRuntime,
     byte: u8,
     line: &mut [u8; 256],
     out: &mut [u8; 65536],
@@ -296,7 +312,7 @@ fn take_byte(
     progress: Progress,
 ) -> Progress {
     if byte == b'\n' {
-        return take_open(line, out, request, progress);
+        return take_open(rt, line, out, request, progress);
     }
     let used = progress.used;
     if LONGEST_LINE <= used {
@@ -309,6 +325,7 @@ fn take_byte(
 }
 
 fn take_bytes(
+    rt: &HostRuntime,
     bytes: &[u8],
     line: &mut [u8; 256],
     out: &mut [u8; 65536],
@@ -318,7 +335,7 @@ fn take_bytes(
     let mut current = progress;
     let mut i = 0;
     while i < bytes.len() && current.more {
-        current = take_byte(bytes[i], line, out, request, current);
+        current = take_byte(rt, bytes[i], line, out, request, current);
         i += 1;
     }
     current
@@ -326,6 +343,7 @@ fn take_bytes(
 
 // At the input's end a last line without a newline counts too.
 fn take_end(
+    rt: &HostRuntime,
     line: &[u8; 256],
     out: &mut [u8; 65536],
     request: Request,
@@ -333,32 +351,32 @@ fn take_end(
 ) -> Progress {
     let mut last = progress;
     if 0 < progress.used {
-        last = take_open(line, out, request, progress);
+        last = take_open(rt, line, out, request, progress);
     }
     if last.more {
-        last = write_rest(out, last);
+        last = write_rest(rt, out, last);
     }
     stopped(last)
 }
 
 // Where a read fails, what came before it is written.
 fn take_read(
+    rt: &HostRuntime,
     line: &mut [u8; 256],
     out: &mut [u8; 65536],
     request: Request,
     progress: Progress,
 ) -> Progress {
-    let mut input = io::large_buffer();
-    let got = libc::read(libc::STDIN_FILENO, &mut input);
+    let mut input = [0u8; 65536];
+    let got = read(rt, &mut rt.stdin(), &mut input);
     if got < 0 {
-        os::fail(b"input");
-        return stopped(write_rest(out, progress));
+        return stopped(write_rest(rt, out, progress));
     }
     if got == 0 {
-        return take_end(line, out, request, progress);
+        return take_end(rt, line, out, request, progress);
     }
     let n = io::count(got, &input);
-    take_bytes(&input[..n], line, out, request, progress)
+    take_bytes(rt, &input[..n], line, out, request, progress)
 }
 
 // The first line of a recording; deviations are none.
@@ -370,9 +388,9 @@ fn put_first_line(out: &mut [u8; 65536], request: Request) -> usize {
     put_bytes(out, 0, &text)
 }
 
-fn print_pulses(request: Request) {
+fn print_pulses(rt: &HostRuntime, request: Request) {
     let mut line = [0u8; 256];
-    let mut out = io::large_buffer();
+    let mut out = [0u8; 65536];
     let filled = put_first_line(&mut out, request);
     let mut progress = Progress {
         used: 0,
@@ -384,34 +402,34 @@ fn print_pulses(request: Request) {
     // A proved loop has to end: the reads are counted down from a number that no run uses up.
     let mut left = u64::MAX;
     while 0 < left && progress.more {
-        progress = take_read(&mut line, &mut out, request, progress);
+        progress = take_read(rt, &mut line, &mut out, request, progress);
         left -= 1;
     }
 }
 
 // Every check is made before anything is printed.
-fn print_checked(request: Request) {
+fn print_checked(rt: &HostRuntime, request: Request) {
     if !is_known(request.format) {
-        print_refused(Refusal::UnknownFormat);
+        print_refused(rt, Refusal::UnknownFormat);
         return;
     }
     let classified = classify(request.settings, request.interval, 0, 0);
     match classified {
-        Classified::Symbol { .. } => print_pulses(request),
-        Classified::Refused(refusal) => print_refused(refusal),
+        Classified::Symbol { .. } => print_pulses(rt, request),
+        Classified::Refused(refusal) => print_refused(rt, refusal),
     }
 }
 
-fn main() {
-    if print_version(b"timepulse") {
+fn main(rt: HostRuntime) {
+    if print_version(&rt, b"timepulse") {
         return;
     }
-    let asked = asked_for();
+    let asked = asked_for(&rt);
     match asked {
-        Asked::Pulses(request) => print_checked(request),
+        Asked::Pulses(request) => print_checked(&rt, request),
         Asked::Malformed => {
-            io::write_all(
-                libc::STDERR_FILENO,
+            tell(
+                &rt,
                 b"usage: timepulse FORMAT INTERVAL [ZEROS ONES MARKS] [deviations]; standard input has lines WIDTH PERIOD\n",
             );
         }

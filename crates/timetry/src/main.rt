@@ -4,6 +4,7 @@
 // damages are read from standard input, a line for each: an element's number, a space and the character that is received
 // in its place; or two more arguments say in the place of one element in how many a random symbol stands, and a seed.
 #![tactic(auto)]
+
 ghost use Rattle.std.specs.Prelude.{◌≤◌};
 
 use arguments::Number;
@@ -13,6 +14,7 @@ use command_line::{
 use damages::{Listed, damages_in, scattered};
 use layout::frame_size;
 use output::{print_refused, write_first};
+use program_io::{argument_count, read_full, tell};
 use simulate::simulate;
 use simulation::Counts;
 use timecode::{Format, Time, Written};
@@ -42,14 +44,14 @@ enum Started {
     Malformed,
 }
 
-fn start_argument(count: usize) -> Started {
-    let Number::Value(day) = number_argument(2) else {
+fn start_argument(rt: &HostRuntime, count: usize) -> Started {
+    let Number::Value(day) = number_argument(rt, 2) else {
         return Started::Malformed;
     };
-    let Number::Value(hundredths) = number_argument(3) else {
+    let Number::Value(hundredths) = number_argument(rt, 3) else {
         return Started::Malformed;
     };
-    let Number::Value(year) = number_or_0(count, 6) else {
+    let Number::Value(year) = number_or_0(rt, count, 6) else {
         return Started::Malformed;
     };
     Started::At(Time {
@@ -59,17 +61,17 @@ fn start_argument(count: usize) -> Started {
     })
 }
 
-fn asked_for(count: usize) -> Asked {
-    let Named::Known(format) = format_argument(1) else {
+fn asked_for(rt: &HostRuntime, count: usize) -> Asked {
+    let Named::Known(format) = format_argument(rt, 1) else {
         return Asked::Malformed;
     };
-    let Started::At(start) = start_argument(count) else {
+    let Started::At(start) = start_argument(rt, count) else {
         return Asked::Malformed;
     };
-    let Number::Value(given) = number_argument(4) else {
+    let Number::Value(given) = number_argument(rt, 4) else {
         return Asked::Malformed;
     };
-    let Number::Value(frames) = number_argument(5) else {
+    let Number::Value(frames) = number_argument(rt, 5) else {
         return Asked::Malformed;
     };
     Asked::Run(Request {
@@ -139,14 +141,20 @@ fn put_counts(line: &mut [u8; 65536], setting: u8, counts: Counts) -> usize
     put_behind(line, at, b"\n")
 }
 
-fn print_line(setting: u8, counts: Counts) -> bool {
-    let mut line = io::large_buffer();
+fn print_line(rt: &HostRuntime, setting: u8, counts: Counts) -> bool {
+    let mut line = [0u8; 65536];
     let k = put_counts(&mut line, setting, counts);
-    write_first(&mut line, k)
+    write_first(rt, &mut line, k)
 }
 
 // The line of one setting, or that of a refusal; whether the next setting is to be tried.
-fn print_setting(request: Request, setting: u8, numbers: &[u64], symbols: &[u8]) -> bool {
+fn print_setting(
+    rt: &HostRuntime,
+    request: Request,
+    setting: u8,
+    numbers: &[u64],
+    symbols: &[u8],
+) -> bool {
     let settings = [setting];
     let ends = [numbers.len()];
     let simulation = simulate(
@@ -162,61 +170,73 @@ fn print_setting(request: Request, setting: u8, numbers: &[u64], symbols: &[u8])
     let counts = simulation.counts;
     let answer = simulation.answer;
     match answer {
-        Written::Done => print_line(setting, counts[0]),
+        Written::Done => print_line(rt, setting, counts[0]),
         Written::Refused(refusal) => {
-            print_refused(refusal);
+            print_refused(rt, refusal);
             false
         }
     }
 }
 
 // What is refused with one setting is refused with each.
-fn print_table(request: Request, numbers: &[u64], symbols: &[u8]) {
+fn print_table(rt: &HostRuntime, request: Request, numbers: &[u64], symbols: &[u8]) {
     let mut setting = FIRST_SETTING;
     let mut more = true;
     while setting <= LAST_SETTING && more {
-        more = print_setting(request, setting, numbers, symbols);
+        more = print_setting(rt, request, setting, numbers, symbols);
         setting += 1;
     }
 }
 
-fn print_usage() {
-    io::write_all(
-        libc::STDERR_FILENO,
+fn print_usage(rt: &HostRuntime) {
+    tell(
+        rt,
         b"usage: timetry FORMAT DAY HUNDREDTHS YEAR-LENGTH FRAMES [YEAR [ONE-IN SEED]]; standard input has lines NUMBER SYMBOL, up to 16384\n",
     );
 }
 
-fn print_listed(request: Request, listed: Listed, numbers: &[u64], symbols: &[u8]) {
+fn print_listed(
+    rt: &HostRuntime,
+    request: Request,
+    listed: Listed,
+    numbers: &[u64],
+    symbols: &[u8],
+) {
     let count = listed.count;
     if listed.all {
         if count <= numbers.len() {
             if count <= symbols.len() {
-                print_table(request, &numbers[0..count], &symbols[0..count]);
+                print_table(rt, request, &numbers[0..count], &symbols[0..count]);
                 return;
             }
         }
     }
-    print_usage();
+    print_usage(rt);
 }
 
 // It takes the arrays, whose length a caller need not show.
-fn print_first_of(request: Request, listed: Listed, numbers: &[u64; 16384], symbols: &[u8; 16384]) {
-    print_listed(request, listed, numbers, symbols);
+fn print_first_of(
+    rt: &HostRuntime,
+    request: Request,
+    listed: Listed,
+    numbers: &[u64; 16384],
+    symbols: &[u8; 16384],
+) {
+    print_listed(rt, request, listed, numbers, symbols);
 }
 
 // Damages from standard input. Where it fills the buffer, more may follow, and there is no room for so many lines.
-fn try_read(request: Request) {
-    let mut text = io::large_buffer();
-    let n = io::read_full(libc::STDIN_FILENO, &mut text);
+fn try_read(rt: &HostRuntime, request: Request) {
+    let mut text = [0u8; 65536];
+    let n = read_full(&mut rt.stdin(), &mut text);
     if n == text.len() {
-        print_usage();
+        print_usage(rt);
         return;
     }
     let mut numbers = [0u64; 16384];
     let mut symbols = [0u8; 16384];
     let listed = damages_in(&text[..n], &mut numbers, &mut symbols);
-    print_first_of(request, listed, &numbers, &symbols);
+    print_first_of(rt, request, listed, &numbers, &symbols);
 }
 
 fn elements_of(frames: u32, n: usize) -> u64
@@ -225,39 +245,39 @@ fn elements_of(frames: u32, n: usize) -> u64
     (frames as u64) * (n as u64)
 }
 
-fn try_scattered(request: Request) {
-    let Number::Value(times) = number_argument(7) else {
-        print_usage();
+fn try_scattered(rt: &HostRuntime, request: Request) {
+    let Number::Value(times) = number_argument(rt, 7) else {
+        print_usage(rt);
         return;
     };
-    let Number::Value(seed) = number_argument(8) else {
-        print_usage();
+    let Number::Value(seed) = number_argument(rt, 8) else {
+        print_usage(rt);
         return;
     };
     let elements = elements_of(request.frames, frame_size(request.format));
     let mut numbers = [0u64; 16384];
     let mut symbols = [0u8; 16384];
     let listed = scattered(elements, times, seed, &mut numbers, &mut symbols);
-    print_first_of(request, listed, &numbers, &symbols);
+    print_first_of(rt, request, listed, &numbers, &symbols);
 }
 
-fn main() {
-    if print_version(b"timetry") {
+fn main(rt: HostRuntime) {
+    if print_version(&rt, b"timetry") {
         return;
     }
-    let count = os::arg_count();
-    let asked = asked_for(count);
+    let count = argument_count(&rt);
+    let asked = asked_for(&rt, count);
     let Asked::Run(request) = asked else {
-        print_usage();
+        print_usage(&rt);
         return;
     };
     if count <= 7 {
-        try_read(request);
+        try_read(&rt, request);
         return;
     }
     if count == 9 {
-        try_scattered(request);
+        try_scattered(&rt, request);
         return;
     }
-    print_usage();
+    print_usage(&rt);
 }

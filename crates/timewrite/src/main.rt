@@ -2,6 +2,7 @@
 // Its arguments are letter and expression, day, hundredths, year length, number of frames and, if any, the control word,
 // the kind of the first day and the first year. Where the format carries the year, its own length counts.
 #![tactic(auto)]
+
 ghost use Rattle.std.specs.Prelude.{◌≡◌, ◌-◌, ◌≤◌};
 ghost use Rattle.generator.specs.Sending.{start_of};
 
@@ -13,6 +14,7 @@ use command_line::{
 use frametext::first_line;
 use generator::{Generated, Start, begin, generate};
 use output::{print_refused, write_first};
+use program_io::{argument_count, tell, write};
 use timecode::{Format, Time, Written};
 use version::print_version;
 
@@ -38,24 +40,24 @@ enum Started {
 }
 
 // The control word, 0 where none is given.
-fn control_argument(count: usize) -> Number {
+fn control_argument(rt: &HostRuntime, count: usize) -> Number {
     if count < 7 {
         return Number::Value(0);
     }
-    hexadecimal_argument(6)
+    hexadecimal_argument(rt, 6)
 }
 
-fn start_argument(count: usize) -> Started {
-    let Number::Value(day) = number_argument(2) else {
+fn start_argument(rt: &HostRuntime, count: usize) -> Started {
+    let Number::Value(day) = number_argument(rt, 2) else {
         return Started::Malformed;
     };
-    let Number::Value(hundredths) = number_argument(3) else {
+    let Number::Value(hundredths) = number_argument(rt, 3) else {
         return Started::Malformed;
     };
-    let Number::Value(kind) = number_or_0(count, 7) else {
+    let Number::Value(kind) = number_or_0(rt, count, 7) else {
         return Started::Malformed;
     };
-    let Number::Value(year) = number_or_0(count, 8) else {
+    let Number::Value(year) = number_or_0(rt, count, 8) else {
         return Started::Malformed;
     };
     Started::At(Start {
@@ -68,24 +70,24 @@ fn start_argument(count: usize) -> Started {
     })
 }
 
-fn asked_for() -> Asked {
-    let count = os::arg_count();
+fn asked_for(rt: &HostRuntime) -> Asked {
+    let count = argument_count(rt);
     if 9 < count {
         return Asked::Malformed;
     }
-    let Named::Known(format) = format_argument(1) else {
+    let Named::Known(format) = format_argument(rt, 1) else {
         return Asked::Malformed;
     };
-    let Started::At(start) = start_argument(count) else {
+    let Started::At(start) = start_argument(rt, count) else {
         return Asked::Malformed;
     };
-    let Number::Value(given) = number_argument(4) else {
+    let Number::Value(given) = number_argument(rt, 4) else {
         return Asked::Malformed;
     };
-    let Number::Value(frames) = number_argument(5) else {
+    let Number::Value(frames) = number_argument(rt, 5) else {
         return Asked::Malformed;
     };
-    let Number::Value(control) = control_argument(count) else {
+    let Number::Value(control) = control_argument(rt, count) else {
         return Asked::Malformed;
     };
     Asked::Recording(Request {
@@ -98,13 +100,13 @@ fn asked_for() -> Asked {
 }
 
 // Each part goes on where the one before ended; the end is reached unless nothing can be written any more.
-fn print_frames(request: Request) -> Generated
+fn print_frames(rt: &HostRuntime, request: Request) -> Generated
     ensures { (result.left ≤ request.frames) × (result.next ≡ start_of request.format request.start request.given (request.frames - result.left)) }
 {
     let format = request.format;
     let control = request.control;
     let given = request.given;
-    let mut out = io::large_buffer();
+    let mut out = [0u8; 65536];
     let mut next = request.start;
     let mut left = request.frames;
     let mut more = true;
@@ -112,7 +114,7 @@ fn print_frames(request: Request) -> Generated
         let generated = generate(&mut out, format, next, control, given, left);
         next = generated.next;
         left = generated.left;
-        more = write_first(&mut out, generated.filled);
+        more = write_first(rt, &mut out, generated.filled);
     }
     Generated {
         next: next,
@@ -121,17 +123,15 @@ fn print_frames(request: Request) -> Generated
     }
 }
 
-fn print_recording(request: Request) {
+fn print_recording(rt: &HostRuntime, request: Request) {
     let line = first_line(request.format);
-    if io::write_all(libc::STDOUT_FILENO, &line) {
-        print_frames(request);
-        return;
+    if write(rt, &line) {
+        print_frames(rt, request);
     }
-    os::fail(b"standard output");
 }
 
 // Every check is made before anything is printed.
-fn print_checked(request: Request) {
+fn print_checked(rt: &HostRuntime, request: Request) {
     let answer = begin(
         request.format,
         request.start,
@@ -139,21 +139,21 @@ fn print_checked(request: Request) {
         request.given,
     );
     match answer {
-        Written::Done => print_recording(request),
-        Written::Refused(refusal) => print_refused(refusal),
+        Written::Done => print_recording(rt, request),
+        Written::Refused(refusal) => print_refused(rt, refusal),
     }
 }
 
-fn main() {
-    if print_version(b"timewrite") {
+fn main(rt: HostRuntime) {
+    if print_version(&rt, b"timewrite") {
         return;
     }
-    let asked = asked_for();
+    let asked = asked_for(&rt);
     match asked {
-        Asked::Recording(request) => print_checked(request),
+        Asked::Recording(request) => print_checked(&rt, request),
         Asked::Malformed => {
-            io::write_all(
-                libc::STDERR_FILENO,
+            tell(
+                &rt,
                 b"usage: timewrite FORMAT DAY HUNDREDTHS YEAR-LENGTH FRAMES [CONTROL-WORD [DAY-KIND [YEAR]]]\n",
             );
         }
