@@ -78,7 +78,7 @@ def read_x():
     source = DEFINITION.read_text(encoding="utf-8")
     digits = []
     for field in ("hours", "minutes", "seconds"):
-        found = re.search(rf"^{field} f = inX f (\d+) (\d+) .*?∷ inX f (\d+) (\d+) ", source, re.M)
+        found = re.search(rf"^{field} f = in_x f (\d+) (\d+) .*?∷ in_x f (\d+) (\d+) ", source, re.M)
         if not found:
             fail(f"no {field} of X in {DEFINITION}")
         units, units_width, tens, tens_width = (int(number) for number in found.groups())

@@ -59,7 +59,7 @@ def fail(why):
 def library(folder):
     """duskveyra_forecast of the archive."""
     if not LIBRARY.exists():
-        fail(f"no {LIBRARY}: run 'rt staticlib recorder' first")
+        fail(f"no {LIBRARY}: run 'scripts/build recorder' first")
     shared = Path(folder) / "librecorder.so"
     whole = ["-Wl,--whole-archive", str(LIBRARY), "-Wl,--no-whole-archive"]
     subprocess.run(["gcc", "-shared", "-o", str(shared), *whole], check=True)

@@ -1,8 +1,9 @@
 #!/usr/bin/env python3
 """Draws docs/recording.svg: a damaged recording, a row for each frame that is due, and what timelook and timeread find in it.
 
-The frames come from target/bin/timewrite, what is found from target/bin/timelook and target/bin/timeread (rt check timewrite timelook
-timeread). Without arguments it writes the file; with --check it compares the file with what it would write."""
+The frames come from target/bin/timewrite, what is found from target/bin/timelook and target/bin/timeread (scripts/build
+timewrite timelook timeread). Without arguments it writes the file; with --check it compares the file with what it would
+write."""
 
 import re
 import subprocess
@@ -139,7 +140,7 @@ def picture():
 def main():
     for program in ("timewrite", "timeread", "timelook"):
         if not (PROGRAMS / program).is_file():
-            fail(f"target/bin/{program} is not built: rt check {program}")
+            fail(f"target/bin/{program} is not built: scripts/build {program}")
     drawn = picture()
     if sys.argv[1:] == ["--check"]:
         if not PICTURE.is_file() or PICTURE.read_text(encoding="utf-8") != drawn:

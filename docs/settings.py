@@ -1,7 +1,7 @@
 #!/usr/bin/env python3
 """Draws docs/settings.svg: how many reports each setting k gives up as more elements are replaced, and where false ones begin.
 
-Every number comes from target/bin/timetry (rt check timetry), which is run with fixed seeds. Without arguments it writes the
+Every number comes from target/bin/timetry (scripts/build timetry), which is run with fixed seeds. Without arguments it writes the
 file; with --check it compares the file with what it would write."""
 
 import math
@@ -96,7 +96,7 @@ def draw_false(counts):
 
 def draw():
     if not PROGRAM.is_file():
-        fail("target/bin/timetry is not built: rt check timetry")
+        fail("target/bin/timetry is not built: scripts/build timetry")
     counts = {one_in: counts_of(one_in) for one_in in ONE_IN}
     out = [
         f'<svg xmlns="http://www.w3.org/2000/svg" width="{WIDTH}" height="{HEIGHT}" viewBox="0 0 {WIDTH} {HEIGHT}" font-family="{FONT}">',

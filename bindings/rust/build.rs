@@ -22,7 +22,7 @@ fn main() {
     println!("cargo:rerun-if-changed={}", archive.display());
     if !archive.is_file() {
         eprintln!(
-            "no {}: run `rt staticlib recorder` in the repository, or set DUSKVEYRA_LIB",
+            "no {}: run `scripts/build recorder` in the repository, or set DUSKVEYRA_LIB",
             archive.display()
         );
         process::exit(1);
