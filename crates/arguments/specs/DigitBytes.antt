@@ -3,7 +3,7 @@ use Rattle.std.specs.Prelude.{◌≡◌, refl, true, false, ◌&&◌, List, [], 
 use Rattle.std.proofs.Common.{sym, ap, ◌∙◌, mul-one, mul-le-mul_left, le-div_iff_mul-le, div-lt_iff_lt-mul, add-one, arith, lt-ltb, le-ltb, le-leb, leb-true, leb-false, drop_of_length-le, take-suc, drop-cons}
 use Rattle.std.proofs.lemmas.Bool.{lt-leb}
 use Rattle.std.proofs.Math.Seq.{take-length}
-use Rattle.timecode.specs.Laws.Tests.{by-test}
+use Rattle.timecode.proofs.Laws.Tests.{by-test}
 use Rattle.arguments.specs.Numbers.{digit_of, are_digit_bytes, value_from, last, limited, number_of}
 use Rattle.arguments.specs.declared.Number.TheVariants.{Value, Malformed}
 

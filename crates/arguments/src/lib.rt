@@ -1,5 +1,6 @@
 // Numbers as a program's arguments write them.
 #![tactic(auto)]
+
 ghost use Rattle.std.specs.Prelude.{◌≡◌, ◌+◌, ◌*◌, ◌≤◌, ◌<◌};
 ghost use Rattle.arguments.specs.Numbers.{digit_of, limited, number_of};
 

@@ -1,14 +1,11 @@
 -- The order of a block's checks, 13, 26, 3, and a block of no symbols.
-use Rattle.std.specs.Prelude.{◌≡◌, refl, List, [], ◌∷◌, ℕ, pos}
-use Rattle.timecode.specs.Answers.{Result, success, refusal_result}
-use Rattle.timecode.specs.Formats.{H, table, look_up, row_of, known, size}
+use Rattle.std.specs.Prelude.{List, [], ◌∷◌, ℕ}
+use Rattle.timecode.specs.Answers.{Result}
+use Rattle.timecode.specs.Formats.{H}
 use Rattle.timecode.specs.Frames.{no_time}
-use Rattle.timecode.specs.Stream.{is_setting}
-use Rattle.timecode.specs.declared.Refusal.TheVariants.{WrongLength, InvalidReader, InvalidSetting}
-use Rattle.stream.specs.Feeding.{fresh_register, is_valid}
-use Rattle.stream.specs.Refinement.{answers}
+use Rattle.stream.specs.Feeding.{fresh_register}
 use Rattle.stream.specs.declared.Reader.{Reader}
-use Rattle.block.specs.Blocks.{block_in, Lists, lists, block_answer, block_result}
+use Rattle.block.specs.Blocks.{Lists, lists, block_answer, block_result}
 
 -- a reader of H1 with that setting, at that place
 abbrev at : ℕ → ℕ → Reader
@@ -21,14 +18,10 @@ unequal = lists (0 ∷ []) [] [] [] []
 abbrev empty : Lists
 empty = lists [] [] [] [] []
 
-abbrev results : List Result
+abbrev pub results : List Result
 results =
     block_result (block_answer (at 6 60) [] unequal)
     ∷ block_result (block_answer (at 6 0) [] unequal)
     ∷ block_result (block_answer (at 2 0) [] unequal)
     ∷ block_result (block_answer (at 2 0) [] empty)
     ∷ []
-
-pub block-rows : results ≡ refusal_result InvalidReader ∷ refusal_result InvalidSetting ∷ refusal_result WrongLength ∷ success (pos 0 ∷ pos 0 ∷ pos 0 ∷ []) ∷ []
-unfolding block_answer block_in answers is_valid is_setting known size row_of look_up table
-block-rows = refl

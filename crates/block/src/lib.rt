@@ -1,6 +1,7 @@
 // What a block of symbols takes and what it answers: types only, no function.
 // A block is the list of Feeds of its symbols, up to where it stops: its definitions and theorems stand in specs/.
 #![tactic(auto)]
+
 use stream::Reader;
 use timecode::Refusal;
 

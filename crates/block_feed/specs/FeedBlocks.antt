@@ -3,11 +3,12 @@ use Rattle.std.specs.Prelude.{◌≡◌, List, ℕ, take}
 use Rattle.std.proofs.Common.{ap, ap₂, ◌∙◌}
 use Rattle.stream.specs.declared.Reader.{Reader}
 use Rattle.block.specs.Blocks.{Lists, block_for, feed_block_of, lists_left}
-use Rattle.block.specs.Folds.{refused-block-leaves}
+use Rattle.block.proofs.Folds.{refused-block-leaves}
 use Rattle.block.specs.declared.BlockAnswer.{BlockAnswer}
-use Rattle.reader_words.specs.WordLaws.{Fits, words_back, after-fits}
+use Rattle.reader_words.specs.WordLaws.{Fits}
+use Rattle.reader_words.proofs.WordLaws.{words_back, after-fits}
 use Rattle.reader_words.specs.Words.{words_for, reader_in}
-use Rattle.block_words.specs.BlockFields.{left-block}
+use Rattle.block_words.proofs.BlockFields.{left-block}
 use Rattle.block_words.specs.BlockWords.{fed_block_with, feed_block_words, block_words_left}
 
 module _ (r : Reader) (ss : List ℕ) (l : Lists) (fits : Fits r) where

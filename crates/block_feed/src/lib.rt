@@ -1,5 +1,6 @@
 // Whole blocks of symbols by value: the reader's words are fed, and the reader is taken out of them again.
 #![tactic(auto)]
+
 ghost use Rattle.std.specs.Prelude.{◌≡◌};
 ghost use Rattle.block.specs.Blocks.{lists, block_for, feed_block_of, lists_left};
 

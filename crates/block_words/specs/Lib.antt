@@ -1,3 +1,2 @@
 -- BlockWords is what the contracts say; BlockFields the struct against its answer's result.
 pub mod BlockWords
-pub mod BlockFields

@@ -1,6 +1,7 @@
 // A block's answer as C's struct, by value.
 // The definitions, each field against the answer's result, and the words after a block stand in specs/.
 #![tactic(auto)]
+
 ghost use Rattle.std.specs.Prelude.{◌≡◌};
 ghost use Rattle.block.specs.Blocks.{stop_number};
 ghost use Rattle.block_words.specs.BlockWords.{block_result_of};

@@ -1,6 +1,7 @@
 // What the calendar of test windows takes and what it answers: types only, no function.
 // Dates, moments, windows and a calendar's answers are defined, and their theorems stand, in specs/.
 #![tactic(auto)]
+
 use timecode::{Refusal, Time, Written};
 
 // A day by its month: the year after 2000, the month from 1 and the day of the month from 1.

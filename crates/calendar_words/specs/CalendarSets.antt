@@ -5,7 +5,7 @@ use Rattle.std.proofs.Common.{◌∙◌, arith, length-drop, length-set, take-ap
 use Rattle.timecode.specs.Answers.{refusal_number}
 use Rattle.timecode.specs.declared.Refusal.{Refusal}
 use Rattle.timecode.specs.declared.Written.{Written}
-use Rattle.calendar.specs.Adding.{refused-stays}
+use Rattle.calendar.proofs.Adding.{refused-stays}
 use Rattle.calendar.specs.Windows.{window_of, add_answer, add_of, keyed_by}
 use Rattle.calendar.specs.declared.Added.{Added}
 use Rattle.calendar.specs.declared.DateTime.{DateTime}

@@ -1,6 +1,7 @@
 // The calendar of test windows for C: a calendar as 65 words in the caller's memory, its count, 32 starts and 32 ends, and the answers as structs by value.
 // Any words are allowed. That each struct has its answer's number and values, and what adding leaves in the words, stands in specs/.
 #![tactic(auto)]
+
 ghost use Rattle.std.specs.Prelude.{◌≡◌, ◌+◌, ◌<◌, length, set};
 ghost use Rattle.calendar.specs.Dates.{date_of, day_of};
 ghost use Rattle.calendar.specs.Moments.{ask_of};

@@ -1,6 +1,7 @@
 // The words of a line that is a call, such as `step B 4 24 366 8639900 365 0`: its name, numbers, format, times, elements, bytes and listeners.
 // A word that is no number, or is not there, is 0.
 #![tactic(auto)]
+
 ghost use Rattle.std.specs.Prelude.{◌≤◌, length};
 
 use arguments::{Number, decimal_in, hexadecimal_in};

@@ -1,5 +1,6 @@
 // The characters of a recording, and the symbols that they stand for.
 #![tactic(auto)]
+
 ghost use Rattle.std.specs.Prelude.{◌≡◌, ◌≤◌, length, take};
 ghost use Rattle.characters.specs.ByteSymbols.{is_skipped, symbol_of_byte, feeds_of};
 ghost use Rattle.characters.specs.Decoding.{symbol_or_skipped, symbols_in, kept_of, EachPut};

@@ -2,7 +2,5 @@
 pub mod Cycles
 pub mod Checks
 pub mod Elements
-pub mod Frames
-pub mod Demands
 pub mod Damage
 pub mod Rows

@@ -1,47 +1,15 @@
 -- Worked rows: the elements at M = 10, other runs, the order of the refusals and number 25's index.
-use Rattle.std.specs.Prelude.{◌≡◌, refl, List, [], ◌∷◌, map, ℕ, replicate}
-use Rattle.timecode.specs.Formats.{known, row_of, look_up, table, size}
+use Rattle.std.specs.Prelude.{List, [], ◌∷◌, ℕ}
 use Rattle.timecode.specs.declared.Format.{Format}
-use Rattle.timecode.specs.declared.Refusal.TheVariants.{UnknownFormat, WrongLength, UnknownSymbol, InvalidCycleCount, UnknownCycle}
-use Rattle.timecode.specs.declared.Written.{Written}
-use Rattle.cycles.specs.Cycles.{is_modulated, is_cycle_count, check_frame, highs, element, same, symbol_in, unspoiled, encode_of, first_improper, decode_of}
 
-abbrev zero10 : List ℕ
+abbrev pub zero10 : List ℕ
 zero10 = 1 ∷ 1 ∷ 2 ∷ 2 ∷ 2 ∷ 2 ∷ 2 ∷ 2 ∷ 2 ∷ 2 ∷ []
 
-abbrev one10 : List ℕ
+abbrev pub one10 : List ℕ
 one10 = 1 ∷ 1 ∷ 1 ∷ 1 ∷ 1 ∷ 2 ∷ 2 ∷ 2 ∷ 2 ∷ 2 ∷ []
 
-abbrev mark10 : List ℕ
+abbrev pub mark10 : List ℕ
 mark10 = 1 ∷ 1 ∷ 1 ∷ 1 ∷ 1 ∷ 1 ∷ 1 ∷ 1 ∷ 2 ∷ 2 ∷ []
 
-pub elements : map (element 10) (0 ∷ 1 ∷ 2 ∷ []) ≡ zero10 ∷ one10 ∷ mark10 ∷ []
-unfolding element highs
-elements = refl
-
--- all low, all high, a one that begins low, a zero that returns to high, and seven high cycles
-pub other-runs : map (symbol_in 10) (replicate 10 2 ∷ replicate 10 1 ∷ (2 ∷ 1 ∷ 1 ∷ 1 ∷ 1 ∷ 1 ∷ 2 ∷ 2 ∷ 2 ∷ 2 ∷ []) ∷ (1 ∷ 1 ∷ 2 ∷ 2 ∷ 2 ∷ 2 ∷ 2 ∷ 2 ∷ 2 ∷ 1 ∷ []) ∷ (1 ∷ 1 ∷ 1 ∷ 1 ∷ 1 ∷ 1 ∷ 1 ∷ 2 ∷ 2 ∷ 2 ∷ []) ∷ []) ≡ replicate 5 3
-unfolding symbol_in same element highs
-other-runs = refl
-
-abbrev format : ℕ → ℕ → Format
+abbrev pub format : ℕ → ℕ → Format
 format letter expression = record { letter = letter; expression = expression }
-
--- E, and G with expression 0, are 1 whatever else is wrong; then comes 24
-pub format-first : map (λ f. encode_of f 15 (4 ∷ []) []) (format 69 1 ∷ format 71 0 ∷ format 71 1 ∷ []) ≡ Written.Refused UnknownFormat ∷ Written.Refused UnknownFormat ∷ Written.Refused InvalidCycleCount ∷ []
-unfolding encode_of check_frame is_modulated is_cycle_count known row_of look_up table
-format-first = refl
-
-pub counts : map (λ M. encode_of (format 65 0) M [] []) (0 ∷ 5 ∷ 10 ∷ 15 ∷ 100 ∷ 110 ∷ 4294967295 ∷ [])
-    ≡ Written.Refused InvalidCycleCount ∷ Written.Refused InvalidCycleCount ∷ Written.Refused WrongLength ∷ Written.Refused InvalidCycleCount ∷ Written.Refused WrongLength ∷ Written.Refused InvalidCycleCount ∷ Written.Refused InvalidCycleCount ∷ []
-unfolding encode_of check_frame is_modulated is_cycle_count known size row_of look_up table
-counts = refl
-
--- 4 for symbol 3; 25 with the first index, though another cycle is improper too
-pub spoiled-symbol : encode_of (format 65 0) 10 (3 ∷ replicate 99 0) (replicate 1000 9) ≡ Written.Refused UnknownSymbol
-unfolding encode_of check_frame is_modulated is_cycle_count known size row_of look_up table unspoiled
-spoiled-symbol = refl
-
-pub first-improper : decode_of (format 66 7) 10 (1 ∷ 1 ∷ 2 ∷ 2 ∷ 2 ∷ 2 ∷ 2 ∷ 3 ∷ replicate 992 0) (replicate 100 9) ≡ Written.Refused (UnknownCycle 7)
-unfolding decode_of check_frame is_modulated is_cycle_count known size row_of look_up table first_improper
-first-improper = refl

@@ -1,6 +1,7 @@
 // Damages of a run: an element's number, from 1, and the symbol that is received in its place, in two lent lists.
 // They come from a text with a line for each, or are scattered over the run by a seed.
 #![tactic(auto)]
+
 ghost use Rattle.std.specs.Prelude.{◌+◌, ◌≤◌, length, ◌≡◌};
 ghost use Rattle.characters.specs.ByteSymbols.{symbol_of_byte};
 

@@ -6,8 +6,8 @@ use native.Mathlib.Omega.{arith}
 use Rattle.timecode.specs.Answers.{checks}
 use Rattle.timecode.specs.Formats.{is_x, carries_leap, carries_year, last_day, days_in, last_day_in}
 use Rattle.timecode.specs.Frames.{are_digits, last_second, day_in, is_time, time_in, seconds_agree, digit_checks}
-use Rattle.timecode.specs.Laws.Tests.{by-test, and_left, and_right}
-use Rattle.timecode.specs.Laws.Times.{days-range}
+use Rattle.timecode.proofs.Laws.Tests.{by-test, and_left, and_right}
+use Rattle.timecode.proofs.Laws.Times.{days-range}
 use Rattle.timecode.specs.Layout.{Run, seconds, minutes, hours, days, tenths, hundredths_digit, has_seconds, straight_seconds, control, years, time_fields, flatten, digit_in, number_in, decode}
 use Rattle.timecode.specs.declared.Format.{Format}
 use Rattle.timecode.specs.declared.Reading.{Reading}

@@ -5,9 +5,10 @@ use Rattle.std.proofs.Math.Nat.{mod-one, div-eq_of_lt, lt-div-mul-add, mul-mod_l
 use Rattle.timecode.specs.Formats.{is_x, table, look_up, row_of, known, carries_control, carries_year, control_places, OnFormat}
 use Rattle.timecode.specs.Frames.{total_width, Valid}
 use Rattle.timecode.specs.Laws.Fields.{Binary}
-use Rattle.timecode.specs.Laws.Table.{every_format, of-every}
-use Rattle.timecode.specs.Laws.Tests.{by-test, and_left, and_right}
-use Rattle.timecode.specs.Laws.Times.{year-below, carried-day}
+use Rattle.timecode.specs.Laws.Table.{every_format}
+use Rattle.timecode.proofs.Laws.Table.{of-every}
+use Rattle.timecode.proofs.Laws.Tests.{by-test, and_left, and_right}
+use Rattle.timecode.proofs.Laws.Times.{year-below, carried-day}
 use Rattle.timecode.specs.Layout.{Run, Field, seconds, minutes, hours, days, tenths, hundredths_digit, has_seconds, straight_seconds, control, years, time_fields, second, minute, hour, time_numbers, numbers, field_digits, all_digits}
 use Rattle.timecode.specs.declared.Format.{Format}
 use Rattle.timecode.specs.declared.Time.{Time}

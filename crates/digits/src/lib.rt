@@ -1,6 +1,7 @@
 // A time and a control word as the digits at a format's runs, and what digits mean: numbers 7 and 8, the time and the control word.
 // Letter X is left out. Written digits are those of a time and a control word that Write takes; read ones come from a frame in which nothing offends.
 #![tactic(auto)]
+
 ghost use Rattle.std.specs.Prelude.{◌≡◌, true, false, cond, ◌+◌, ◌*◌, ◌^◌, ◌≤◌, ◌<◌, eqb, get_or, length};
 ghost use Rattle.timecode.specs.Formats.{is_x};
 ghost use Rattle.timecode.specs.Frames.{control_fits, Valid};

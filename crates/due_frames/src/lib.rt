@@ -1,6 +1,7 @@
 // Frames that are due: one after another, n elements apart, each read by itself; behind a refused one the next may begin earlier.
 // It assumes nothing of the recording.
 #![tactic(auto)]
+
 ghost use Rattle.std.specs.Prelude.{◌≡◌, List, ℕ, ◌+◌, ◌-◌, ◌≤◌, length, take};
 ghost use Rattle.timecode.specs.Formats.{size};
 ghost use Rattle.due_frames.specs.Due.{resume_at, look_at};

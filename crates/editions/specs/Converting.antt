@@ -5,10 +5,11 @@ use Rattle.std.proofs.Common.{subst, ◌∙◌, arith, leb-true, le-leb}
 use Rattle.timecode.specs.Editions.{with_year, without_year, time_in_year, nine_bits, is_earlier, check_forward, forward_checks}
 use Rattle.timecode.specs.Formats.{A, B, member, row_of, size, carries_year, carries_control, last_year, days_in}
 use Rattle.timecode.specs.Frames.{Valid, write_of, write_leaves, written}
-use Rattle.timecode.specs.Laws.Checks.{done, all-passed}
-use Rattle.timecode.specs.Laws.Editions.{Editions, editions, later-valid, earlier-valid, with-without}
-use Rattle.timecode.specs.Laws.Tests.{by-test, and_left}
-use Rattle.timecode.specs.Laws.Writing.{takes, leaves}
+use Rattle.timecode.proofs.Laws.Checks.{done, all-passed}
+use Rattle.timecode.specs.Laws.Editions.{Editions}
+use Rattle.timecode.proofs.Laws.Editions.{editions, later-valid, earlier-valid, with-without}
+use Rattle.timecode.proofs.Laws.Tests.{by-test, and_left}
+use Rattle.timecode.proofs.Laws.Writing.{takes, leaves}
 use Rattle.timecode.specs.declared.Format.{Format}
 use Rattle.timecode.specs.declared.Reading.TheVariants.{Accepted}
 use Rattle.timecode.specs.declared.Time.{Time}

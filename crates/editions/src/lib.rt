@@ -1,6 +1,7 @@
 // Frames of A and B converted between the edition without the year and the one with it: Read, the converter's own checks, Write.
 // Each call equals its definition for every input.
 #![tactic(auto)]
+
 ghost use Rattle.std.specs.Prelude.{◌≡◌, true, ◌&&◌, ◌*◌, ◌/◌, ◌≤◌, eqb, length};
 ghost use Rattle.timecode.specs.Editions.{with_year, without_year, time_in_year, nine_bits, is_earlier, check_forward, forward_of, forward_leaves, backward_of, backward_leaves};
 ghost use Rattle.timecode.specs.Formats.{size, carries_year};

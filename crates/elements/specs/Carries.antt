@@ -8,8 +8,8 @@ use Rattle.std.proofs.Math.Pow.{mod-mod-pow}
 use Rattle.std.proofs.lemmas.Nat.{mod-pow-add}
 use Rattle.timecode.specs.Formats.{is_x}
 use Rattle.timecode.specs.Frames.{covered}
-use Rattle.timecode.specs.Laws.Runs.{place_in}
-use Rattle.timecode.specs.Laws.Tests.{by-test}
+use Rattle.timecode.proofs.Laws.Runs.{place_in}
+use Rattle.timecode.proofs.Laws.Tests.{by-test}
 use Rattle.timecode.specs.Layout.{Run, in_run, place_of, is_mark, value, digit_in, decode}
 use Rattle.timecode.specs.declared.Format.{Format}
 use Rattle.layout.specs.Letters.{same-starts}

@@ -10,10 +10,12 @@ use borrow.Author.Tests.{ltb-true, ltb-false, leb-true, leb-false}
 use Rattle.std.proofs.Math.Pow.{field, high, low, mod-mod-pow, pow_mono, split}
 use Rattle.timecode.specs.Formats.{is_x, table, look_up, row_of, known, size, carries_control, carries_seconds, carries_year, control_places}
 use Rattle.timecode.specs.Frames.{covered}
-use Rattle.timecode.specs.Laws.Bits.{value-of-bits}
-use Rattle.timecode.specs.Laws.Runs.{in-run, proper, covered-once, later-proper, covered-inside, symbol-free, place_in, length-tabulate, get_d_tabulate, tabulate-same, tabulate-self}
-use Rattle.timecode.specs.Laws.Table.{every_format, of-every}
-use Rattle.timecode.specs.Laws.Tests.{by-test, clash, and_left, and_right}
+use Rattle.timecode.proofs.Laws.Bits.{value-of-bits}
+use Rattle.timecode.specs.Laws.Runs.{proper}
+use Rattle.timecode.proofs.Laws.Runs.{in-run, covered-once, later-proper, covered-inside, symbol-free, place_in, length-tabulate, get_d_tabulate, tabulate-same, tabulate-self}
+use Rattle.timecode.specs.Laws.Table.{every_format}
+use Rattle.timecode.proofs.Laws.Table.{of-every}
+use Rattle.timecode.proofs.Laws.Tests.{by-test, clash, and_left, and_right}
 use Rattle.timecode.specs.Layout.{Run, seconds, minutes, hours, days, tenths, hundredths_digit, has_seconds, straight_seconds, years, time_fields, in_run, bit_of, place_of, is_mark, filler, symbol_at, tabulate, encode, value, Small}
 use Rattle.timecode.specs.declared.Format.{Format}
 use Rattle.layout.specs.Letters.{same-starts}

@@ -3,8 +3,9 @@ use Rattle.std.specs.Prelude.{◌≡◌, refl, Bool, true, false, cond, ◌&&◌
 use Rattle.std.proofs.Common.{ap, ap₂, ◌∙◌, zero-add, arith, leb-true, le-leb, lt-ltb, pow_mono}
 use Rattle.std.proofs.Math.ListN.{get_or-map}
 use Rattle.timecode.specs.Formats.{A, B, E, G, H, is_x, member, known, size, carries_control, carries_year, control_places}
-use Rattle.timecode.specs.Laws.Runs.{covered-inside, covered-at, get_d_tabulate}
-use Rattle.timecode.specs.Laws.Tests.{by-test, and_left, and_right, every_below, below-every}
+use Rattle.timecode.proofs.Laws.Runs.{covered-inside, covered-at, get_d_tabulate}
+use Rattle.timecode.specs.Laws.Tests.{every_below}
+use Rattle.timecode.proofs.Laws.Tests.{by-test, and_left, and_right, below-every}
 use Rattle.timecode.specs.Layout.{Run, seconds, minutes, hours, days, tenths, hundredths_digit, has_seconds, straight_seconds, years, time_fields, in_run, filler, tabulate, value, Small, decode}
 use Rattle.timecode.specs.declared.Format.{Format}
 use Rattle.layout.specs.Letters.{same-starts}

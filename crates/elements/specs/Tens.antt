@@ -6,8 +6,9 @@ use mathlib.Core.List.{List, [], ◌∷◌}
 use native.Mathlib.Omega.{arith}
 use borrow.Author.Tests.{ltb-true, ltb-false, leb-true, leb-false, eqb-true, eqb-false, lt-ltb, le-ltb, le-leb, lt-leb, eq-eqb, ne_eqb}
 use Rattle.std.proofs.Math.ListN.{length, set}
-use Rattle.timecode.specs.Laws.Runs.{length-tabulate, get_d_tabulate, tabulate-same, tabulate-self}
-use Rattle.timecode.specs.Laws.Tests.{by-test, every_below, below-every}
+use Rattle.timecode.proofs.Laws.Runs.{length-tabulate, get_d_tabulate, tabulate-same, tabulate-self}
+use Rattle.timecode.specs.Laws.Tests.{every_below}
+use Rattle.timecode.proofs.Laws.Tests.{by-test, below-every}
 use Rattle.timecode.specs.Layout.{is_mark, tabulate}
 use Rattle.layout.specs.Tables.{mark_places}
 use Rattle.elements.specs.RunBits.{element_at, low_bit}

@@ -1,6 +1,7 @@
 // Digits at their runs as the elements of a frame, and back: the layout's own writing and reading, without a time.
 // The calls here are the frame's own; they are lent a row's places and marks and ask for frames of 60 or 100.
 #![tactic(auto)]
+
 ghost use Rattle.std.specs.Prelude.{◌≡◌, ℕ, ◌+◌, ◌*◌, ◌-◌, ◌/◌, ◌%◌, ◌^◌, ◌≤◌, ◌<◌, get_or, length};
 ghost use Rattle.timecode.specs.Layout.{value};
 ghost use Rattle.layout.specs.Tables.{run_starts, full_widths, run_widths, mark_places};

@@ -1,6 +1,7 @@
 // The answers as C's structs, by value: the number of the refusal or 0 first, with Read's, the converters' and decoding's the index, then the values.
 // A field for which an answer has no value is 0. Which struct belongs to which answer, and that it has the answer's number and values, stands in specs/.
 #![tactic(auto)]
+
 ghost use Rattle.std.specs.Prelude.{◌≡◌};
 ghost use Rattle.timecode.specs.Frames.{no_time};
 ghost use Rattle.ffi.specs.Structs.{refusal_index, write_result_of, convert_result_of, read_result_of, step_result_of, difference_result_of, classify_result_of, scan_result_of, feed_result_of, with_deviation, forecast_result_of};

@@ -3,9 +3,9 @@ use Rattle.std.specs.Prelude.{◌≡◌, refl, true, cond, List, [], ◌∷◌, 
 use Rattle.std.proofs.Common.{arith, ltb-true, ltb-false}
 use Rattle.timecode.specs.Formats.{A, B, D, E, G, H, X, table, look_up, row_of, known, size, interval, carries_control, carries_year, control_places, day_length, last_day, last_hundredth, in_range}
 use Rattle.timecode.specs.Frames.{total_width, written, control_fits}
-use Rattle.timecode.specs.Laws.Tests.{by-test}
-use Rattle.timecode.specs.Laws.Times.{none-added, one-added}
-use Rattle.timecode.specs.Laws.Writing.{length-written}
+use Rattle.timecode.proofs.Laws.Tests.{by-test}
+use Rattle.timecode.proofs.Laws.Times.{none-added, one-added}
+use Rattle.timecode.proofs.Laws.Writing.{length-written}
 use Rattle.timecode.specs.Layout.{control, hour, minute, second, day_carried, time_numbers}
 use Rattle.timecode.specs.declared.Format.{Format}
 use Rattle.timecode.specs.declared.Time.{Time}

@@ -3,7 +3,7 @@ use Rattle.std.specs.Prelude.{◌≡◌, refl, true, cond, ◌&&◌, List, ℕ, 
 use Rattle.std.proofs.Common.{sym, ap, ◌∙◌, arith, leb-true}
 use Rattle.timecode.specs.Formats.{last_day, last_hundredth, in_range}
 use Rattle.timecode.specs.Frames.{total_width}
-use Rattle.timecode.specs.Laws.Tests.{and_right}
+use Rattle.timecode.proofs.Laws.Tests.{and_right}
 use Rattle.timecode.specs.Layout.{seconds, minutes, hours, days, tenths, hundredths_digit, straight_seconds, control, years, time_fields}
 use Rattle.timecode.specs.declared.Format.{Format}
 use Rattle.timecode.specs.declared.Time.{Time}

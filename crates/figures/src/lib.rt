@@ -1,6 +1,7 @@
 // What a caller asks before it lends memory or prints: a format's elements, interval and number of control bits, and hour, minute, second and hundredth of a time.
 // Both answers are C's structs, by value: the number of the refusal or 0 first; where it is not 0, every other field is 0.
 #![tactic(auto)]
+
 ghost use Rattle.std.specs.Prelude.{◌≡◌, cond, ◌≤◌, ◌<◌};
 ghost use Rattle.layout.specs.Tables.{is_carried};
 ghost use Rattle.timecode.specs.Formats.{last_day, last_hundredth, in_range};

@@ -1,5 +1,6 @@
 // A float's bits and the float of bits, for programs that read and print them: every pattern of no number is one.
 #![tactic(auto)]
+
 ghost use Rattle.std.specs.Prelude.{◌≡◌};
 ghost use Rattle.std.specs.Float.{binary64};
 ghost use Rattle.std.specs.Float.Ieee.{of_bits};

@@ -7,7 +7,7 @@ use Rattle.std.specs.Float.Ieee.{up, down, unlike, add, sub, mul, div, neg, eq, 
 use Rattle.std.specs.Float.Ieee.Exact.{HasValue}
 use Rattle.std.specs.Float.Ieee.Fits.{up_pos, down_pos, div-fits}
 use Rattle.std.specs.Float.Ieee.Scale.{round_same}
-use Rattle.timecode.specs.Laws.Tests.{by-test, clash, and_left, and_right}
+use Rattle.timecode.proofs.Laws.Tests.{by-test, clash, and_left, and_right}
 use Rattle.forecasts.specs.declared.Forecast.TheVariants.{Expected}
 use Rattle.forecasts.specs.declared.Oscillator.{Oscillator}
 use Rattle.forecasts.specs.Exact.{seconds-exact, square-exact}

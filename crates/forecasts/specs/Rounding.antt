@@ -13,7 +13,7 @@ use Rattle.std.specs.Float.Ieee.Fits.{up_pos, down_pos, and_l, and_r, reach, rou
 use Rattle.std.specs.Float.Ieee.Nearest.{div_same}
 use Rattle.std.specs.Float.Ieee.Order.{round_mono}
 use Rattle.std.specs.Float.Ieee.Scale.{round_same}
-use Rattle.timecode.specs.Laws.Tests.{by-test}
+use Rattle.timecode.proofs.Laws.Tests.{by-test}
 use Rattle.forecasts.specs.Forecasting.{is_finite, one}
 
 -- ---- a value that the format holds

@@ -1,6 +1,7 @@
 // What the hold-over forecast takes and answers: types only, no function. An oscillator is C's struct too.
 // Document 02's formula as a definition, and the theorems over it, stand in specs/.
 #![tactic(auto)]
+
 use timecode::Refusal;
 
 // An oscillator's four figures: its starting error E0 in seconds, its own frequency f0, the reference fr and its ageing a for each second.

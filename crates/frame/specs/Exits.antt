@@ -6,9 +6,9 @@ use Rattle.std.proofs.Math.Bool.{true, cond}
 use borrow.Author.Tests.{eq-eqb, leb-true, ltb-true, ltb-false}
 use Rattle.timecode.specs.Formats.{is_x, known, size, interval, day_length, last_day, days_in, last_day_in, in_range, on_format, carries_leap, carries_year, second_carried}
 use Rattle.timecode.specs.Frames.{are_symbols, read_of}
-use Rattle.timecode.specs.Laws.Runs.{Clean, clean-bits, small-decoded, small-length}
-use Rattle.timecode.specs.Laws.Table.{interval-range, two-sizes}
-use Rattle.timecode.specs.Laws.Tests.{by-test, and_left, and_right}
+use Rattle.timecode.proofs.Laws.Runs.{Clean, clean-bits, small-decoded, small-length}
+use Rattle.timecode.proofs.Laws.Table.{interval-range, two-sizes}
+use Rattle.timecode.proofs.Laws.Tests.{by-test, and_left, and_right}
 use Rattle.timecode.specs.Layout.{is_mark, filler, tabulate, decode}
 use Rattle.timecode.specs.declared.Format.{Format}
 use Rattle.timecode.specs.declared.Refusal.TheVariants.{UnknownSymbol}

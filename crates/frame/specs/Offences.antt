@@ -9,9 +9,9 @@ use borrow.Author.Tests.{eqb-true, eqb-false, eq-eqb, ne_eqb, ltb-true, ltb-fals
 use Rattle.std.proofs.Math.Seq.{drop-cons}
 use Rattle.timecode.specs.Formats.{is_x, known, size}
 use Rattle.timecode.specs.Frames.{are_symbols, covered, marks_agree, element_fits, check_elements}
-use Rattle.timecode.specs.Laws.Runs.{get_d_tabulate, length-tabulate, Clean, fits-agree, clean-bits, encode-decode, covered-inside, small-decoded}
-use Rattle.timecode.specs.Laws.Table.{size-range}
-use Rattle.timecode.specs.Laws.Tests.{by-test, clash}
+use Rattle.timecode.proofs.Laws.Runs.{get_d_tabulate, length-tabulate, Clean, fits-agree, clean-bits, encode-decode, covered-inside, small-decoded}
+use Rattle.timecode.proofs.Laws.Table.{size-range}
+use Rattle.timecode.proofs.Laws.Tests.{by-test, clash}
 use Rattle.timecode.specs.Layout.{is_mark, filler, runs, tabulate, decode}
 use Rattle.timecode.specs.declared.Format.{Format}
 use Rattle.timecode.specs.declared.Reading.{Reading}

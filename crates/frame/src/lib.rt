@@ -2,6 +2,7 @@
 // A call looks up the format's row once. Letter X's elements are those of `tape`. Write splits the time into digits once; the elements come from the digits alone. Read
 // writes the digits that it finds again and compares: the lowest index where the two differ is the lowest that offends.
 #![tactic(auto)]
+
 ghost use Rattle.std.specs.Prelude.{◌≡◌, true, false, cond, ◌&&◌, List, ℕ, ◌≤◌, ◌<◌, eqb, ltb, get_or, length};
 ghost use Rattle.timecode.specs.Formats.{is_x, known, size};
 ghost use Rattle.timecode.specs.Frames.{written, write_of, write_leaves, are_symbols, read_of, Valid};

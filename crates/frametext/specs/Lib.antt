@@ -1,3 +1,2 @@
 -- Characters is what the contracts say; Putting its laws.
 pub mod Characters
-pub mod Putting

@@ -1,5 +1,6 @@
 // A frame as a line of text in the characters that timeread reads, and the first line of a recording.
 #![tactic(auto)]
+
 ghost use Rattle.std.specs.Prelude.{◌≡◌, ◌++◌, ◌+◌, ◌≤◌, length, take};
 ghost use Rattle.timecode.specs.Formats.{size};
 ghost use Rattle.timecode.specs.Frames.{written};

@@ -1,17 +1,11 @@
 -- The loop that puts the frames' lines, one frame more at each turn; and the answers of its parts.
-use Rattle.std.specs.Prelude.{◌≡◌, refl, List, [], ◌++◌, ℕ, suc, ◌+◌, ◌-◌, ◌<◌, ◌≤◌, length, take}
-use Rattle.std.proofs.Common.{sym, ap, ◌∙◌, arith, length-take-le}
-use Rattle.std.proofs.Math.Decide.{ℕ_discrete}
-use Rattle.timecode.specs.Frames.{step_of}
+use Rattle.std.specs.Prelude.{◌≡◌, List, ℕ, ◌-◌, take}
 use Rattle.timecode.specs.declared.Format.{Format}
-use Rattle.timecode.specs.declared.Refusal.{Refusal}
-use Rattle.timecode.specs.declared.Time.{Time}
 use Rattle.timecode.specs.declared.Written.{Written}
 use Rattle.timecode.specs.declared.Written.TheVariants.{Done}
-use Rattle.frametext.specs.Characters.{frame_line, write_answer, lined, lined_of}
 use Rattle.frametext.specs.declared.Lined.{Lined}
 use Rattle.frametext.specs.declared.Lined.TheVariants.{Line}
-use Rattle.generator.specs.Sending.{begun, begun_of, next_start, start_of, frame_line_for, lines_of}
+use Rattle.generator.specs.Sending.{start_of, lines_of}
 use Rattle.generator.specs.declared.Start.{Start}
 
 -- ---- frame_line's answer is Write's
@@ -20,77 +14,7 @@ abbrev pub stepped_answer : Lined → Written
 stepped_answer (Line k) = Done
 stepped_answer (Lined.Refused x) = Written.Refused x
 
-lined-back : (a : Written) (k : ℕ) → a ≡ stepped_answer (lined a k)
-lined-back Done k = refl
-lined-back (Written.Refused x) k = refl
-
-pub taken_is : (f : Format) (t : Time) (w : ℕ) (a : Lined) → a ≡ lined_of f t w → write_answer f t w ≡ stepped_answer a
-unfolding lined_of
-taken_is f t w a h = lined-back (write_answer f t w) (length (frame_line f t w)) ∙ ap stepped_answer (sym h)
-
-pub line-put : (f : Format) (t : Time) (w : ℕ) → write_answer f t w ≡ Done → frame_line f t w ≡ frame_line_for f t w
-unfolding frame_line_for
-line-put f t w d = rw d
-
-pub line-none : (f : Format) (t : Time) (w : ℕ) (x : Refusal) → write_answer f t w ≡ Written.Refused x → [] ≡ frame_line_for f t w
-unfolding frame_line_for
-line-none f t w x r = rw r
-
--- the part of the line that is put
-pub part_length : (k : ℕ) (line : List ℕ) → k ≤ 256 → length line ≡ 256 → length (take k line) ≡ k
-part_length k line h n = length-take-le k line (omega arith)
-
--- ---- the checks
-
-pub begun-step : (f : Format) (s : Start) (w given : ℕ) → write_answer f s.time w ≡ Done → begun Done (step_of f s.time given s.kind) ≡ begun_of f s w given
-unfolding begun_of
-begun-step f s w given d = rw d
-
-pub begun-refused : (f : Format) (s : Start) (w given : ℕ) (x : Refusal) → write_answer f s.time w ≡ Written.Refused x → Written.Refused x ≡ begun_of f s w given
-unfolding begun_of
-begun-refused f s w given x r = rw r
-
--- ---- the loop
-
 -- all but the frames left are put, and the next one is due
 pub record PutSoFar (f : Format) (s : Start) (w given frames left : ℕ) (now : Start) (filled : ℕ) (out : List ℕ) : Type 0 where
   pub reached : now ≡ start_of f s given (frames - left)
   pub put : take filled out ≡ lines_of f s w given (frames - left)
-
-none-put : (frames : ℕ) → 0 ≡ frames - frames
-none-put frames = omega arith
-
-pub starts_first : (f : Format) (s : Start) (given frames : ℕ) → s ≡ start_of f s given (frames - frames)
-unfolding start_of
-starts_first f s given frames = ap (start_of f s given) (none-put frames)
-
-pub put-start : (f : Format) (s : Start) (w given frames : ℕ) (out : List ℕ) → PutSoFar f s w given frames frames s 0 out
-unfolding lines_of
-put-start f s w given frames out = record { reached = starts_first f s given frames; put = ap (lines_of f s w given) (none-put frames) }
-
-one_more : (frames left : ℕ) → 0 < left → left ≤ frames → frames - (left - 1) ≡ suc (frames - left)
-one_more frames left a b = omega arith
-
-next_start_lem : (f : Format) (s : Start) (given k : ℕ) → start_of f s given (suc k) ≡ next_start f (start_of f s given k) given
-unfolding start_of
-next_start_lem f s given k = refl
-
-next-line : (f : Format) (s : Start) (w given k : ℕ) → lines_of f s w given (suc k) ≡ lines_of f s w given k ++ frame_line_for f (start_of f s given k).time w
-unfolding lines_of
-next-line f s w given k = refl
-
-pub put-turn : (f : Format) (s : Start) (w given frames left : ℕ) (now now' : Start) (filled filled' : ℕ) (out out' : List ℕ) → 0 < left → left ≤ frames → PutSoFar f s w given frames left now filled out
-    → take filled' out' ≡ take filled out ++ frame_line_for f now.time w → now' ≡ next_start f now given → PutSoFar f s w given frames (left - 1) now' filled' out'
-put-turn f s w given frames left now now' filled filled' out out' a b h p q =
-    record {
-      reached = q ∙ rw (one_more frames left a b, next_start_lem f s given (frames - left), h.reached);
-      put = p ∙ rw (one_more frames left a b, next-line f s w given (frames - left), h.put, h.reached);
-    }
-
--- where something stands, some frame was put
-pub some-put : (frames left filled most : ℕ) → left ≤ frames → (left ≡ frames → filled ≡ 0) → most < filled → left < frames
-some-put frames left filled most b h m = go (ℕ_discrete left frames)
-  where
-    go : Dec (left ≡ frames) → left < frames
-    go (yes e) = let n : ⊥ = omega (arith, h e) in absurd n
-    go (no n) = omega (arith, n)

@@ -1,6 +1,7 @@
 // The lines of a generator's frames, as many at a time as lent memory has room for.
 // The day on which it starts has any kind that Step takes; every later day is usual.
 #![tactic(auto)]
+
 ghost use Rattle.std.specs.Prelude.{◌≡◌, ◌++◌, ◌+◌, ◌≤◌, take};
 ghost use Rattle.timecode.specs.declared.Written.TheVariants.{Done};
 ghost use Rattle.generator.specs.Sending.{begun, begun_of, kind_after, next_start, frame_line_for, Generates};

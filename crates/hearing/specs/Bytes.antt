@@ -2,7 +2,7 @@
 use Rattle.std.specs.Prelude.{◌≡◌, List, ◌++◌, ℕ}
 use Rattle.std.proofs.Common.{ap, ◌∙◌}
 use Rattle.characters.specs.ByteSymbols.{feeds_of}
-use Rattle.characters.specs.Decoding.{feeds-append}
+use Rattle.characters.proofs.Decoding.{feeds-append}
 use Rattle.progress.specs.Progress.{after_feeds, text_feeds}
 use Rattle.progress.specs.Steps.{after-append, text-append}
 use Rattle.progress.specs.declared.Progress.{Progress}

@@ -8,7 +8,7 @@ use Prim.Native.Nat.{ℕ, zero, suc, ◌+◌, ◌-◌, ◌<◌, ◌≤◌}
 use Rattle.std.proofs.Math.ListN.{get_or, take, get_or-map}
 use Rattle.std.proofs.Math.Seq.{take-suc, take-length}
 use Rattle.timecode.specs.Frames.{no_time}
-use Rattle.timecode.specs.Laws.Tests.{by-test, and_left, and_right}
+use Rattle.timecode.proofs.Laws.Tests.{by-test, and_left, and_right}
 use Rattle.timecode.specs.Stream.{is_setting}
 use Rattle.timecode.specs.declared.Answer.{Answer}
 use Rattle.timecode.specs.declared.Answer.TheVariants.{Quiet, Report}
@@ -16,9 +16,9 @@ use Rattle.lines.specs.Text.{report_line}
 use Rattle.stream.specs.Feeding.{is_valid, next_of, answer_of, feed_of}
 use Rattle.stream.specs.Refinement.{answers, reader_after}
 use Rattle.stream.specs.declared.Reader.{Reader}
-use Rattle.stream.specs.FeedLists.{length-feed-answers}
+use Rattle.stream.proofs.FeedLists.{length-feed-answers}
 use Rattle.block.specs.Blocks.{Reported, report_at, Block, stopped, with_first, block_in, block_of, Lists, room_in, are_records, field_left, index_of, year_of, day_of, hundredths_of, control_of, lists_left, block_for, block_answer, feed_block_of}
-use Rattle.block.specs.Folds.{block-takes, left-first}
+use Rattle.block.proofs.Folds.{block-takes, left-first}
 use Rattle.block.specs.declared.BlockAnswer.{BlockAnswer}
 use Rattle.block.specs.declared.FedBlock.{FedBlock}
 use Rattle.block.specs.declared.Stop.{Stop}

@@ -1,5 +1,6 @@
 // Some bytes of a recording heard at once: the progress after them, and their lines.
 #![tactic(auto)]
+
 ghost use Rattle.std.specs.Prelude.{◌≡◌, false, ◌++◌, ◌+◌, ◌*◌, ◌≤◌, length, take};
 ghost use Rattle.block.specs.Blocks.{lists};
 ghost use Rattle.progress.specs.Progress.{after_feeds, text_feeds};

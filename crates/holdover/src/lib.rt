@@ -1,5 +1,6 @@
 // Document 02's hold-over forecast: the error that a recorder's clock is expected to have some whole seconds after the code is cut.
 #![tactic(auto)]
+
 ghost use Rattle.std.specs.Prelude.{◌≡◌};
 ghost use Rattle.forecasts.specs.Forecasting.{is_finite, figures_finite, forecastable, expected_error, forecast_of};
 

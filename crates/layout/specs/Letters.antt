@@ -5,7 +5,7 @@ use Rattle.std.proofs.Common.{sym, subst, ◌∙◌, arith}
 use borrow.Author.Tests.{eqb-true, eqb-false, ne_eqb, leb-true, leb-false, le-leb, lt-leb}
 use Rattle.std.specs.Int.Bits.{bit_and}
 use Rattle.timecode.specs.Formats.{member, known, carries_leap, carries_year, A, B, D, E, G, H, X, is_x, table, no_row, look_up, row_of, carries_control, carries_seconds, control_places}
-use Rattle.timecode.specs.Laws.Tests.{by-test, clash, and_left, and_right, or-second}
+use Rattle.timecode.proofs.Laws.Tests.{by-test, clash, and_left, and_right, or-second}
 use Rattle.timecode.specs.Layout.{tabulate, seconds, minutes, hours, days, tenths, hundredths_digit, has_seconds, straight_seconds, years, time_fields}
 use Rattle.timecode.specs.declared.Format.{Format}
 use Rattle.layout.specs.Runs.{code_range, code_control, code_fields, code_runs}

@@ -4,13 +4,16 @@ use Rattle.std.specs.Prelude.{◌≡◌, refl, Bool, true, false, cond, ◌&&◌
 use Rattle.std.proofs.Common.{sym, ap, ◌∙◌, div-one, one-mul, zero-add, arith, eqb-true}
 use Rattle.timecode.specs.Formats.{member, is_x, table, look_up, row_of, known, size, carries_control, carries_seconds, carries_year, control_places}
 use Rattle.timecode.specs.Frames.{Valid, total_width, written, covered, marks_agree, element_fits, check_elements}
-use Rattle.timecode.specs.Laws.Fields.{Binary, binary-small}
-use Rattle.timecode.specs.Laws.Reading.{straight-binary, control-binary}
-use Rattle.timecode.specs.Laws.Runs.{in-run, proper, clear, small-append}
-use Rattle.timecode.specs.Laws.Table.{in_lines, every_format, of-every}
-use Rattle.timecode.specs.Laws.Tests.{by-test}
-use Rattle.timecode.specs.Laws.Times.{time-small}
-use Rattle.timecode.specs.Laws.Writing.{years-small}
+use Rattle.timecode.specs.Laws.Fields.{Binary}
+use Rattle.timecode.proofs.Laws.Fields.{binary-small}
+use Rattle.timecode.proofs.Laws.Reading.{straight-binary, control-binary}
+use Rattle.timecode.specs.Laws.Runs.{proper, clear}
+use Rattle.timecode.proofs.Laws.Runs.{in-run, small-append}
+use Rattle.timecode.specs.Laws.Table.{every_format}
+use Rattle.timecode.proofs.Laws.Table.{in_lines, of-every}
+use Rattle.timecode.proofs.Laws.Tests.{by-test}
+use Rattle.timecode.proofs.Laws.Times.{time-small}
+use Rattle.timecode.proofs.Laws.Writing.{years-small}
 use Rattle.timecode.specs.Layout.{
   Run,
   Field,

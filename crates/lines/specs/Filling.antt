@@ -5,8 +5,8 @@ use Rattle.std.proofs.Math.Nat.{pow-zero, div-div-eq-div-mul}
 use Rattle.std.proofs.Math.Decide.{ℕ_discrete}
 use Rattle.std.proofs.Math.ListN.{get_or-append}
 use Rattle.std.proofs.Math.Seq.{take-length}
-use Rattle.timecode.specs.Laws.Runs.{length-tabulate, get_d_tabulate}
-use Rattle.timecode.specs.Laws.Tests.{by-test}
+use Rattle.timecode.proofs.Laws.Runs.{length-tabulate, get_d_tabulate}
+use Rattle.timecode.proofs.Laws.Tests.{by-test}
 use Rattle.timecode.specs.Layout.{tabulate}
 use Rattle.lines.specs.Text.{glyph, digit_at, digits_of, places_in, digit_count, together}
 

@@ -3,7 +3,7 @@ use Rattle.std.specs.Prelude.{◌≡◌, refl, Bool, true, false, cond, ◌&&◌
 use Rattle.std.proofs.Common.{sym, ap, ap₂, ◌∙◌, not-suc-le-zero, add-one, arith, leb-true, le-leb, lt-ltb, le-ltb, eqb-true, drop_of_length-le, drop-cons}
 use Rattle.std.proofs.lemmas.Bool.{lt-leb}
 use Rattle.timecode.specs.Formats.{is_symbol}
-use Rattle.timecode.specs.Laws.Tests.{and_left, and_right}
+use Rattle.timecode.proofs.Laws.Tests.{and_left, and_right}
 use Rattle.timecode.specs.Layout.{tabulate}
 use Rattle.timecode.specs.Stream.{is_setting}
 use Rattle.simulation.specs.Lent.{damage_at, damages_between, start_of, listener_at, listeners_of, ends_fit}

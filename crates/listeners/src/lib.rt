@@ -1,5 +1,6 @@
 // The lent lists of a simulation's listeners: whether they are such lists, and whether settings and damages are in order.
 #![tactic(auto)]
+
 ghost use Rattle.std.specs.Prelude.{◌≡◌, true, ◌-◌, ◌≤◌, get_or, length};
 ghost use Rattle.timecode.specs.Formats.{is_symbol};
 ghost use Rattle.timecode.specs.Stream.{is_setting};

@@ -7,13 +7,13 @@ use Prim.Native.Nat.{ℕ, zero, suc, ◌+◌, ◌*◌, ◌-◌, ◌<◌, ◌≤�
 use native.Mathlib.Omega.{arith}
 use Rattle.std.proofs.Math.ListN.{length}
 use Rattle.timecode.specs.Frames.{same_time}
-use Rattle.timecode.specs.Laws.Tests.{by-test}
+use Rattle.timecode.proofs.Laws.Tests.{by-test}
 use Rattle.timecode.specs.declared.Answer.{Answer}
 use Rattle.timecode.specs.declared.Answer.TheVariants.{Quiet, Report}
 use Rattle.timecode.specs.declared.Time.{Time}
 use Rattle.simulation.specs.declared.Counts.{Counts}
 use Rattle.receive_many.specs.ManySymbols.{slice}
-use Rattle.stream.specs.FeedLists.{feed-answers-append, reader-append, length-feed-answers}
+use Rattle.stream.proofs.FeedLists.{feed-answers-append, reader-append, length-feed-answers}
 use Rattle.stream.specs.Feeding.{answer_after}
 use Rattle.stream.specs.Refinement.{answers, reader_after}
 use Rattle.stream.specs.declared.Reader.{Reader}

@@ -10,10 +10,10 @@ use borrow.Author.Tests.{ltb-true, leb-false, lt-ltb, le-ltb, le-leb, lt-leb}
 use Rattle.std.proofs.Math.Dec.{leb}
 use Rattle.std.proofs.Math.ListN.{get_or, get_or-eq_default}
 use Rattle.std.proofs.Math.Seq.{get_or-set_other}
-use Rattle.timecode.specs.Laws.Tests.{by-test, and_left, and_right}
+use Rattle.timecode.proofs.Laws.Tests.{by-test, and_left, and_right}
 use Rattle.timecode.specs.Layout.{tabulate}
 use Rattle.receive_many.specs.ManySymbols.{SymbolsBelow}
-use Rattle.simulation.specs.Damages.{length-damaged}
+use Rattle.simulation.proofs.Damages.{length-damaged}
 use Rattle.simulation.specs.Lent.{damage_at, damages_between}
 use Rattle.simulation.specs.Simulation.{Damage, replace_at, damaged}
 

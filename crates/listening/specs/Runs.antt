@@ -13,21 +13,22 @@ use Rattle.std.proofs.Math.ListN.{length, length-append}
 use Rattle.std.proofs.Math.Seq.{length-take-le}
 use Rattle.timecode.specs.Formats.{known, size}
 use Rattle.timecode.specs.Frames.{same_time, written, Sent, elements, sent_at}
-use Rattle.timecode.specs.Laws.Generators.{length-elements, element-at}
-use Rattle.timecode.specs.Laws.Marks.{size-positive}
-use Rattle.timecode.specs.Laws.Tests.{by-test}
+use Rattle.timecode.proofs.Laws.Generators.{length-elements, element-at}
+use Rattle.timecode.proofs.Laws.Marks.{size-positive}
+use Rattle.timecode.proofs.Laws.Tests.{by-test}
 use Rattle.timecode.specs.Stream.{is_setting}
 use Rattle.timecode.specs.declared.Answer.{Answer}
 use Rattle.timecode.specs.declared.Answer.TheVariants.{Quiet, Report}
 use Rattle.timecode.specs.declared.Format.{Format}
 use Rattle.timecode.specs.declared.Time.{Time}
-use Rattle.simulation.specs.Damages.{length-damaged}
+use Rattle.simulation.proofs.Damages.{length-damaged}
 use Rattle.simulation.specs.Lent.{damages_between}
 use Rattle.simulation.specs.Simulation.{damaged, is_report, first_report, report_count, ends_frame, is_false, false_count, Listener, heard, counts_of}
 use Rattle.simulation.specs.declared.Counts.{Counts}
-use Rattle.stream.specs.FeedLists.{feed-answers-append, reader-append, length-feed-answers, valid-after, setting-after}
+use Rattle.stream.proofs.FeedLists.{feed-answers-append, reader-append, length-feed-answers, valid-after, setting-after}
 use Rattle.stream.specs.Feeding.{fresh_reader, is_valid}
-use Rattle.stream.specs.Refinement.{answers, reader_after, answers-are-plain, fed-is-valid, fed-has-setting}
+use Rattle.stream.specs.Refinement.{answers, reader_after}
+use Rattle.stream.proofs.Refinement.{answers-are-plain, fed-is-valid, fed-has-setting}
 use Rattle.listening.specs.Counted.{with_report, count_answer, count_all}
 use Rattle.listening.specs.FrameDamages.{RisingBetween, heard-part}
 use Rattle.listening.specs.Frames.{HearsFrame}

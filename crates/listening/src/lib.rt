@@ -1,6 +1,7 @@
 // One listener of a simulation: it hears a frame of the generator, damaged or not, and counts its reports.
 // Its reader passes 13 and 26, and all symbols are 0 to 3.
 #![tactic(auto)]
+
 ghost use Rattle.std.specs.Prelude.{◌≡◌, true, cond, ◌&&◌, ◌+◌, ◌-◌, ◌≤◌, ◌<◌, eqb, leb, ltb, get_or, length, take};
 ghost use Rattle.timecode.specs.Frames.{same_time};
 ghost use Rattle.timecode.specs.Stream.{is_setting};

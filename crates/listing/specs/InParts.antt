@@ -5,7 +5,7 @@ use Rattle.std.proofs.Common.{sym, ◌∙◌, append_assoc, append-nil, arith, l
 use Rattle.std.proofs.Math.ListN.{length-drop}
 use Rattle.timecode.specs.Answers.{refusal_number}
 use Rattle.timecode.specs.Formats.{known}
-use Rattle.timecode.specs.Laws.Tests.{and_right}
+use Rattle.timecode.proofs.Laws.Tests.{and_right}
 use Rattle.timecode.specs.Stream.{is_setting, two_frames}
 use Rattle.timecode.specs.declared.Answer.{Answer}
 use Rattle.timecode.specs.declared.Answer.TheVariants.{Quiet, Report}
@@ -13,10 +13,11 @@ use Rattle.timecode.specs.declared.Refusal.{Refusal}
 use Rattle.timecode.specs.declared.Time.{Time}
 use Rattle.lines.specs.Text.{report_line, refused_line, together}
 use Rattle.stream.specs.Feeding.{next_of, answer_of, feed_of, fresh_reader}
-use Rattle.stream.specs.Refinement.{answers, answers-are-plain}
+use Rattle.stream.specs.Refinement.{answers}
+use Rattle.stream.proofs.Refinement.{answers-are-plain}
 use Rattle.stream.specs.declared.Reader.{Reader}
 use Rattle.characters.specs.ByteSymbols.{feeds_of}
-use Rattle.characters.specs.Decoding.{feeds-few}
+use Rattle.characters.proofs.Decoding.{feeds-few}
 use Rattle.progress.specs.Progress.{running_at, one_more, answered, answer_line, after_feed, feed_line, after_feeds, text_feeds}
 use Rattle.progress.specs.Steps.{step-fed, ended-stays, ended-no-text}
 use Rattle.hearing.specs.Bytes.{after_of, text_of, after-parts, text-parts}

@@ -1,5 +1,6 @@
 // timeread's work: a recording in characters becomes the list of Feeds that it is, and its reports lines.
 #![tactic(auto)]
+
 ghost use Rattle.std.specs.Prelude.{◌≡◌, ◌+◌, ◌≤◌, ◌<◌, length, take};
 ghost use Rattle.lines.specs.Text.{counts_line};
 ghost use Rattle.progress.specs.Progress.{running_at};

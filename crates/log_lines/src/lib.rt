@@ -1,5 +1,6 @@
 // The lines of timelog: a report as timeread prints it, with the year where timeread has the number of the element; and the report of such a line.
 #![tactic(auto)]
+
 ghost use Rattle.std.specs.Prelude.{◌≡◌, ◌≤◌, length, take};
 ghost use Rattle.lines.specs.Text.{report_line};
 ghost use Rattle.report_log.specs.Log.{no_report};

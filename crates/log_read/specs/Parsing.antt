@@ -7,11 +7,11 @@ use Rattle.timecode.specs.declared.Written.TheVariants.{Done}
 use Rattle.timecode.specs.declared.Refusal.{Refusal}
 use Rattle.timecode.specs.declared.Refusal.TheVariants.{StartPastEnd, RecordCutShort, InvalidRecord}
 use Rattle.report_log.specs.declared.Report.{Report}
-use Rattle.report_log.specs.Checks.{report-passes, report-refused}
+use Rattle.report_log.proofs.Checks.{report-passes, report-refused}
 use Rattle.report_log.specs.Log.{number_in, fields_of, map_of, stands, size_of, read_fields, report_in, all_differ, check_report, fields_after, read_record, read_log}
-use Rattle.report_log.specs.Logs.{none-exactly-at-end, inside-read}
+use Rattle.report_log.proofs.Logs.{none-exactly-at-end, inside-read}
 use Rattle.report_log.specs.Numbers.{Bytes}
-use Rattle.report_log.specs.Records.{proper-map}
+use Rattle.report_log.proofs.Records.{proper-map}
 use Rattle.report_log.specs.declared.LogReading.{LogReading}
 use Rattle.report_log.specs.declared.LogReading.TheVariants.{Record}
 

@@ -1,5 +1,6 @@
 // Reading a record of a log.
 #![tactic(auto)]
+
 ghost use Rattle.std.specs.Prelude.{◌≡◌, cond, ℕ, ◌+◌, ◌^◌, ◌≤◌, ◌<◌, get_or, length, take, drop};
 ghost use Rattle.report_log.specs.Log.{number_in, stands, size_of, read_fields, report_in, fields_after, read_record, read_log};
 

@@ -1,5 +1,6 @@
 // What writing and reading a record share: its map, its size by the map, and the ranges of a report.
 #![tactic(auto)]
+
 ghost use Rattle.std.specs.Prelude.{◌≡◌, cond, not, ◌+◌, ◌≤◌, eqb};
 ghost use Rattle.timecode.specs.Formats.{last_day, in_range};
 ghost use Rattle.timecode.specs.declared.Written.TheVariants.{Done, Refused};

@@ -2,14 +2,15 @@
 use Rattle.std.specs.Prelude.{◌≡◌, refl, ◌&&◌, List, [], ◌∷◌, ℕ, ◌+◌, leb, ltb, eqb, pos, get_or, length, drop}
 use Rattle.timecode.specs.Answers.{time_values}
 use Rattle.timecode.specs.Formats.{last_day, last_year, in_range}
-use Rattle.timecode.specs.Laws.Tests.{by-test}
+use Rattle.timecode.proofs.Laws.Tests.{by-test}
 use Rattle.report_log.specs.Log.{record_of, size_of, read_fields, report_in, all_differ, fields_after, is_control, read_record, read_log, fit_of, write_log, log_written_result, log_reading_result}
 use Rattle.report_log.specs.declared.LogReading.{LogReading}
 use Rattle.report_log.specs.declared.LogReading.TheVariants.{Record}
 use Rattle.report_log.specs.declared.LogWritten.{LogWritten}
 use Rattle.report_log.specs.declared.LogWritten.TheVariants.{Next, LeftOut}
 use Rattle.report_log.specs.declared.Report.{Report}
-use Rattle.ffi.specs.Fields.{flag_in, values_in, time_zeros, refusal-numbered}
+use Rattle.ffi.specs.Fields.{flag_in, values_in, time_zeros}
+use Rattle.ffi.proofs.Fields.{refusal-numbered}
 use Rattle.ffi.specs.Indexes.{refused_values}
 use Rattle.log_results.specs.LogStructs.{log_write_result_of, log_read_result_of}
 

@@ -1,6 +1,7 @@
 // The answers of the report log as C's structs, by value: the number of the refusal or 0 first, then the values.
 // A field for which an answer has no value is 0. That each struct has its answer's number and values stands in specs/.
 #![tactic(auto)]
+
 ghost use Rattle.std.specs.Prelude.{◌≡◌};
 ghost use Rattle.log_results.specs.LogStructs.{log_write_result_of, log_read_result_of};
 

@@ -10,10 +10,10 @@ use Rattle.timecode.specs.declared.Written.TheVariants.{Done}
 use Rattle.timecode.specs.declared.Refusal.{Refusal}
 use Rattle.timecode.specs.declared.Refusal.TheVariants.{StartPastEnd}
 use Rattle.report_log.specs.declared.Report.{Report}
-use Rattle.report_log.specs.Checks.{report-passes, report-refused}
+use Rattle.report_log.proofs.Checks.{report-passes, report-refused}
 use Rattle.report_log.specs.Log.{bytes_of, fields_of, map_of, changed_of, record_of, size_of, fields_after, check_report, fit_of, write_log, put_at, put_by, log_left}
-use Rattle.report_log.specs.Numbers.{length-bytes}
-use Rattle.report_log.specs.Records.{record-size-is}
+use Rattle.report_log.proofs.Numbers.{length-bytes}
+use Rattle.report_log.proofs.Records.{record-size-is}
 use Rattle.report_log.specs.declared.LogWritten.{LogWritten}
 use Rattle.report_log.specs.declared.LogWritten.TheVariants.{Next, LeftOut}
 

@@ -1,5 +1,6 @@
 // Writing a record into a lent log.
 #![tactic(auto)]
+
 ghost use Rattle.std.specs.Prelude.{◌≡◌, ◌+◌, ◌≤◌, length};
 ghost use Rattle.std.proofs.lemmas.List.Edits.{sets};
 ghost use Rattle.report_log.specs.Log.{bytes_of, record_of, fit_of, write_log, log_left};

@@ -2,5 +2,4 @@
 pub mod LostElement
 pub mod FrameEnds
 pub mod Windows
-pub mod Streams
 pub mod Rows

@@ -1,9 +1,9 @@
 -- Worked windows of four frames from 00:00:00 on with one element lost or put in: each place that AfterLoss and AfterPutIn name does occur, and the places beside it do not.
-use Rattle.std.specs.Prelude.{◌≡◌, refl, List, [], ◌∷◌, map, ℕ, ◌*◌, take, drop}
-use Rattle.timecode.specs.Formats.{H, X, is_x, table, look_up, row_of, known, size, interval, carries_control, carries_seconds, carries_year, control_places, days_in, year_carried, last_day_in, in_range, on_format, carries_leap, second_carried}
-use Rattle.timecode.specs.Frames.{length_in, in_year, day_after, turn_day, year_after, year_of_day_after, day_length_of, day_end, on_day, following, step_of, next_after, written, marks_agree, element_fits, check_elements, last_second, day_in, is_time, time_in, seconds_agree, read_of, Sent, elements}
-use Rattle.timecode.specs.Layout.{day_carried, seconds, minutes, hours, days, tenths, hundredths_digit, has_seconds, straight_seconds, control, years, time_fields, fields, runs, time_numbers, numbers, is_mark, filler, symbol_at, encode, value}
-use Rattle.timecode.specs.Stream.{lead, opens, window_length, frame_in, next_in_row, in_row, window_answer, last_of, plain_answer}
+use Rattle.std.specs.Prelude.{List, [], ◌∷◌, ℕ, ◌*◌, take, drop}
+use Rattle.timecode.specs.Formats.{H, X, interval}
+use Rattle.timecode.specs.Frames.{Sent, elements}
+use Rattle.timecode.specs.Layout.{control}
+use Rattle.timecode.specs.Stream.{plain_answer}
 use Rattle.timecode.specs.declared.Answer.{Answer}
 use Rattle.timecode.specs.declared.Answer.TheVariants.{Quiet, Report}
 use Rattle.timecode.specs.declared.Format.{Format}
@@ -24,7 +24,7 @@ abbrev consecutive : Format → ℕ → ℕ → List ℕ
 consecutive f start n = take n (drop start (elements f (frame_at 0 ∷ frame_at (interval f) ∷ frame_at (2 * interval f) ∷ frame_at (3 * interval f) ∷ [])))
 
 -- c of the time reported; 1, which is no frame's, where none is
-abbrev hundredths_of : Answer → ℕ
+abbrev pub hundredths_of : Answer → ℕ
 hundredths_of (Report t w) = t.hundredths
 hundredths_of Quiet = 1
 hundredths_of (Answer.Refused r) = 1
@@ -50,7 +50,3 @@ windows =
     ∷ plain_answer h1 2 (put_in 0 2 (consecutive h1 60 120))
     ∷ plain_answer h1 2 (put_in 120 2 (consecutive h1 59 120))
     ∷ []
-
-pub all-windows : map hundredths_of windows ≡ 200 ∷ 100 ∷ 1 ∷ 100 ∷ 100 ∷ 100 ∷ 1 ∷ 1 ∷ 300 ∷ 200 ∷ 12000 ∷ 1 ∷ 12000 ∷ 12000 ∷ []
-unfolding windows plain_answer window_answer window_length in_row next_in_row opens frame_in last_of lead elements next_after step_of length_in in_year day_after turn_day year_after year_of_day_after day_length_of day_end on_day following written marks_agree element_fits check_elements last_second day_in is_time time_in seconds_agree read_of is_x table look_up row_of known size interval carries_control carries_seconds carries_year control_places days_in year_carried last_day_in in_range on_format carries_leap second_carried day_carried seconds minutes hours days tenths hundredths_digit has_seconds straight_seconds control years time_fields fields runs time_numbers numbers is_mark filler symbol_at encode value
-all-windows = refl

@@ -1,5 +1,6 @@
 // What encoding and decoding of the modified Manchester form ask alike: the format, the clock cycles of an element, and both lengths.
 #![tactic(auto)]
+
 ghost use Rattle.std.specs.Prelude.{◌≡◌};
 ghost use Rattle.timecode.specs.declared.Written.TheVariants.{Done};
 ghost use Rattle.cycles.specs.Cycles.{is_modulated, is_cycle_count, check_frame};

@@ -2,17 +2,18 @@
 use Rattle.std.specs.Prelude.{◌≡◌, refl, Bool, true, false, ◌&&◌, List, ℕ, suc, ◌+◌, ◌*◌, ◌-◌, ◌<◌, ◌≤◌, leb, length, take, drop, get_or, set}
 use Rattle.std.proofs.Common.{sym, ap, ◌∙◌, le_trans, le_of_eq, add-one, arith, ne_eqb, le-leb, drop_of_length-le, length-drop, drop-cons, length-take-le}
 use Rattle.std.proofs.lemmas.Bool.{lt-leb}
-use Rattle.timecode.specs.Laws.Runs.{fill_step, fill_end}
+use Rattle.timecode.proofs.Laws.Runs.{fill_step, fill_end}
 use Rattle.timecode.specs.Layout.{tabulate}
-use Rattle.timecode.specs.Laws.Table.{size-range}
+use Rattle.timecode.proofs.Laws.Table.{size-range}
 use Rattle.timecode.specs.declared.Format.{Format}
 use Rattle.timecode.specs.declared.Refusal.{Refusal}
 use Rattle.timecode.specs.declared.Refusal.TheVariants.{UnknownCycle}
 use Rattle.timecode.specs.declared.Written.{Written}
 use Rattle.timecode.specs.declared.Written.TheVariants.{Done}
-use Rattle.cycles.specs.Checks.{checked, checks-pass, checks-refuse}
+use Rattle.cycles.proofs.Checks.{checked, checks-pass, checks-refuse}
 use Rattle.cycles.specs.Cycles.{check_frame, is_proper, first_improper, symbol_in, cycles_at, symbols_in, decode_of, decode_leaves}
-use Rattle.cycles.specs.Elements.{count-parts, leading, all_low, all_proper, all-proper, some-improper}
+use Rattle.cycles.specs.Elements.{leading, all_low, all_proper}
+use Rattle.cycles.proofs.Elements.{count-parts, all-proper, some-improper}
 
 -- ---- the searches
 

@@ -1,5 +1,6 @@
 // Clock cycles of the modified Manchester form as a frame of A, B or G; the frame need be none that Read takes.
 #![tactic(auto)]
+
 ghost use Rattle.std.specs.Prelude.{◌≡◌, ◌&&◌, ◌*◌, ◌≤◌, length, drop};
 ghost use Rattle.cycles.specs.Cycles.{is_proper, first_improper, symbol_in, symbols_in, decode_of, decode_leaves};
 ghost use Rattle.cycles.specs.Elements.{leading, all_low, all_proper};

@@ -3,16 +3,16 @@ use Rattle.std.specs.Prelude.{◌≡◌, refl, true, false, ◌&&◌, List, [], 
 use Rattle.std.proofs.Common.{sym, ap, ap₂, ◌∙◌, append_assoc, append-nil, add-zero, add-one, arith, leb-true, le-leb, drop_of_length-le, length-append, length-set, length-drop, take-suc, take-suc-set, take-take, take-add, length-take-le, drop-cons, drop-drop, drop_at, take_at, get_or-drop}
 use Rattle.std.proofs.lemmas.List.{replicate-append-replicate, length-replicate}
 use Rattle.std.proofs.Math.Seq.{take-length, take-append-add}
-use Rattle.timecode.specs.Laws.Marks.{size-positive}
-use Rattle.timecode.specs.Laws.Tests.{by-test}
+use Rattle.timecode.proofs.Laws.Marks.{size-positive}
+use Rattle.timecode.proofs.Laws.Tests.{by-test}
 use Rattle.timecode.specs.declared.Format.{Format}
 use Rattle.timecode.specs.declared.Refusal.{Refusal}
 use Rattle.timecode.specs.declared.Refusal.TheVariants.{UnknownSymbol}
 use Rattle.timecode.specs.declared.Written.{Written}
 use Rattle.timecode.specs.declared.Written.TheVariants.{Done}
-use Rattle.cycles.specs.Checks.{checked, checks-pass, checks-refuse}
+use Rattle.cycles.proofs.Checks.{checked, checks-pass, checks-refuse}
 use Rattle.cycles.specs.Cycles.{check_frame, highs, element, cycles_of, unspoiled, encode_of, encode_leaves}
-use Rattle.cycles.specs.Elements.{count-parts, highs-within}
+use Rattle.cycles.proofs.Elements.{count-parts, highs-within}
 
 -- ---- a run of one level: one more cycle
 

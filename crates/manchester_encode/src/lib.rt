@@ -1,6 +1,7 @@
 // A frame of A, B or G in the modified Manchester form: each symbol as its clock cycles, the high ones first.
 // Elements are copied in whole blocks of 16 cycles: those of 10 cycles from a block each, longer ones as parts of one run of levels.
 #![tactic(auto)]
+
 ghost use Rattle.std.specs.Prelude.{◌≡◌, true, ◌&&◌, ◌++◌, ◌+◌, ◌*◌, ◌-◌, ◌%◌, ◌<◌, ◌≤◌, leb, length, take, replicate};
 ghost use Rattle.cycles.specs.Cycles.{highs, cycles_of, unspoiled, encode_of, encode_leaves};
 ghost use Rattle.manchester_encode.specs.Encoding.{Levels, Starts, Short, Copied, runs};

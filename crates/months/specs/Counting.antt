@@ -2,9 +2,9 @@
 use Rattle.std.specs.Prelude.{◌≡◌, refl, Bool, true, false, cond, List, [], ◌∷◌, ℕ, zero, suc, ◌+◌, ◌*◌, ◌-◌, ◌<◌, ◌≤◌, leb, get_or, length, drop}
 use Rattle.std.proofs.Common.{sym, ap, ◌∙◌, zero-add, add-zero, arith, le-leb, leb-true, drop_of_length-le, drop-cons}
 use Rattle.std.proofs.lemmas.Bool.{lt-leb}
-use Rattle.timecode.specs.Laws.Tests.{and_left, and_right}
+use Rattle.timecode.proofs.Laws.Tests.{and_left, and_right}
 use Rattle.calendar.specs.Dates.{month_lengths, place_in, day_in, has_day, has_date}
-use Rattle.calendar.specs.Inverse.{short-month, twelve, place-range}
+use Rattle.calendar.proofs.Inverse.{short-month, twelve, place-range}
 use Rattle.calendar.specs.declared.Place.{Place}
 
 -- ---- the months that a day lies behind

@@ -1,5 +1,6 @@
 // Month and day from day of year, and back; has_day, has_date and day_in are for the calendar of windows too.
 #![tactic(auto)]
+
 ghost use Rattle.std.specs.Prelude.{◌≡◌, ◌+◌, ◌≤◌, ◌<◌, length};
 ghost use Rattle.calendar.specs.Dates.{is_leap, month_lengths, place_in, day_in, has_day, has_date, date_of, day_of};
 

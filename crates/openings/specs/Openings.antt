@@ -3,8 +3,8 @@ use Rattle.std.specs.Prelude.{◌≡◌, refl, Bool, true, false, cond, ◌&&◌
 use Rattle.std.proofs.Common.{sym, ap, ◌∙◌, arith, leb-true, leb-false}
 use Rattle.std.proofs.Math.Decide.{dec_lt}
 use Rattle.timecode.specs.Formats.{is_x}
-use Rattle.timecode.specs.Laws.Tests.{by-test}
-use Rattle.timecode.specs.Laws.Windows.{lead-one, lead-none}
+use Rattle.timecode.proofs.Laws.Tests.{by-test}
+use Rattle.timecode.proofs.Laws.Windows.{lead-one, lead-none}
 use Rattle.timecode.specs.Stream.{lead}
 use Rattle.timecode.specs.declared.Format.{Format}
 use Rattle.following.specs.Rows.{leads_frame, opens_frame}

@@ -2,6 +2,7 @@
 // What a read brings and where a write goes is the system's: beneath this crate nothing says which bytes they are,
 // or that a call failed.
 #![tactic(auto)]
+
 ghost use Rattle.std.specs.Prelude.{◌≡◌, false};
 ghost use Rattle.progress.specs.Progress.{running_at};
 ghost use Rattle.printing.specs.Printing.{stopped, Prints, AfterRead, Reads, ReadsAll};
@@ -56,7 +57,13 @@ fn print_part(rt: &HostRuntime, progress: Progress, bytes: &[u8], out: &mut [u8;
 }
 
 // Prints by what one read gave: that it failed, the end of the input, or how many bytes it brought.
-fn print_result(rt: &HostRuntime, progress: Progress, got: isize, input: &[u8], out: &mut [u8; 65536]) -> Printed
+fn print_result(
+    rt: &HostRuntime,
+    progress: Progress,
+    got: isize,
+    input: &[u8],
+    out: &mut [u8; 65536],
+) -> Printed
     ensures { AfterRead progress got input.now result }
 {
     if got < 0 {
@@ -72,7 +79,12 @@ fn print_result(rt: &HostRuntime, progress: Progress, got: isize, input: &[u8], 
     print_part(rt, progress, &input[..n], out)
 }
 
-fn print_read<R: Read>(rt: &HostRuntime, input: &mut R, progress: Progress, out: &mut [u8; 65536]) -> Printed
+fn print_read<R: Read>(
+    rt: &HostRuntime,
+    input: &mut R,
+    progress: Progress,
+    out: &mut [u8; 65536],
+) -> Printed
     ensures { Reads progress result }
 {
     let mut bytes = [0u8; 65536];
@@ -81,7 +93,12 @@ fn print_read<R: Read>(rt: &HostRuntime, input: &mut R, progress: Progress, out:
 }
 
 // A proved loop has to end, and nothing says that the input does: the reads are counted down from a number that no run uses up.
-fn print_reads<R: Read>(rt: &HostRuntime, input: &mut R, reader: Reader, out: &mut [u8; 65536]) -> Progress
+fn print_reads<R: Read>(
+    rt: &HostRuntime,
+    input: &mut R,
+    reader: Reader,
+    out: &mut [u8; 65536],
+) -> Progress
     ensures { ReadsAll (running_at reader 0 0) result }
 {
     let mut progress = start(reader);

@@ -1,7 +1,7 @@
 -- Laws of the counts and of Feeds one after the other.
 use Rattle.std.specs.Prelude.{◌≡◌, refl, Bool, true, false, cond, List, [], ◌∷◌, ◌++◌, ℕ, zero, suc, ◌+◌, ◌<◌, ◌≤◌, ltb}
 use Rattle.std.proofs.Common.{sym, ap, ◌∙◌, append_assoc, add-zero, arith, lt-ltb, ltb-true, ltb-false}
-use Rattle.timecode.specs.Laws.Tests.{by-test}
+use Rattle.timecode.proofs.Laws.Tests.{by-test}
 use Rattle.timecode.specs.declared.Answer.{Answer}
 use Rattle.stream.specs.Feeding.{next_of, answer_of}
 use Rattle.stream.specs.declared.Reader.{Reader}

@@ -1,5 +1,6 @@
 // timeread's progress: what one Feed makes of it, and the line of its answer.
 #![tactic(auto)]
+
 ghost use Rattle.std.specs.Prelude.{◌≡◌, false, ◌++◌, ◌+◌, ◌≤◌, length, take};
 ghost use Rattle.timecode.specs.Answers.{refusal_number};
 ghost use Rattle.lines.specs.Text.{report_line, refused_line};

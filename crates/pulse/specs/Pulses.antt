@@ -9,9 +9,10 @@ use Rattle.std.proofs.Math.ListN.{get_or-map}
 use Rattle.std.specs.Int.{w32}
 use Rattle.std.proofs.lemmas.Int.{to_z-of_z}
 use Rattle.timecode.specs.Calls.{classes, is_interval, are_width_settings, in_class, pulse_in, spoiled_pulse, pulse_of, pulses_of, classify_list_of, symbols_left, deviations_left}
-use Rattle.timecode.specs.Laws.Runs.{length-tabulate, get_d_tabulate}
-use Rattle.timecode.specs.Laws.Tests.{by-test}
-use Rattle.timecode.specs.Laws.Widths.{from-to, class_of, class-of, by-class, deviation-bound}
+use Rattle.timecode.proofs.Laws.Runs.{length-tabulate, get_d_tabulate}
+use Rattle.timecode.proofs.Laws.Tests.{by-test}
+use Rattle.timecode.specs.Laws.Widths.{class_of}
+use Rattle.timecode.proofs.Laws.Widths.{from-to, class-of, by-class, deviation-bound}
 use Rattle.timecode.specs.Layout.{tabulate}
 use Rattle.timecode.specs.declared.Pulse.{Pulse}
 use Rattle.timecode.specs.declared.Refusal.{Refusal}

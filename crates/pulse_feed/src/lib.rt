@@ -1,5 +1,6 @@
 // One pulse classified and fed: the classifier's refusal first, else one Feed of the pulse's symbol, with the pulse's deviation beside the answer.
 #![tactic(auto)]
+
 ghost use Rattle.std.specs.Prelude.{◌≡◌};
 ghost use Rattle.pulse_feed.specs.PulseFeeds.{refused_pulse, handed_up, feed_pulse_of};
 

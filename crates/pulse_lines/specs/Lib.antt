@@ -1,3 +1,2 @@
 -- PulseLines is what the contracts say; Runs its laws.
 pub mod PulseLines
-pub mod Runs

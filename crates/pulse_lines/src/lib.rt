@@ -1,6 +1,7 @@
 // A line of a counter's export: the width and the period of a pulse, in decimal, with blanks or a comma between them.
 // It assumes nothing of the bytes; a newline is no part of the line.
 #![tactic(auto)]
+
 ghost use Rattle.std.specs.Prelude.{◌≡◌, ◌≤◌, length};
 ghost use Rattle.pulse_lines.specs.PulseLines.{is_blank, is_digit, opens_heading, end_of, comma_end, separator_end, pulse_with, pulse_line_of, is_heading};
 

@@ -4,9 +4,10 @@ use Rattle.std.proofs.Common.{ap, ◌∙◌, append_assoc, arith}
 use borrow.Author.Tests.{leb-true, le-leb}
 use Rattle.timecode.specs.Formats.{table, known}
 use Rattle.timecode.specs.Frames.{Sent, written, are_symbols, elements}
-use Rattle.timecode.specs.Laws.Table.{every_format, of-every}
-use Rattle.timecode.specs.Laws.Tests.{by-test, and_left, and_right}
-use Rattle.timecode.specs.Laws.Writing.{written-symbols}
+use Rattle.timecode.specs.Laws.Table.{every_format}
+use Rattle.timecode.proofs.Laws.Table.{of-every}
+use Rattle.timecode.proofs.Laws.Tests.{by-test, and_left, and_right}
+use Rattle.timecode.proofs.Laws.Writing.{written-symbols}
 use Rattle.timecode.specs.Stream.{two_frames, plain_answers}
 use Rattle.timecode.specs.declared.Format.{Format}
 use Rattle.timecode.specs.declared.Written.TheVariants.{Done}
@@ -14,7 +15,7 @@ use Rattle.lines.specs.Text.{space, newline}
 use Rattle.listing.specs.Printed.{format_in, is_first_line, printed_for, printed}
 use Rattle.characters.specs.ByteSymbols.{is_skipped, symbol_of_byte, feeds_of}
 use Rattle.generator.specs.Sending.{begun_of, lines_of, frames_of}
-use Rattle.generator.specs.Generators.{valid, lines_are}
+use Rattle.generator.proofs.Generators.{valid, lines_are}
 use Rattle.generator.specs.declared.Start.{Start}
 use Rattle.frametext.specs.Characters.{character_of, opens_group, element_text, frame_text, frame_line, first_line, frames_text, recording_text}
 

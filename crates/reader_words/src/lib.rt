@@ -1,6 +1,7 @@
 // The reader as fourteen words in the caller's memory: unpacked, packed, and what a Feed brought put back there.
 // Any words are allowed. The definitions, and that a reader comes back from its words, stand in specs/.
 #![tactic(auto)]
+
 ghost use Rattle.std.specs.Prelude.{◌≡◌, ◌%◌};
 ghost use Rattle.ffi.specs.Structs.{feed_result_of};
 ghost use Rattle.stream.specs.Feeding.{made_of};

@@ -5,7 +5,7 @@ use Rattle.std.proofs.Math.Nat.{mod-one}
 use Rattle.std.proofs.lemmas.Bool.{lt-leb}
 use Rattle.std.proofs.Math.Arith.{digits_div, digits_mod, mod-mul}
 use Rattle.std.proofs.Math.Pow.{mod-mod-pow}
-use Rattle.timecode.specs.Laws.Tests.{by-test}
+use Rattle.timecode.proofs.Laws.Tests.{by-test}
 use Rattle.timecode.specs.declared.Format.{Format}
 use Rattle.following.specs.Rows.{opens_frame}
 use Rattle.register.specs.Receiving.{push_of, continued_of, with_word_of, begun_of, receive_of}

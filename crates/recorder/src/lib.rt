@@ -1,6 +1,7 @@
 // The calls as a C interface: numbers, formats, times and width settings by value; frames, lists and a reader of fourteen words lent; and one struct back from each call.
 // Every input is allowed. A struct's number is 0 or that of documents 01 and 02; where it is not 0, every other field is 0 but the index of Read, the converters and decoding, and lent memory is as it was.
 #![tactic(auto)]
+
 ghost use Rattle.std.specs.Prelude.{◌≡◌};
 ghost use Rattle.timecode.specs.Calls.{difference_of, classify_of, classify_list_of, symbols_left, deviations_left, scan_of};
 ghost use Rattle.timecode.specs.Editions.{forward_of, forward_leaves, backward_of, backward_leaves};

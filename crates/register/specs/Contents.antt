@@ -7,8 +7,8 @@ use Rattle.std.proofs.lemmas.Bool.{eqb-false}
 use Rattle.std.proofs.Math.Arith.{digits_div}
 use Rattle.std.proofs.Math.ListN.{get_or-append}
 use Rattle.std.proofs.Math.Pow.{field, mod-mod-pow}
-use Rattle.timecode.specs.Laws.Runs.{length-tabulate, get_d_tabulate}
-use Rattle.timecode.specs.Laws.Tests.{by-test}
+use Rattle.timecode.proofs.Laws.Runs.{length-tabulate, get_d_tabulate}
+use Rattle.timecode.proofs.Laws.Tests.{by-test}
 use Rattle.timecode.specs.Layout.{tabulate}
 use Rattle.timecode.specs.declared.Format.{Format}
 use Rattle.following.specs.Rows.{opens_frame}

@@ -7,8 +7,8 @@ use Rattle.std.proofs.Math.Decide.{dec_lt}
 use borrow.Author.Tests.{leb-true, leb-false}
 use Rattle.std.proofs.Math.ListN.{get_or, length, length-drop}
 use Rattle.std.proofs.Math.Seq.{ext_get_or, get_or-take, get_or-drop, length-take-le}
-use Rattle.timecode.specs.Laws.Runs.{length-tabulate, get_d_tabulate}
-use Rattle.timecode.specs.Laws.Tests.{by-test}
+use Rattle.timecode.proofs.Laws.Runs.{length-tabulate, get_d_tabulate}
+use Rattle.timecode.proofs.Laws.Tests.{by-test}
 use Rattle.timecode.specs.Layout.{tabulate}
 use Rattle.timecode.specs.declared.Format.{Format}
 use Rattle.following.specs.Rows.{opens_frame}

@@ -1,6 +1,7 @@
 // What a fresh reader of setting 2, timeread's, reports of a whole recording, read forwards or backwards; and how often a symbol stands in it.
 // It assumes nothing of the recording.
 #![tactic(auto)]
+
 ghost use Rattle.std.specs.Prelude.{◌≡◌, ◌≤◌, ◌<◌, get_or, length, drop};
 ghost use Rattle.report_counts.specs.Reports.{directed, reported_by, first_report, is_report, reports_of, reports_in, count_if, times_of};
 ghost use Rattle.report_counts.specs.declared.Reported.TheVariants.{None};

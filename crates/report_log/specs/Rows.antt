@@ -1,9 +1,8 @@
 -- Worked rows for what no theorem fixes: the order of the bytes and of the map's bits, the ranges, the numbers and their order. What each call says; one theorem holds of all.
-use Rattle.std.specs.Prelude.{◌≡◌, refl, List, [], ◌∷◌, map, ℕ, ◌^◌, pos, replicate}
+use Rattle.std.specs.Prelude.{List, [], ◌∷◌, map, ℕ, ◌^◌, pos, replicate}
 use Rattle.timecode.specs.Answers.{Result, success, refusal_result}
-use Rattle.timecode.specs.Formats.{in_range}
 use Rattle.timecode.specs.declared.Refusal.TheVariants.{InvalidTime, ControlTooLong, StartPastEnd, InvalidYear, RecordCutShort, InvalidRecord}
-use Rattle.report_log.specs.Log.{bytes_of, number_in, fields_of, no_report, map_of, changed_of, record_of, log_after, log_of, size_of, read_fields, report_in, all_differ, read_record, read_log, fit_of, write_log, put_at, log_left, log_written_result, log_reading_result}
+use Rattle.report_log.specs.Log.{no_report, log_of, read_log, write_log, log_left, log_written_result, log_reading_result}
 use Rattle.report_log.specs.declared.Report.{Report}
 
 -- a call: the log of some reports; writing into k bytes of 170 at a place, by the answer, or by what is left; reading at a place
@@ -74,14 +73,10 @@ rows =
     ∷ record { call = read (8 ∷ 99 ∷ []) 0 (report 24 191 0 (2 ^ 48)); result = refusal_result ControlTooLong }
     ∷ []
 
-abbrev asked : List Row → List Result
+abbrev pub asked : List Row → List Result
 asked [] = []
 asked (r ∷ rs) = result_of r.call ∷ asked rs
 
-abbrev answered : List Row → List Result
+abbrev pub answered : List Row → List Result
 answered [] = []
 answered (r ∷ rs) = r.result ∷ answered rs
-
-pub log-rows : asked rows ≡ answered rows
-unfolding rows log_of log_after record_of fields_of map_of changed_of bytes_of read_log read_record size_of read_fields report_in all_differ number_in write_log fit_of put_at log_left in_range
-log-rows = refl

@@ -1,6 +1,7 @@
 // What writing and reading a report log take and what they answer: types only, no function.
 // The record of a report and the log of a list of reports are defined, and their theorems stand, in specs/.
 #![tactic(auto)]
+
 use timecode::{Refusal, Time};
 
 // What a stream reader reports: a time and a control word.

@@ -8,10 +8,10 @@ use Rattle.std.proofs.Math.ListN.{get_or, length-drop}
 use Rattle.timecode.specs.Calls.{part_at, lead_at, found, lowest_of}
 use Rattle.timecode.specs.Formats.{is_x, size}
 use Rattle.timecode.specs.Frames.{read_of}
-use Rattle.timecode.specs.Laws.Checks.{by-reading}
-use Rattle.timecode.specs.Laws.Marks.{size-positive, accepted-first}
-use Rattle.timecode.specs.Laws.Tests.{by-test, clash, and_right}
-use Rattle.timecode.specs.Laws.Windows.{lead-one, lead-none}
+use Rattle.timecode.proofs.Laws.Checks.{by-reading}
+use Rattle.timecode.proofs.Laws.Marks.{size-positive, accepted-first}
+use Rattle.timecode.proofs.Laws.Tests.{by-test, clash, and_right}
+use Rattle.timecode.proofs.Laws.Windows.{lead-one, lead-none}
 use Rattle.timecode.specs.Stream.{lead}
 use Rattle.timecode.specs.declared.Format.{Format}
 use Rattle.timecode.specs.declared.Reading.{Reading}

@@ -3,12 +3,14 @@ use Rattle.std.specs.Prelude.{◌≡◌, refl, Bool, true, false, cond, ◌||◌
 use Rattle.std.proofs.Common.{arith, leb-true}
 use Rattle.timecode.specs.Formats.{is_x, table, look_up, row_of, known, size, carries_control, carries_seconds, carries_year, control_places}
 use Rattle.timecode.specs.Frames.{covered, written, read_of, Valid}
-use Rattle.timecode.specs.Laws.Marks.{at-written}
-use Rattle.timecode.specs.Laws.Reading.{accepted-was-written}
-use Rattle.timecode.specs.Laws.Runs.{small-length, symbol-free, symbol-covered}
-use Rattle.timecode.specs.Laws.Table.{size-range, every_format, of-every}
-use Rattle.timecode.specs.Laws.Tests.{by-test, or-other, every_below, below-every}
-use Rattle.timecode.specs.Laws.Writing.{written_small}
+use Rattle.timecode.proofs.Laws.Marks.{at-written}
+use Rattle.timecode.proofs.Laws.Reading.{accepted-was-written}
+use Rattle.timecode.proofs.Laws.Runs.{small-length, symbol-free, symbol-covered}
+use Rattle.timecode.specs.Laws.Table.{every_format}
+use Rattle.timecode.proofs.Laws.Table.{size-range, of-every}
+use Rattle.timecode.specs.Laws.Tests.{every_below}
+use Rattle.timecode.proofs.Laws.Tests.{by-test, or-other, below-every}
+use Rattle.timecode.proofs.Laws.Writing.{written_small}
 use Rattle.timecode.specs.Layout.{seconds, minutes, hours, days, tenths, hundredths_digit, has_seconds, straight_seconds, control, years, time_fields, fields, runs, numbers, all_digits, is_mark, filler}
 use Rattle.timecode.specs.declared.Format.{Format}
 use Rattle.timecode.specs.declared.Reading.TheVariants.{Accepted}

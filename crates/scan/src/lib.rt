@@ -1,5 +1,6 @@
 // Scan: the lowest place of a recording where a frame begins after a mark, in X after anything.
 #![tactic(auto)]
+
 ghost use Rattle.std.specs.Prelude.{◌≡◌, true, cond, ℕ, ◌+◌, ◌≤◌, ◌<◌, leb, length, take, drop};
 ghost use Rattle.timecode.specs.Calls.{scan_of};
 ghost use Rattle.timecode.specs.Formats.{size};

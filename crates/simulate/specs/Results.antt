@@ -7,12 +7,13 @@ use Rattle.std.proofs.lemmas.List.{length-map, length-replicate, get_or-replicat
 use Rattle.std.proofs.Math.ListN.{get_or-append}
 use Rattle.timecode.specs.Formats.{is_symbol, known, size}
 use Rattle.timecode.specs.Frames.{usual, step_of, following, total_width, written, write_leaves, Valid, Sent, elements, sent_at}
-use Rattle.timecode.specs.Laws.Back.{step-again}
-use Rattle.timecode.specs.Laws.Generators.{element-at, element-small}
-use Rattle.timecode.specs.Laws.Stepping.{length_for, went}
-use Rattle.timecode.specs.Laws.Table.{size-range}
-use Rattle.timecode.specs.Laws.Tests.{and_left, and_right}
-use Rattle.timecode.specs.Laws.Writing.{length-written, leaves, takes}
+use Rattle.timecode.proofs.Laws.Back.{step-again}
+use Rattle.timecode.proofs.Laws.Generators.{element-at, element-small}
+use Rattle.timecode.specs.Laws.Stepping.{length_for}
+use Rattle.timecode.proofs.Laws.Stepping.{went}
+use Rattle.timecode.proofs.Laws.Table.{size-range}
+use Rattle.timecode.proofs.Laws.Tests.{and_left, and_right}
+use Rattle.timecode.proofs.Laws.Writing.{length-written, leaves, takes}
 use Rattle.timecode.specs.Layout.{control, tabulate}
 use Rattle.timecode.specs.Stream.{is_setting}
 use Rattle.timecode.specs.declared.Format.{Format}
@@ -23,7 +24,7 @@ use Rattle.timecode.specs.declared.Stepped.TheVariants.{To}
 use Rattle.timecode.specs.declared.Written.TheVariants.{Done}
 use Rattle.timecode.specs.declared.Time.{Time}
 use Rattle.simulation.specs.Lent.{damages_between, start_of, listener_at, listeners_of, ends_fit, are_lists, simulate_lent}
-use Rattle.simulation.specs.Run.{first-time, control-none, steps-at, length_run}
+use Rattle.simulation.proofs.Run.{first-time, control-none, steps-at, length_run}
 use Rattle.simulation.specs.Simulation.{run_of, are_rising, have_symbols, Listener, heard, counts_of, Simulated, Heard, every, have_settings, are_listeners}
 use Rattle.simulation.specs.declared.Counts.{Counts}
 use Rattle.receive_many.specs.ManySymbols.{SymbolsBelow}

@@ -1,6 +1,7 @@
 // The simulation: a generator is heard by up to eight listeners, each with its own setting and its own damages.
 // It goes frame by frame, and its memory does not grow with the frames.
 #![tactic(auto)]
+
 ghost use Rattle.std.specs.Prelude.{◌≡◌, true, ◌&&◌, ◌-◌, ◌≤◌, eqb, leb, get_or, length, take};
 ghost use Rattle.timecode.specs.Formats.{known, size};
 ghost use Rattle.timecode.specs.Frames.{usual, step_of, written, Valid};

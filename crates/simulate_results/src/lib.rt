@@ -1,6 +1,7 @@
 // The answer of a simulation as C's struct, by value: the number of the refusal or 0 first, then what each listener counted.
 // That the struct has its answer's number and counts stands in specs/.
 #![tactic(auto)]
+
 ghost use Rattle.std.specs.Prelude.{◌≡◌};
 ghost use Rattle.simulate_results.specs.SimulateStructs.{struct_of};
 

@@ -1,12 +1,12 @@
 -- The listeners as they are lent to a program: a list of settings, and for all of them together one list of element numbers and one of symbols, with an end for each listener.
-use Rattle.std.specs.Prelude.{◌≡◌, Bool, true, ◌&&◌, List, [], ◌∷◌, map, ℕ, zero, suc, ◌-◌, leb, eqb, get_or, length}
+use Rattle.std.specs.Prelude.{Bool, ◌&&◌, List, [], ◌∷◌, map, ℕ, zero, suc, ◌-◌, leb, eqb, get_or, length}
 use Rattle.timecode.specs.Answers.{Check, checks}
 use Rattle.timecode.specs.Frames.{usual, step_of}
 use Rattle.timecode.specs.Layout.{tabulate}
 use Rattle.timecode.specs.declared.Format.{Format}
 use Rattle.timecode.specs.declared.Refusal.TheVariants.{WrongLength, InvalidSetting, InvalidListener}
 use Rattle.timecode.specs.declared.Time.{Time}
-use Rattle.simulation.specs.Simulation.{run_of, Damage, Listener, heard, counts_of, Simulated, Heard, Refused, have_settings, are_listeners, stepped, simulate_of}
+use Rattle.simulation.specs.Simulation.{run_of, Damage, Listener, heard, counts_of, Simulated, Heard, Refused, have_settings, are_listeners, stepped}
 
 -- one of the damages, and those from one index up to another
 abbrev pub damage_at : List ℕ → List ℕ → ℕ → Damage
@@ -48,9 +48,3 @@ simulate_lent f start frames length settings ends numbers symbols =
     stepped (step_of f start length usual)
     (checks Refused (list_checks settings ends numbers symbols)
     (Heard (map (λ l. counts_of f (run_of f length frames start) (heard f (run_of f length frames start) l)) (listeners_of settings ends numbers symbols))))
-
--- Of lists that are such lists it is the simulation of the listeners that they are.
-pub lent-simulates : (f : Format) (start : Time) (frames length : ℕ) (settings ends numbers symbols : List ℕ) → are_lists settings ends numbers symbols ≡ true
-    → simulate_lent f start frames length settings ends numbers symbols ≡ simulate_of f start frames length (listeners_of settings ends numbers symbols)
-unfolding simulate_lent simulate_of
-lent-simulates f start frames length settings ends numbers symbols h = rw h

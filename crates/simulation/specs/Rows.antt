@@ -1,14 +1,11 @@
 -- Worked runs: what each listener counts, and each refusal in its order.
-use Rattle.std.specs.Prelude.{◌≡◌, refl, List, [], ◌∷◌, map, ℕ}
+use Rattle.std.specs.Prelude.{List, [], ◌∷◌, map, ℕ}
 use Rattle.timecode.specs.Answers.{refusal_number}
-use Rattle.timecode.specs.Formats.{H, X, is_x, table, look_up, row_of, known, size, interval, carries_control, carries_seconds, carries_year, control_places, days_in, year_carried, last_day_in, in_range, on_format, carries_leap, second_carried}
-use Rattle.timecode.specs.Frames.{length_in, in_year, day_after, turn_day, year_after, year_of_day_after, day_length_of, day_end, on_day, following, step_of, next_after, written, marks_agree, element_fits, check_elements, last_second, day_in, is_time, time_in, seconds_agree, read_of, elements}
-use Rattle.timecode.specs.Layout.{day_carried, seconds, minutes, hours, days, tenths, hundredths_digit, has_seconds, straight_seconds, control, years, time_fields, fields, runs, time_numbers, numbers, is_mark, filler, symbol_at, encode, value}
-use Rattle.timecode.specs.Stream.{is_setting, lead, opens, window_length, frame_in, next_in_row, in_row, window_answer, last_of, plain_answer, plain_feed, plain_answers}
+use Rattle.timecode.specs.Formats.{H, X}
 use Rattle.timecode.specs.declared.Format.{Format}
 use Rattle.timecode.specs.declared.Time.{Time}
 use Rattle.simulation.specs.declared.Counts.{Counts}
-use Rattle.simulation.specs.Simulation.{run_of, Damage, replace_at, damaged, are_rising, have_symbols, first_report, report_count, ends_frame, is_false, false_count, Listener, heard, counts_of, Simulated, Heard, have_settings, are_listeners, simulate_of}
+use Rattle.simulation.specs.Simulation.{Damage, Listener, Simulated, Heard, simulate_of}
 
 abbrev x2 : Format
 x2 = record { letter = X; expression = 2 }
@@ -29,7 +26,7 @@ time day hundredths = record { year = 0; day = day; hundredths = hundredths }
 abbrev figures : Counts → List ℕ
 figures c = c.first ∷ c.reports ∷ c.wrong ∷ []
 
-abbrev result : Simulated → List (List ℕ)
+abbrev pub result : Simulated → List (List ℕ)
 result (Heard cs) = map figures cs
 result (Simulated.Refused r) = (refusal_number r ∷ []) ∷ []
 
@@ -52,19 +49,3 @@ simulations =
     ∷ simulate_of x2 (time 1 0) 1 365 (listens 2 (at 900 1 ∷ at 900 1 ∷ []) ∷ [])
     ∷ simulate_of x2 (time 1 0) 0 365 (listens 2 [] ∷ listens 2 [] ∷ listens 2 [] ∷ listens 2 [] ∷ listens 2 [] ∷ listens 2 [] ∷ listens 2 [] ∷ listens 2 [] ∷ listens 2 [] ∷ [])
     ∷ []
-
-pub all-simulations : map result simulations
-    ≡ ((50 ∷ 3 ∷ 0 ∷ []) ∷ (75 ∷ 2 ∷ 0 ∷ []) ∷ (50 ∷ 2 ∷ 1 ∷ []) ∷ (0 ∷ 0 ∷ 0 ∷ []) ∷ (100 ∷ 1 ∷ 0 ∷ []) ∷ (0 ∷ 0 ∷ 0 ∷ []) ∷ [])
-    ∷ ((50 ∷ 2 ∷ 0 ∷ []) ∷ (0 ∷ 0 ∷ 0 ∷ []) ∷ [])
-    ∷ ((0 ∷ 0 ∷ 0 ∷ []) ∷ [])
-    ∷ []
-    ∷ ((2 ∷ []) ∷ [])
-    ∷ ((11 ∷ []) ∷ [])
-    ∷ ((26 ∷ []) ∷ [])
-    ∷ ((26 ∷ []) ∷ [])
-    ∷ ((27 ∷ []) ∷ [])
-    ∷ ((27 ∷ []) ∷ [])
-    ∷ ((27 ∷ []) ∷ [])
-    ∷ []
-unfolding simulations simulate_of run_of replace_at damaged are_rising have_symbols first_report report_count ends_frame is_false false_count heard counts_of have_settings are_listeners is_setting plain_answers plain_feed plain_answer window_answer window_length in_row next_in_row opens frame_in last_of lead elements next_after step_of length_in in_year day_after turn_day year_after year_of_day_after day_length_of day_end on_day following written marks_agree element_fits check_elements last_second day_in is_time time_in seconds_agree read_of is_x table look_up row_of known size interval carries_control carries_seconds carries_year control_places days_in year_carried last_day_in in_range on_format carries_leap second_carried day_carried seconds minutes hours days tenths hundredths_digit has_seconds straight_seconds control years time_fields fields runs time_numbers numbers is_mark filler symbol_at encode value
-all-simulations = refl

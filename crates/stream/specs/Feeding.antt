@@ -1,10 +1,8 @@
 -- What the program's reader is, and what a Feed makes of it, for every reader and symbol.
-use Rattle.std.specs.Prelude.{◌≡◌, refl, Bool, true, cond, ◌&&◌, [], ◌∷◌, ℕ, ◌+◌, ◌%◌, ◌<◌, leb, eqb, ltb}
-use Rattle.std.proofs.Common.{ltb-true}
+use Rattle.std.specs.Prelude.{Bool, cond, ◌&&◌, [], ◌∷◌, ℕ, ◌+◌, ◌%◌, leb, eqb, ltb}
 use Rattle.timecode.specs.Answers.{Result, success, refusal_result, checks}
 use Rattle.timecode.specs.Formats.{is_symbol, known, size}
 use Rattle.timecode.specs.Frames.{no_time, read_of}
-use Rattle.timecode.specs.Laws.Tests.{and_right}
 use Rattle.timecode.specs.Stream.{is_setting}
 use Rattle.timecode.specs.declared.Answer.{Answer}
 use Rattle.timecode.specs.declared.Answer.TheVariants.{Quiet, Report}
@@ -71,11 +69,6 @@ unfoldable pub reader_with_reading : Reader → Reading → Reader
 reader_with_reading r (Accepted t w) = record { format = r.format; setting = r.setting; place = r.place; received = with_row r.received (row_after r.format r.received.row r.time t); time = t; control = w }
 reader_with_reading r (Reading.Refused x) = record { format = r.format; setting = r.setting; place = r.place; received = with_row r.received 0; time = r.time; control = r.control }
 
-pub with-row-reading : (r : Reader) (reading : Reading) → reader_with_row r (row_with r.format (row_in r) reading) ≡ reader_with_reading r reading
-unfolding row_with reader_with_reading
-with-row-reading r (Accepted t w) = refl
-with-row-reading r (Reading.Refused x) = refl
-
 unfoldable pub when_whole : Reader → Reader
 when_whole r = cond (eqb r.received.count (size r.format)) (reader_with_reading r (read_of r.format (frame_of r.received (size r.format)))) r
 
@@ -103,8 +96,3 @@ answer_of r s =
 
 unfoldable pub feed_of : Reader → ℕ → Fed
 feed_of r s = record { reader = next_of r s; answer = answer_of r s }
-
--- a valid reader's place is below n
-pub valid-place : (r : Reader) → is_valid r ≡ true → r.place < size r.format
-unfolding is_valid
-valid-place r h = ltb-true r.place (size r.format) (and_right (known r.format) (ltb r.place (size r.format)) h)

@@ -2,5 +2,4 @@
 pub mod Feeding
 pub mod Tapes
 pub mod Refinement
-pub mod FeedLists
 pub mod ReaderRows

@@ -1,12 +1,11 @@
 -- Document 01's example of number 13, that of 1 for a fresh reader and that of 4 for Feed, document 02's 26, and the order of the checks.
-use Rattle.std.specs.Prelude.{◌≡◌, refl, List, [], ◌∷◌, ℕ}
+use Rattle.std.specs.Prelude.{List, [], ◌∷◌, ℕ}
 use Rattle.timecode.specs.Answers.{Result, success, refusal_result, answer_result}
-use Rattle.timecode.specs.Formats.{D, H, table, look_up, row_of, known, size}
+use Rattle.timecode.specs.Formats.{D, H}
 use Rattle.timecode.specs.Frames.{no_time}
-use Rattle.timecode.specs.Stream.{is_setting}
 use Rattle.timecode.specs.declared.Format.{Format}
 use Rattle.timecode.specs.declared.Refusal.TheVariants.{UnknownFormat, UnknownSymbol, InvalidReader, InvalidSetting}
-use Rattle.stream.specs.Feeding.{fresh_register, fresh_reader, made_of, made_result, is_valid, answer_of}
+use Rattle.stream.specs.Feeding.{fresh_register, fresh_reader, made_of, made_result, answer_of}
 use Rattle.stream.specs.declared.Reader.{Reader}
 
 abbrev format : ℕ → ℕ → Format
@@ -16,7 +15,7 @@ format letter expression = record { letter = letter; expression = expression }
 abbrev at : Format → ℕ → ℕ → Reader
 at f k place = record { format = f; setting = k; place = place; received = fresh_register; time = no_time; control = 0 }
 
-abbrev results : List Result
+abbrev pub results : List Result
 results =
     made_result (made_of (format D 0) 2)
     ∷ made_result (made_of (format D 0) 1)
@@ -32,7 +31,7 @@ results =
     ∷ answer_result (answer_of (at (format H 1) 1 0) 0)
     ∷ []
 
-abbrev expected : List Result
+abbrev pub expected : List Result
 expected =
     refusal_result UnknownFormat
     ∷ refusal_result UnknownFormat
@@ -47,7 +46,3 @@ expected =
     ∷ refusal_result InvalidSetting
     ∷ refusal_result InvalidSetting
     ∷ []
-
-pub reader-rows : results ≡ expected
-unfolding made_of answer_of is_valid is_setting known size row_of look_up table
-reader-rows = refl

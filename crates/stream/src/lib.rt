@@ -1,6 +1,7 @@
 // The stream reader with its setting k: made fresh, and fed one symbol at a time.
 // It follows the one frame that can be under way and counts the accepted frames in a row before it: each frame is read once, when it is whole.
 #![tactic(auto)]
+
 ghost use Rattle.std.specs.Prelude.{◌≡◌, true, ◌+◌, ◌%◌, ◌≤◌, ◌<◌, length, take, drop};
 ghost use Rattle.timecode.specs.Formats.{is_x, known, size};
 ghost use Rattle.timecode.specs.Frames.{next_after, read_of};

@@ -2,14 +2,14 @@
 use Rattle.std.specs.Prelude.{◌≡◌, refl, true, ◌&&◌, List, ℕ, ◌+◌, ◌%◌, ◌≤◌, ltb, eqb, leb, take}
 use Rattle.std.proofs.Common.{sym, mod-lt, lt-ltb, le-leb}
 use Rattle.timecode.specs.Formats.{is_symbol, known, size}
-use Rattle.timecode.specs.Laws.Checks.{refused-no-report}
-use Rattle.timecode.specs.Laws.Marks.{size-positive}
-use Rattle.timecode.specs.Laws.Tests.{by-test, and_left}
+use Rattle.timecode.proofs.Laws.Checks.{refused-no-report}
+use Rattle.timecode.proofs.Laws.Marks.{size-positive}
+use Rattle.timecode.proofs.Laws.Tests.{by-test, and_left}
 use Rattle.timecode.specs.Stream.{is_setting}
 use Rattle.timecode.specs.declared.Answer.{Answer}
 use Rattle.timecode.specs.declared.Refusal.{Refusal}
 use Rattle.register.specs.declared.Register.{Register}
-use Rattle.stream.specs.FeedLists.{setting-next, setting-after, valid-next, valid-after, quiet-no-refusal}
+use Rattle.stream.proofs.FeedLists.{setting-next, setting-after, valid-next, valid-after, quiet-no-refusal}
 use Rattle.stream.specs.Feeding.{is_valid, with_register, with_symbol_of, next_of, answer_after, answer_of}
 use Rattle.stream.specs.Refinement.{reader_after}
 use Rattle.stream.specs.declared.Reader.{Reader}

@@ -6,8 +6,8 @@ use Rattle.std.proofs.Math.Seq.{drop-append_seam}
 use Rattle.std.proofs.lemmas.List.{drop-append-le}
 use Rattle.timecode.specs.Formats.{size}
 use Rattle.timecode.specs.Frames.{read_of}
-use Rattle.timecode.specs.Laws.Checks.{by-reading}
-use Rattle.timecode.specs.Laws.Tests.{by-test}
+use Rattle.timecode.proofs.Laws.Checks.{by-reading}
+use Rattle.timecode.proofs.Laws.Tests.{by-test}
 use Rattle.timecode.specs.declared.Format.{Format}
 use Rattle.following.specs.Rows.{opens_frame}
 use Rattle.register.specs.Receiving.{push_of, receive_of, frame_of}

@@ -9,8 +9,8 @@ use Rattle.std.proofs.lemmas.Bool.{eqb-false}
 use Rattle.std.proofs.Math.ListN.{get_or, length}
 use Rattle.timecode.specs.Formats.{size}
 use Rattle.timecode.specs.Frames.{read_of}
-use Rattle.timecode.specs.Laws.Table.{size-range}
-use Rattle.timecode.specs.Laws.Tests.{by-test}
+use Rattle.timecode.proofs.Laws.Table.{size-range}
+use Rattle.timecode.proofs.Laws.Tests.{by-test}
 use Rattle.timecode.specs.declared.Answer.{Answer}
 use Rattle.timecode.specs.declared.Answer.TheVariants.{Quiet}
 use Rattle.timecode.specs.declared.Format.{Format}
@@ -21,7 +21,8 @@ use Rattle.register.specs.Contents.{pushed-low, receive-newest}
 use Rattle.register.specs.declared.Register.{Register}
 use Rattle.openings.specs.Openings.{opens_at, CloseOpenings, start, later}
 use Rattle.receive_many.specs.ManySymbols.{slice, push_all, receive_all, join_all, AllSymbols, NoneOpens, NotWholeBefore, SymbolsBelow, length-slice, slice_at, slice-cons, inside_is, outside-is, inside-not-whole, outside-not-whole, join-all-count, NeverWhole, never-before, never-append, short-never, short-count, receive-append, received-newest, receive-opens, slice-join, slice-last, slice-none, push-all-none, push-all-last, push-all-low}
-use Rattle.stream.specs.Feeding.{valid-place, with_register, reader_with_reading, when_whole, with_symbol_of, next_of, answer_after, feed_of}
+use Rattle.stream.specs.Feeding.{with_register, reader_with_reading, when_whole, with_symbol_of, next_of, answer_after, feed_of}
+use Rattle.stream.proofs.Feeding.{valid-place}
 use Rattle.stream.specs.Refinement.{answers, reader_after}
 use Rattle.stream.specs.declared.Reader.{Reader}
 use Rattle.stride.specs.ReadyReaders.{Ready, next-with-symbol, answer-of-symbol, ready_with, ready-next}

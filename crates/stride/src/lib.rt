@@ -1,6 +1,7 @@
 // A stride of a block: its first symbol, then symbols up to the next opening or to the frame's end; openings that come before a frame is whole go together.
 // Only its last symbol can report. A frame that is whole in the stride is read in the block itself.
 #![tactic(auto)]
+
 ghost use Rattle.std.specs.Prelude.{◌≡◌, true, ◌+◌, ◌-◌, ◌%◌, ◌≤◌, ◌<◌, get_or, length};
 ghost use Rattle.timecode.specs.Formats.{size};
 ghost use Rattle.timecode.specs.Stream.{is_setting};

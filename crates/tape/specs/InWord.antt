@@ -8,8 +8,9 @@ use Rattle.std.proofs.lemmas.Nat.{and_shr, and_mod, and_le_r}
 use Rattle.timecode.specs.Answers.{check}
 use Rattle.timecode.specs.Formats.{is_x, known}
 use Rattle.timecode.specs.Frames.{are_symbols, read_of}
-use Rattle.timecode.specs.Laws.Runs.{get_d_tabulate, length-tabulate}
-use Rattle.timecode.specs.Laws.Tests.{by-test, clash, and_left, and_right, every_below, below-every}
+use Rattle.timecode.proofs.Laws.Runs.{get_d_tabulate, length-tabulate}
+use Rattle.timecode.specs.Laws.Tests.{every_below}
+use Rattle.timecode.proofs.Laws.Tests.{by-test, clash, and_left, and_right, below-every}
 use Rattle.timecode.specs.Layout.{tabulate}
 use Rattle.timecode.specs.declared.Format.{Format}
 use Rattle.timecode.specs.declared.Reading.{Reading}

@@ -4,7 +4,8 @@ use Rattle.std.proofs.Common.{ap, ◌∙◌, not-suc-le-zero, add-one, arith, eq
 use Rattle.std.proofs.lemmas.Bool.{eqb-false}
 use Rattle.timecode.specs.Formats.{is_x, known}
 use Rattle.timecode.specs.Frames.{are_symbols, read_of}
-use Rattle.timecode.specs.Laws.Tests.{by-test, clash, every_below, below-every}
+use Rattle.timecode.specs.Laws.Tests.{every_below}
+use Rattle.timecode.proofs.Laws.Tests.{by-test, clash, below-every}
 use Rattle.timecode.specs.declared.Format.{Format}
 use Rattle.timecode.specs.declared.Reading.{Reading}
 use Rattle.timecode.specs.declared.Refusal.{Refusal}

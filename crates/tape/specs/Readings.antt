@@ -6,8 +6,8 @@ use Rattle.std.proofs.Math.Nat.{two-pow-succ}
 use Rattle.timecode.specs.Answers.{check}
 use Rattle.timecode.specs.Formats.{table, look_up, row_of, known, size, is_x, carries_control, carries_seconds, carries_year, carries_leap, control_places, last_day_in}
 use Rattle.timecode.specs.Frames.{are_symbols, covered, marks_agree, element_fits, check_elements, last_second, day_in, is_time, time_in, seconds_agree, read_of}
-use Rattle.timecode.specs.Laws.Runs.{get_d_tabulate}
-use Rattle.timecode.specs.Laws.Tests.{by-test, and_left, and_right}
+use Rattle.timecode.proofs.Laws.Runs.{get_d_tabulate}
+use Rattle.timecode.proofs.Laws.Tests.{by-test, and_left, and_right}
 use Rattle.timecode.specs.Layout.{seconds, minutes, hours, days, tenths, hundredths_digit, has_seconds, straight_seconds, control, years, time_fields, fields, runs, filler, tabulate, value, digit_in}
 use Rattle.timecode.specs.declared.Format.{Format}
 use Rattle.timecode.specs.declared.Reading.{Reading}

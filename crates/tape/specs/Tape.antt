@@ -4,9 +4,9 @@ use Rattle.std.proofs.Common.{sym, ap, ◌∙◌, zero-add, arith, eqb-true, leb
 use Rattle.std.proofs.lemmas.Bool.{eqb-false, lt-leb}
 use Rattle.timecode.specs.Formats.{member, X, table, look_up, row_of, known, size, is_x, carries_control, carries_seconds, carries_year, control_places, day_length, carries_leap}
 use Rattle.timecode.specs.Frames.{written, Valid}
-use Rattle.timecode.specs.Laws.Runs.{get_d-encode, length-encode, get_d_tabulate, length-tabulate}
-use Rattle.timecode.specs.Laws.Tests.{by-test, clash}
-use Rattle.timecode.specs.Laws.Times.{none-added}
+use Rattle.timecode.proofs.Laws.Runs.{get_d-encode, length-encode, get_d_tabulate, length-tabulate}
+use Rattle.timecode.proofs.Laws.Tests.{by-test, clash}
+use Rattle.timecode.proofs.Laws.Times.{none-added}
 use Rattle.timecode.specs.Layout.{Run, seconds, minutes, hours, days, tenths, hundredths_digit, has_seconds, straight_seconds, control, years, time_fields, fields, runs, day_carried, time_numbers, numbers, in_run, bit_of, filler, symbol_at, tabulate, encode}
 use Rattle.timecode.specs.declared.Format.{Format}
 use Rattle.timecode.specs.declared.Time.{Time}

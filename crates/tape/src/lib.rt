@@ -1,6 +1,7 @@
 // The frame of letter X, document 02's "XR3 tapes": a mark, the digits of hours, minutes and seconds, each with its highest weight
 // first, and four spoiled elements. It assumes 25 elements; Write's checks and Read's first two are the caller's.
 #![tactic(auto)]
+
 ghost use Rattle.std.specs.Prelude.{◌≡◌, ℕ, ◌+◌, ◌*◌, ◌/◌, ◌%◌, ◌^◌, ◌≤◌, ◌<◌, true, cond, ◌&&◌, ltb, length};
 ghost use Rattle.timecode.specs.Formats.{is_x, known};
 ghost use Rattle.timecode.specs.Frames.{written, are_symbols, read_of, Valid};

@@ -1,6 +1,5 @@
 -- What the definitions obey, from single bits up to whole streams: the proofs behind the demands.
 pub mod Tests
-pub mod Bits
 pub mod Digits
 pub mod Runs
 pub mod Table
@@ -8,7 +7,6 @@ pub mod Times
 pub mod Checks
 pub mod Fields
 pub mod Reading
-pub mod Writing
 pub mod Stepping
 pub mod Back
 pub mod Marks
@@ -17,7 +15,6 @@ pub mod Successors
 pub mod Generators
 pub mod Windows
 pub mod Damage
-pub mod Machine
 pub mod Streams
 pub mod Existence
 pub mod Scanning

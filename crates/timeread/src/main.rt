@@ -1,5 +1,6 @@
 // Prints the reports of the recording on standard input.
 #![tactic(auto)]
+
 fn main(rt: HostRuntime) {
     if version::print_version(&rt, b"timeread") {
         return;

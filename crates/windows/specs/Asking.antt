@@ -9,11 +9,12 @@ use borrow.Author.Tests.{ltb-true, ltb-false, leb-true, le-leb, lt-ltb, eq-eqb, 
 use Rattle.std.proofs.Math.ListN.{drop, drop_of_length-le}
 use Rattle.std.proofs.Math.Seq.{length-take-le}
 use Rattle.timecode.specs.Formats.{days_in}
-use Rattle.timecode.specs.Laws.Tests.{by-test, and_right}
+use Rattle.timecode.proofs.Laws.Tests.{by-test, and_right}
 use Rattle.timecode.specs.declared.Time.{Time}
-use Rattle.calendar.specs.Adding.{days-few}
+use Rattle.calendar.proofs.Adding.{days-few}
 use Rattle.calendar.specs.Dates.{has_day}
-use Rattle.calendar.specs.Keys.{Small, key-order, key_back, time-small, back-key}
+use Rattle.calendar.specs.Keys.{Small}
+use Rattle.calendar.proofs.Keys.{key-order, key_back, time-small, back-key}
 use Rattle.calendar.specs.Moments.{earlier, holds, mask_of, edges_of, nearer, next_of, ask_of}
 use Rattle.calendar.specs.Windows.{key_of, time_of, windows_in}
 use Rattle.calendar.specs.declared.Asked.{Asked}

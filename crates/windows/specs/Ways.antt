@@ -3,16 +3,17 @@ use Rattle.std.specs.Prelude.{◌≡◌, refl, Bool, true, false, cond, ◌&&◌
 use Rattle.std.proofs.Common.{sym, ◌∙◌, arith, lt-ltb, le-ltb}
 use Rattle.std.proofs.Math.Path.{ap}
 use Rattle.timecode.specs.Answers.{check}
-use Rattle.timecode.specs.Laws.Tests.{and_left, and_right}
+use Rattle.timecode.proofs.Laws.Tests.{and_left, and_right}
 use Rattle.timecode.specs.declared.Refusal.{Refusal}
 use Rattle.timecode.specs.declared.Refusal.TheVariants.{InvalidTime, InvalidYear, InvalidWindow, InvalidDate}
 use Rattle.timecode.specs.declared.Time.{Time}
 use Rattle.timecode.specs.declared.Written.{Written}
 use Rattle.timecode.specs.declared.Written.TheVariants.{Done}
 use Rattle.calendar.specs.Dates.{is_year, has_date}
-use Rattle.calendar.specs.Keys.{Small, key-order}
+use Rattle.calendar.specs.Keys.{Small}
+use Rattle.calendar.proofs.Keys.{key-order}
 use Rattle.calendar.specs.Moments.{earlier, is_hundredth}
-use Rattle.calendar.specs.Adding.{passes-all}
+use Rattle.calendar.proofs.Adding.{passes-all}
 use Rattle.calendar.specs.Windows.{key_of, moment_of, window_of, add_answer, add_of, keyed_by}
 use Rattle.calendar.specs.declared.Added.{Added}
 use Rattle.calendar.specs.declared.Calendar.{Calendar}

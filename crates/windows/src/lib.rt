@@ -1,6 +1,7 @@
 // The calendar of test windows: an empty one, adding a window, and asking which windows hold a time and what follows it.
 // Every calendar is taken: a count over 32 counts as 32, and of each number kept only the 56 bits of a key count.
 #![tactic(auto)]
+
 ghost use Rattle.std.specs.Prelude.{◌≡◌, cond, true, false, ◌+◌, ◌*◌, ◌%◌, ◌≤◌, ◌<◌, ltb, length, take, set};
 ghost use Rattle.calendar.specs.Dates.{has_date};
 ghost use Rattle.calendar.specs.Keys.{Small};

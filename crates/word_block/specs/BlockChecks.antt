@@ -2,14 +2,14 @@
 use Rattle.std.specs.Prelude.{◌≡◌, refl, true, false, ◌&&◌, List, ℕ, ◌%◌, ltb, get_or, length, set}
 use Rattle.std.proofs.Common.{sym, ap, subst, ◌∙◌, arith, lt-ltb, le-ltb}
 use Rattle.timecode.specs.Formats.{known, size}
-use Rattle.timecode.specs.Laws.Runs.{tabulate-self}
-use Rattle.timecode.specs.Laws.Tests.{by-test}
+use Rattle.timecode.proofs.Laws.Runs.{tabulate-self}
+use Rattle.timecode.proofs.Laws.Tests.{by-test}
 use Rattle.timecode.specs.Layout.{tabulate}
 use Rattle.timecode.specs.Stream.{is_setting}
 use Rattle.timecode.specs.declared.Refusal.{Refusal}
 use Rattle.stream.specs.Feeding.{is_valid}
 use Rattle.stream.specs.declared.Reader.{Reader}
-use Rattle.ffi.specs.Fields.{refusal-numbered}
+use Rattle.ffi.proofs.Fields.{refusal-numbered}
 use Rattle.reader_words.specs.Words.{byte_in, reader_in, words_into}
 use Rattle.word_feed.specs.InPlace.{format_in, time_fits, known_size, is_ready, Ready, ready}
 use Rattle.block.specs.Blocks.{Lists, are_records, block_answer, feed_block_of}

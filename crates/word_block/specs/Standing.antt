@@ -14,11 +14,12 @@ use Rattle.timecode.specs.declared.Time.{Time}
 use Rattle.stream.specs.Feeding.{answer_of}
 use Rattle.stream.specs.Refinement.{answers, reader_after}
 use Rattle.stream.specs.declared.Reader.{Reader}
-use Rattle.stream.specs.FeedLists.{answers_at, length-feed-answers, reader-append}
+use Rattle.stream.proofs.FeedLists.{answers_at, length-feed-answers, reader-append}
 use Rattle.stride.specs.ReadyReaders.{reader-start}
 use Rattle.receive_many.specs.ManySymbols.{slice}
 use Rattle.block.specs.Blocks.{Reported, report_at, Block, stopped, with_first, block_in, Lists, lists, room_in, field_left, index_of, year_of, day_of, hundredths_of, control_of, lists_left}
-use Rattle.block.specs.Folds.{followed, block-append, block-takes, all-taken}
+use Rattle.block.specs.Folds.{followed}
+use Rattle.block.proofs.Folds.{block-append, block-takes, all-taken}
 use Rattle.block.specs.declared.Stop.{Stop}
 use Rattle.block.specs.declared.Stop.TheVariants.{AllTaken, UnknownSymbol, NoRoom}
 

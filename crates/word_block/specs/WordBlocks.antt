@@ -6,29 +6,30 @@ use borrow.Author.Tests.{eqb-true, leb-true, leb-false}
 use Rattle.std.proofs.Math.ListN.{take}
 use Rattle.std.proofs.Math.Seq.{take-suc}
 use Rattle.timecode.specs.Formats.{is_symbol, size}
-use Rattle.timecode.specs.Laws.Checks.{refused-no-report}
-use Rattle.timecode.specs.Laws.Tests.{by-test, and_left, and_right}
+use Rattle.timecode.proofs.Laws.Checks.{refused-no-report}
+use Rattle.timecode.proofs.Laws.Tests.{by-test, and_left, and_right}
 use Rattle.timecode.specs.Stream.{is_setting}
 use Rattle.timecode.specs.declared.Answer.{Answer}
 use Rattle.timecode.specs.declared.Answer.TheVariants.{Quiet, Report}
 use Rattle.timecode.specs.declared.Refusal.{Refusal}
 use Rattle.timecode.specs.declared.Time.{Time}
-use Rattle.stream.specs.FeedLists.{answers_at, length-feed-answers, reader-append, setting-next, valid-next, refused-above, quiet-no-refusal}
+use Rattle.stream.proofs.FeedLists.{answers_at, length-feed-answers, reader-append, setting-next, valid-next, refused-above, quiet-no-refusal}
 use Rattle.stream.specs.Feeding.{is_valid, next_of, answer_of, feed_of}
-use Rattle.stream.specs.Refinement.{answers, reader_after, symbol-leaves}
+use Rattle.stream.specs.Refinement.{answers, reader_after}
+use Rattle.stream.proofs.Refinement.{symbol-leaves}
 use Rattle.stream.specs.declared.Reader.{Reader}
 use Rattle.register.specs.Receiving.{receive_of, frame_of}
 use Rattle.receive_many.specs.ManySymbols.{slice}
 use Rattle.openings.specs.Accepted.{accepted_in, accepted-within, accepted-at}
 use Rattle.stride.specs.Shown.{frame-in-block}
-use Rattle.reader_words.specs.WordLaws.{words_back, words-fit, next_fits, into-words}
+use Rattle.reader_words.proofs.WordLaws.{words_back, words-fit, next_fits, into-words}
 use Rattle.reader_words.specs.Words.{words_for, reader_in, words_into, feed_words, words_left}
 use Rattle.word_feed.specs.FrameEnds.{is_stored, words_if_stored, whole_register, received-whole}
 use Rattle.word_feed.specs.InPlace.{Ready, is_inside, same-words, ready-place, ready-valid, ready-setting, ready-format, words-ready, inside-quiet, inside-left}
 use Rattle.word_stride.specs.FewSymbols.{accepted-more}
 use Rattle.word_stride.specs.WordRuns.{RunsIn}
 use Rattle.block.specs.Blocks.{Block, report_at, block_of, Lists, room_in, are_records, field_left, lists_left, block_for, block_answer, feed_block_of}
-use Rattle.block.specs.Folds.{block-takes}
+use Rattle.block.proofs.Folds.{block-takes}
 use Rattle.block.specs.declared.BlockAnswer.{BlockAnswer}
 use Rattle.block.specs.declared.FedBlock.{FedBlock}
 use Rattle.block.specs.declared.Stop.{Stop}

@@ -1,6 +1,7 @@
 // One block of a reader's fourteen words, stride by stride: a first symbol, whatever it does, then a run of symbols that neither begin a frame nor make one whole.
 // Blocks of every size go this way. It checks 13, 26, 3.
 #![tactic(auto)]
+
 ghost use Rattle.std.specs.Prelude.{◌≡◌, true, false, ◌&&◌, ◌+◌, ◌-◌, ◌≤◌, ◌<◌, eqb, ltb, get_or, length};
 ghost use Rattle.timecode.specs.Frames.{read_of};
 ghost use Rattle.tape.specs.InWord.{elements_in};

@@ -8,8 +8,9 @@ use native.Mathlib.Omega.{arith}
 use borrow.Author.Tests.{lt-ltb, le-leb, ltb-true, eqb-true, eq-eqb}
 use Rattle.timecode.specs.Formats.{table, look_up, row_of, known, size}
 use Rattle.timecode.specs.Frames.{read_of}
-use Rattle.timecode.specs.Laws.Table.{every_format, of-every, size-range}
-use Rattle.timecode.specs.Laws.Tests.{by-test, clash}
+use Rattle.timecode.specs.Laws.Table.{every_format}
+use Rattle.timecode.proofs.Laws.Table.{of-every, size-range}
+use Rattle.timecode.proofs.Laws.Tests.{by-test, clash}
 use Rattle.timecode.specs.Stream.{is_setting}
 use Rattle.timecode.specs.declared.Answer.{Answer}
 use Rattle.timecode.specs.declared.Answer.TheVariants.{Quiet, Report}
@@ -17,13 +18,14 @@ use Rattle.timecode.specs.declared.Format.{Format}
 use Rattle.following.specs.Rows.{opens_frame}
 use Rattle.register.specs.Receiving.{push_of, continued_of, receive_of, frame_of}
 use Rattle.register.specs.declared.Register.{Register}
-use Rattle.stream.specs.FeedLists.{refused-above}
-use Rattle.stream.specs.Feeding.{is_valid, row_in, row_with, reader_with_row, with_register, with-row-reading, when_whole, with_symbol_of, next_of, answer_after, answer_of, feed_of}
+use Rattle.stream.proofs.FeedLists.{refused-above}
+use Rattle.stream.specs.Feeding.{is_valid, row_in, row_with, reader_with_row, with_register, when_whole, with_symbol_of, next_of, answer_after, answer_of, feed_of}
+use Rattle.stream.proofs.Feeding.{with-row-reading}
 use Rattle.stream.specs.declared.Fed.{Fed}
 use Rattle.stream.specs.declared.Reader.{Reader}
 use Rattle.stream.specs.declared.FrameRow.{FrameRow}
-use Rattle.ffi.specs.Fields.{refusal-numbered}
-use Rattle.reader_words.specs.WordLaws.{into-words}
+use Rattle.ffi.proofs.Fields.{refusal-numbered}
+use Rattle.reader_words.proofs.WordLaws.{into-words}
 use Rattle.reader_words.specs.Words.{words_for, reader_in, words_into, feed_words, words_left}
 use Rattle.word_feed.specs.InPlace.{format_in, register_in, Ready, is_inside, setting_same, same-words, ready-valid, ready-setting}
 

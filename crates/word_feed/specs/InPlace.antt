@@ -9,9 +9,9 @@ use Rattle.std.proofs.Math.Dec.{leb}
 use Rattle.std.proofs.Math.ListN.{get_or}
 use Rattle.std.proofs.Math.Seq.{set-get_or}
 use Rattle.timecode.specs.Formats.{A, B, D, E, G, H, X, is_symbol, table, look_up, row_of, known, size}
-use Rattle.timecode.specs.Laws.Runs.{tabulate-self}
-use Rattle.timecode.specs.Laws.Table.{size-range}
-use Rattle.timecode.specs.Laws.Tests.{by-test, clash, and_left, and_right}
+use Rattle.timecode.proofs.Laws.Runs.{tabulate-self}
+use Rattle.timecode.proofs.Laws.Table.{size-range}
+use Rattle.timecode.proofs.Laws.Tests.{by-test, clash, and_left, and_right}
 use Rattle.timecode.specs.Layout.{tabulate}
 use Rattle.timecode.specs.Stream.{is_setting}
 use Rattle.timecode.specs.declared.Answer.TheVariants.{Quiet}
@@ -23,7 +23,8 @@ use Rattle.register.specs.Contents.{pushed-low, receive-newest, receive-most}
 use Rattle.register.specs.declared.Register.{Register}
 use Rattle.stream.specs.Feeding.{is_valid, with_register, when_whole, with_symbol_of, next_of, answer_after, answer_of, feed_of}
 use Rattle.stream.specs.declared.Reader.{Reader}
-use Rattle.reader_words.specs.WordLaws.{Fits, words_back, no-letter, no-expression, into-words}
+use Rattle.reader_words.specs.WordLaws.{Fits}
+use Rattle.reader_words.proofs.WordLaws.{words_back, no-letter, no-expression, into-words}
 use Rattle.reader_words.specs.Words.{words_for, byte_in, reader_in, register_into, words_into, feed_words, words_left}
 
 abbrev pub format_in : ℕ → ℕ → Format

@@ -1,6 +1,7 @@
 // One Feed of a reader's fourteen words: the words that change are stored, and no reader is unpacked.
 // Only what is refused goes by value, and words that do not fit.
 #![tactic(auto)]
+
 ghost use Rattle.std.specs.Prelude.{◌≡◌, false, cond, ◌&&◌, ◌+◌, ◌/◌, ◌%◌, ◌≤◌, leb, get_or, length, set};
 ghost use Rattle.timecode.specs.Stream.{is_setting};
 ghost use Rattle.register.specs.Receiving.{begun_of};

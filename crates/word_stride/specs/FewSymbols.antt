@@ -5,8 +5,8 @@ use Rattle.std.proofs.Common.{◌∙◌, arith}
 use Rattle.std.proofs.Math.Bool.{true, false}
 use borrow.Author.Tests.{ltb-true, ltb-false, lt-leb, ne_eqb}
 use Rattle.std.proofs.Math.ListN.{get_or}
-use Rattle.timecode.specs.Laws.Table.{size-range}
-use Rattle.timecode.specs.Laws.Tests.{by-test}
+use Rattle.timecode.proofs.Laws.Table.{size-range}
+use Rattle.timecode.proofs.Laws.Tests.{by-test}
 use Rattle.timecode.specs.declared.Format.{Format}
 use Rattle.following.specs.Rows.{opens_frame}
 use Rattle.register.specs.Receiving.{push_of, begun_of, continued_of, receive_of}

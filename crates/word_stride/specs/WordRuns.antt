@@ -4,7 +4,7 @@ use Rattle.std.proofs.Math.Path.{sym, ap, subst}
 use Rattle.std.proofs.Common.{◌∙◌, arith}
 use mathlib.Core.List.{List}
 use Rattle.timecode.specs.Formats.{size}
-use Rattle.timecode.specs.Laws.Table.{size-range}
+use Rattle.timecode.proofs.Laws.Table.{size-range}
 use Rattle.timecode.specs.declared.Answer.{Answer}
 use Rattle.timecode.specs.declared.Answer.TheVariants.{Quiet}
 use Rattle.register.specs.declared.Register.{Register}
@@ -14,7 +14,8 @@ use Rattle.stream.specs.Refinement.{answers, reader_after}
 use Rattle.stream.specs.declared.Reader.{Reader}
 use Rattle.stride.specs.ReadyReaders.{ready_with}
 use Rattle.stride.specs.Strides.{Runs, run-reader, run-quiet}
-use Rattle.reader_words.specs.WordLaws.{Fits, words_back, words-fit}
+use Rattle.reader_words.specs.WordLaws.{Fits}
+use Rattle.reader_words.proofs.WordLaws.{words_back, words-fit}
 use Rattle.reader_words.specs.Words.{words_for, reader_in, register_into}
 use Rattle.word_feed.specs.InPlace.{format_in, register_in, Ready, same-words, ready-valid, ready-setting, ready-format, words-ready}
 

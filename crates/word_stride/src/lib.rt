@@ -1,6 +1,7 @@
 // The run of a stride in a reader's fourteen words: symbols after the stride's first, none of which makes a frame whole.
 // Many are packed at once, few are received one by one; the words are stored once for all of them.
 #![tactic(auto)]
+
 ghost use Rattle.std.specs.Prelude.{◌≡◌, Bool, ◌+◌, ◌-◌, ◌%◌, ◌≤◌, ◌<◌, get_or, length};
 ghost use Rattle.openings.specs.Accepted.{accepted_in};
 ghost use Rattle.reader_words.specs.Words.{register_into};

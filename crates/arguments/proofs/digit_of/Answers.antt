@@ -1,5 +1,4 @@
 -- `digit_of` meets its contract.
-use borrow.Author.Rules.{rules}
 use native.Mathlib.Omega.{arith}
 use borrow.Author.Tests.{lt-ltb, le-ltb, le-leb, lt-leb}
 use Rattle.arguments.specs.Numbers.{digit_of}

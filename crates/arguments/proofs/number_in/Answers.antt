@@ -1,10 +1,9 @@
 -- `number_in` meets its contract: the digits read so far have the value, and the rest decides.
-use borrow.Author.Rules.{rules}
 use native.Mathlib.Omega.{arith}
 use mathlib.Core.Path.{◌≡◌}
 use Prim.Native.Nat.{◌-◌, ◌≤◌, ◌<◌}
 use lib.ListN.{length}
-use Rattle.arguments.specs.DigitBytes.{Read, read-start, read-turn, read_none, read-other, read_all}
+use Rattle.arguments.specs.DigitBytes.{read-start, read-turn, read_none, read-other, read_all}
 use Rattle.arguments.proofs.number_in.Goals as goal
 
 pub returns-then-text-eq0 : goal.returns-then-text-eq0

@@ -1,6 +1,4 @@
 -- `with_digit` meets its contract.
-use borrow.Author.Rules.{rules}
-use native.Mathlib.Omega.{arith}
 use Rattle.arguments.specs.DigitBytes.{limited-small, limited-large, digit-fits, digit-over}
 use Rattle.arguments.proofs.with_digit.Goals as goal
 

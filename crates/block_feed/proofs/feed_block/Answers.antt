@@ -6,7 +6,6 @@ use Rattle.block_words.specs.BlockWords.{fed_block_with}
 use Rattle.reader_words.specs.WordLaws.{Fits}
 use Rattle.stream.specs.declared.Reader.{Reader}
 use Rattle.block_feed.specs.FeedBlocks.{by-words}
-use borrow.Author.Rules.{rules}
 use Rattle.block_feed.proofs.feed_block.Goals as goal
 
 joined : {A B C : Type 0} → record { value : A; reader_after : B; controls_after : C } → A × (B × C)

@@ -2,7 +2,6 @@
 use Rattle.calendar_words.specs.CalendarSets.{taken, refused}
 use Rattle.windows.specs.Ways.{booked}
 use mathlib.Core.Path.{sym, ◌∙◌}
-use borrow.Author.Rules.{rules}
 use Rattle.calendar_words.proofs.add_words.Goals as goal
 
 both : {A B : Type 0} → A × B → record { value : A; words_after : B }

@@ -1,6 +1,5 @@
 -- `ask_words` meets its contract.
 use Rattle.calendar_words.specs.CalendarStructs.{calendar_in}
-use borrow.Author.Rules.{rules}
 use Rattle.calendar_words.proofs.ask_words.Goals as goal
 
 pub returns : goal.returns

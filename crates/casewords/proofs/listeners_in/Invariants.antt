@@ -1,6 +1,5 @@
 use lib.ListN.{length}
 use Prim.Native.Nat.{◌-◌}
-use borrow.Author.Rules.{rules}
 use Rattle.casewords.proofs.listeners_in.Given as goal
 
 abbrev pub invariant-loop-i : goal.invariant-loop-i

@@ -1,9 +1,8 @@
 -- `close_up` meets its contract: of the first i those kept stand in the first places.
 use native.Mathlib.Omega.{arith}
-use borrow.Author.Rules.{rules}
 use Prim.Native.Nat.{◌-◌, ◌≤◌}
-use mathlib.Core.Path.{◌≡◌, refl}
-use Rattle.characters.specs.Decoding.{ClosedTo, closed-start, closed-turn, symbols-few}
+use mathlib.Core.Path.{refl}
+use Rattle.characters.proofs.Decoding.{closed-start, closed-turn, symbols-few}
 use Rattle.characters.proofs.close_up.Goals as goal
 
 pub loop-i-init : goal.loop-i-init

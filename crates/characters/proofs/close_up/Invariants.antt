@@ -1,8 +1,5 @@
-use native.Mathlib.Omega.{arith}
-use borrow.Author.Rules.{rules}
 use Prim.Native.Nat.{◌-◌, ◌≤◌}
-use mathlib.Core.Path.{◌≡◌, refl}
-use Rattle.characters.specs.Decoding.{ClosedTo, closed-start, closed-turn, symbols-few}
+use Rattle.characters.specs.Decoding.{ClosedTo}
 use Rattle.characters.proofs.close_up.Given as goal
 
 abbrev pub invariant-loop-i : goal.invariant-loop-i

@@ -1,9 +1,7 @@
 -- `decode` meets its contract.
-use native.Mathlib.Omega.{arith}
 use mathlib.Core.Path.{◌∙◌, ap}
 use lib.ListN.{length}
-use Rattle.characters.specs.Decoding.{decoded-none-skipped, decoded-kept}
-use borrow.Author.Rules.{rules}
+use Rattle.characters.proofs.Decoding.{decoded-none-skipped, decoded-kept}
 use Rattle.characters.proofs.decode.Goals as goal
 
 pub returns-then-most-lt-SKIPPED : goal.returns-then-most-lt-SKIPPED

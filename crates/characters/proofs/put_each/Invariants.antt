@@ -1,9 +1,6 @@
-use native.Mathlib.Omega.{arith}
-use borrow.Author.Rules.{rules}
 use Prim.Native.Nat.{◌-◌}
 use lib.ListN.{length}
-use mathlib.Core.Path.{◌≡◌}
-use Rattle.characters.specs.Decoding.{EachPut, put-start, put-turn}
+use Rattle.characters.specs.Decoding.{EachPut}
 use Rattle.characters.proofs.put_each.Given as goal
 
 abbrev pub invariant-loop-i : goal.invariant-loop-i

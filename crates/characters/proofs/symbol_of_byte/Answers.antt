@@ -1,6 +1,6 @@
 -- `symbol_of_byte` meets its contract.
 use borrow.Author.Tests.{eq-eqb, ne_eqb}
-use Rattle.characters.specs.Decoding.{digit-symbol, other-symbol}
+use Rattle.characters.proofs.Decoding.{digit-symbol, other-symbol}
 use Rattle.characters.proofs.symbol_of_byte.Goals as goal
 
 pub returns-then-byte : goal.returns-then-byte

@@ -1,6 +1,5 @@
 -- `symbol_or_skipped` meets its contract.
 use Rattle.characters.specs.Decoding.{symbol_or_skipped}
-use borrow.Author.Rules.{rules}
 use Rattle.characters.proofs.symbol_or_skipped.Goals as goal
 
 pub returns-then-is_skipped : goal.returns-then-is_skipped

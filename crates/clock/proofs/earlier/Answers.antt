@@ -4,8 +4,8 @@ use Prim.Native.Nat.{ℕ, ◌≤◌}
 use native.Mathlib.Omega.{arith}
 use borrow.Author.Tests.{eq-eqb, ne_eqb}
 use Rattle.timecode.specs.Frames.{turn_day, preceding}
-use Rattle.timecode.specs.Laws.Stepping.{one-interval, day-end-range}
-use Rattle.timecode.specs.Laws.Times.{on-format}
+use Rattle.timecode.proofs.Laws.Stepping.{one-interval, day-end-range}
+use Rattle.timecode.proofs.Laws.Times.{on-format}
 use Rattle.clock.proofs.earlier.Goals as goal
 
 pub overflow_sub-result : goal.overflow_sub-result

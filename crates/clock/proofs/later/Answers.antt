@@ -2,7 +2,7 @@
 use native.Mathlib.Omega.{arith}
 use borrow.Author.Tests.{eq-eqb, ne_eqb}
 use Rattle.timecode.specs.Frames.{turn_day, following}
-use Rattle.timecode.specs.Laws.Times.{on-format, year-below}
+use Rattle.timecode.proofs.Laws.Times.{on-format, year-below}
 use Rattle.clock.proofs.later.Goals as goal
 
 pub overflow_add-hundredths : goal.overflow_add-hundredths

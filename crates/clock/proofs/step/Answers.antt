@@ -1,6 +1,6 @@
 -- `step` meets its contract: what `check_step` lets pass it answers with the time after.
 use mathlib.Core.Path.{sym, ap, ◌∙◌}
-use Rattle.timecode.specs.Laws.Stepping.{answers-alike, refuses-alike}
+use Rattle.timecode.proofs.Laws.Stepping.{answers-alike, refuses-alike}
 use Rattle.timecode.specs.declared.Stepped.TheVariants.{To}
 use Rattle.timecode.specs.Frames.{step_of}
 use Rattle.clock.proofs.step.Goals as goal

@@ -1,6 +1,6 @@
 -- `step_back` meets its contract: what `check_step` lets pass it answers with the time before.
 use mathlib.Core.Path.{sym, ap, ◌∙◌}
-use Rattle.timecode.specs.Laws.Stepping.{answers-alike, refuses-alike}
+use Rattle.timecode.proofs.Laws.Stepping.{answers-alike, refuses-alike}
 use Rattle.timecode.specs.declared.Stepped.TheVariants.{To}
 use Rattle.timecode.specs.Frames.{step_back_of}
 use Rattle.clock.proofs.step_back.Goals as goal

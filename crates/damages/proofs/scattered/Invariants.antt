@@ -1,7 +1,4 @@
-use borrow.Author.Rules.{rules}
-use native.Mathlib.Omega.{arith}
 use Prim.Native.Nat.{◌-◌, ◌≤◌}
-use lib.ListN.{length}
 use Rattle.damages.proofs.scattered.Given as goal
 
 abbrev pub invariant-loop-number : goal.invariant-loop-number

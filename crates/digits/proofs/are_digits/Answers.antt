@@ -1,9 +1,9 @@
 -- `are_digits` meets its contract: the digits from j on decide.
 use native.Mathlib.Omega.{arith}
-use mathlib.Core.Path.{◌≡◌, refl, sym, ◌∙◌}
-use Prim.Native.Nat.{◌-◌, ◌≤◌}
+use mathlib.Core.Path.{sym, ◌∙◌}
+use Prim.Native.Nat.{◌-◌}
 use borrow.Author.Tests.{le-leb, lt-leb}
-use Rattle.digits.specs.Meaning.{digits_from, digits-turn, digits-end}
+use Rattle.digits.specs.Meaning.{digits-turn, digits-end}
 use Rattle.digits.proofs.are_digits.Goals as goal
 
 pub returns-then-digits-j-gt9 : goal.returns-then-digits-j-gt9

@@ -1,8 +1,6 @@
-use native.Mathlib.Omega.{arith}
-use mathlib.Core.Path.{◌≡◌, refl, sym, ◌∙◌}
+use mathlib.Core.Path.{◌≡◌}
 use Prim.Native.Nat.{◌-◌, ◌≤◌}
-use borrow.Author.Tests.{le-leb, lt-leb}
-use Rattle.digits.specs.Meaning.{digits_from, digits-turn, digits-end}
+use Rattle.digits.specs.Meaning.{digits_from}
 use Rattle.digits.proofs.are_digits.Given as goal
 
 abbrev pub invariant-loop-j : goal.invariant-loop-j

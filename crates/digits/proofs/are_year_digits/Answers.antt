@@ -2,7 +2,6 @@
 use borrow.Author.Tests.{le-leb, lt-leb}
 use mathlib.Core.Bool.{and-true}
 use Rattle.digits.specs.Meaning.{digits_from}
-use borrow.Author.Rules.{rules}
 use Rattle.digits.proofs.are_year_digits.Goals as goal
 
 pub returns-then-digits-gt9 : goal.returns-then-digits-gt9

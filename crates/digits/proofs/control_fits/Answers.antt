@@ -1,5 +1,4 @@
 -- `control_fits` meets its contract: nothing is left of the word above the bits that are carried.
-use borrow.Author.Rules.{rules}
 use mathlib.Core.Path.{◌≡◌, refl, sym, ap, ◌∙◌}
 use Prim.Native.Nat.{ℕ, ◌+◌, ◌^◌}
 use lib.Dec.{ltb}

@@ -1,6 +1,4 @@
 -- `control_in` meets its contract: the digits joined from the highest down.
-use borrow.Author.Rules.{rules}
-use native.Mathlib.Omega.{arith}
 use Rattle.digits.specs.Meaning.{control_from}
 use Rattle.digits.proofs.control_in.Goals as goal
 

@@ -1,5 +1,4 @@
 -- `digits_of` meets its contract: what it makes of the time, its seconds and the control word are the digits.
-use borrow.Author.Rules.{rules}
 use mathlib.Core.Bool.{cond}
 use mathlib.Core.Path.{◌≡◌, ap, subst, ◌∙◌}
 use Prim.Native.Nat.{◌*◌, ◌-◌, ◌/◌, ◌^◌}

@@ -1,8 +1,6 @@
 -- `is_time` meets its contract, test by test.
-use borrow.Author.Tests.{le-leb, lt-leb, not-false, not-true}
-use mathlib.Core.Path.{sym, ◌∙◌}
+use borrow.Author.Tests.{le-leb, lt-leb}
 use Rattle.digits.specs.Meaning.{is_time_of}
-use borrow.Author.Rules.{rules}
 use Rattle.digits.proofs.is_time.Goals as goal
 
 pub returns-then-not-are_digits : goal.returns-then-not-are_digits

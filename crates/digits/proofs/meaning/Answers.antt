@@ -1,5 +1,4 @@
 -- `meaning` meets its contract: each way out is the definition's.
-use borrow.Author.Rules.{rules}
 use mathlib.Core.Path.{sym, ◌∙◌}
 use Rattle.digits.specs.Meaning.{meaning_of, time-bounds}
 use Rattle.digits.proofs.meaning.Goals as goal

@@ -1,6 +1,4 @@
 -- `seconds_agree` meets its contract: straight binary seconds are carried where their run has elements.
-use borrow.Author.Rules.{rules}
-use native.Mathlib.Omega.{arith}
 use borrow.Author.Tests.{ne_eqb}
 use mathlib.Core.Path.{ap}
 use Prim.Native.Nat.{◌+◌, ◌*◌, ◌/◌}

@@ -1,6 +1,4 @@
 -- `time_in` meets its contract: what is_time let pass fits.
-use borrow.Author.Rules.{rules}
-use native.Mathlib.Omega.{arith}
 use Rattle.digits.specs.Meaning.{time_from}
 use Rattle.digits.proofs.time_in.Goals as goal
 

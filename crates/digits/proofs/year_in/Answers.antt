@@ -1,7 +1,6 @@
 -- `year_in` meets its contract: two digits make a number below 100.
 use native.Mathlib.Omega.{arith}
 use Rattle.digits.specs.Meaning.{year-99}
-use borrow.Author.Rules.{rules}
 use Rattle.digits.proofs.year_in.Goals as goal
 
 pub overflow_cast-result : goal.overflow_cast-result

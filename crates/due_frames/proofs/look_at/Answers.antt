@@ -1,11 +1,9 @@
 -- `look_at` meets its contract: what Read answers for the frame decides.
-use borrow.Author.Rules.{rules}
 use native.Mathlib.Omega.{arith}
 use mathlib.Core.Path.{ap, ◌∙◌}
-use Prim.Native.Nat.{ℕ}
 use Rattle.timecode.specs.declared.Reading.{Reading}
 use Rattle.timecode.specs.declared.Reading.TheVariants.{Accepted}
-use Rattle.due_frames.specs.Moves.{look-end, look-by}
+use Rattle.due_frames.proofs.Moves.{look-end, look-by}
 use Rattle.due_frames.specs.declared.Looked.{Looked}
 use Rattle.due_frames.proofs.look_at.Goals as goal
 

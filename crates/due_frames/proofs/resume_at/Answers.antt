@@ -1,9 +1,7 @@
 -- `resume_at` meets its contract: what Scan answers for the part decides.
-use borrow.Author.Rules.{rules}
-use native.Mathlib.Omega.{arith}
 use Rattle.timecode.specs.declared.Scanned.{Scanned}
 use Rattle.timecode.specs.declared.Scanned.TheVariants.{Found, None}
-use Rattle.due_frames.specs.Moves.{resume-by}
+use Rattle.due_frames.proofs.Moves.{resume-by}
 use Rattle.due_frames.proofs.resume_at.Goals as goal
 
 pub returns-in-Found : goal.returns-in-Found

@@ -1,7 +1,6 @@
 -- `check_forward` meets its contract, check by check.
 use borrow.Author.Tests.{le-leb, lt-leb, eq-eqb, ne_eqb}
 use Rattle.timecode.specs.Editions.{check_forward}
-use borrow.Author.Rules.{rules}
 use Rattle.editions.proofs.check_forward.Goals as goal
 
 pub returns-then-year-gt-LAST_YEAR : goal.returns-then-year-gt-LAST_YEAR

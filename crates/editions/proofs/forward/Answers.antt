@@ -1,13 +1,12 @@
 -- `forward` meets its contract: as read and checked, or refused with the lent frame as it was.
 use mathlib.Core.Path.{refl, sym, ◌∙◌}
-use borrow.Author.Tests.{not-true, not-false, eqb-true}
+use borrow.Author.Tests.{eqb-true}
 use lib.Dec.{eqb}
 use lib.ListN.{length}
 use Rattle.timecode.specs.Formats.{size}
-use Rattle.timecode.specs.Laws.Reading.{accepted-was-written}
-use Rattle.timecode.specs.Laws.Tests.{and_right}
+use Rattle.timecode.proofs.Laws.Reading.{accepted-was-written}
+use Rattle.timecode.proofs.Laws.Tests.{and_right}
 use Rattle.timecode.specs.Editions.{check_forward, forward_of, forward_leaves}
-use borrow.Author.Rules.{rules}
 use Rattle.editions.proofs.forward.Goals as goal
 
 pub returns-then-not-is_earlier : goal.returns-then-not-is_earlier

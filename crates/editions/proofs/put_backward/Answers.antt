@@ -2,7 +2,6 @@
 use native.Mathlib.Omega.{arith}
 use mathlib.Core.Path.{◌∙◌}
 use Rattle.editions.specs.Converting.{later-from, earlier-room, backward-put}
-use borrow.Author.Rules.{rules}
 use Rattle.editions.proofs.put_backward.Goals as goal
 
 pub without_year-requires : goal.without_year-requires

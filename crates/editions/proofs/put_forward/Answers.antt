@@ -1,7 +1,6 @@
 -- `put_forward` meets its contract: what the checks let pass, Write takes.
-use mathlib.Core.Path.{refl, sym, ◌∙◌}
+use mathlib.Core.Path.{sym, ◌∙◌}
 use Rattle.editions.specs.Converting.{earlier-below, forward-put}
-use borrow.Author.Rules.{rules}
 use Rattle.editions.proofs.put_forward.Goals as goal
 
 pub with_year-requires : goal.with_year-requires

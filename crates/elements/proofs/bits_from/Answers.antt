@@ -1,9 +1,9 @@
 -- `bits_from` meets its contract: the bits of the runs from j on. At most 18 numbers below 2^59 are added up.
 use native.Mathlib.Omega.{arith}
-use mathlib.Core.Path.{◌≡◌, refl, ap, ap₂, ◌∙◌}
-use Prim.Native.Nat.{◌+◌, ◌*◌, ◌-◌, ◌%◌, ◌^◌, ◌≤◌}
-use lib.ListN.{get_or, length}
-use Rattle.elements.specs.RunBits.{packed_runs, packed_start, packed-turn}
+use mathlib.Core.Path.{ap, ap₂, ◌∙◌}
+use Prim.Native.Nat.{◌+◌, ◌*◌, ◌-◌, ◌%◌, ◌^◌}
+use lib.ListN.{get_or}
+use Rattle.elements.specs.RunBits.{packed_start, packed-turn}
 use Rattle.elements.proofs.bits_from.Goals as goal
 
 pub loop-j-init : goal.loop-j-init

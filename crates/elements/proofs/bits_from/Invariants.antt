@@ -1,8 +1,6 @@
-use native.Mathlib.Omega.{arith}
-use mathlib.Core.Path.{◌≡◌, refl, ap, ap₂, ◌∙◌}
-use Prim.Native.Nat.{◌+◌, ◌*◌, ◌-◌, ◌%◌, ◌^◌, ◌≤◌}
-use lib.ListN.{get_or, length}
-use Rattle.elements.specs.RunBits.{packed_runs, packed_start, packed-turn}
+use mathlib.Core.Path.{◌≡◌}
+use Prim.Native.Nat.{◌*◌, ◌-◌, ◌≤◌}
+use Rattle.elements.specs.RunBits.{packed_runs}
 use Rattle.elements.proofs.bits_from.Given as goal
 
 abbrev pub invariant-loop-j : goal.invariant-loop-j

@@ -1,12 +1,9 @@
 -- `digit_at` meets its contract: the bits from k on, which bytes keep below 255 times the weight above them.
 use mathlib.Core.Path.{◌≡◌}
-use Prim.Native.Nat.{suc, ◌+◌, ◌*◌, ◌-◌, ◌^◌, ◌≤◌}
+use Prim.Native.Nat.{suc, ◌+◌, ◌-◌}
 use native.Mathlib.Omega.{arith}
-use lib.Pow.{pow_mono}
-use lib.ListN.{get_or}
 use native.Mathlib.Nat.{two-pow-succ}
-use Rattle.timecode.specs.Layout.{value}
-use Rattle.elements.specs.RunLoops.{value-start, value-turn, value-end}
+use Rattle.elements.specs.RunLoops.{value-start, value-turn}
 use Rattle.elements.proofs.digit_at.Goals as goal
 
 pub loop-k-init : goal.loop-k-init

@@ -1,11 +1,7 @@
 use mathlib.Core.Path.{◌≡◌}
-use Prim.Native.Nat.{suc, ◌+◌, ◌*◌, ◌-◌, ◌^◌, ◌≤◌}
-use native.Mathlib.Omega.{arith}
-use lib.Pow.{pow_mono}
+use Prim.Native.Nat.{◌+◌, ◌*◌, ◌-◌, ◌^◌, ◌≤◌}
 use lib.ListN.{get_or}
-use native.Mathlib.Nat.{two-pow-succ}
 use Rattle.timecode.specs.Layout.{value}
-use Rattle.elements.specs.RunLoops.{value-start, value-turn, value-end}
 use Rattle.elements.proofs.digit_at.Given as goal
 
 abbrev pub invariant-loop-k : goal.invariant-loop-k

@@ -1,5 +1,4 @@
 -- `digits_in` meets its contract: one run after the other.
-use native.Mathlib.Omega.{arith}
 use Rattle.elements.specs.RunLoops.{digits_at}
 use Rattle.elements.proofs.digits_in.Goals as goal
 

@@ -1,9 +1,7 @@
 -- `element` meets its contract: the table has each four bits as four bytes.
-use borrow.Author.Rules.{rules}
-use mathlib.Core.Path.{◌≡◌, refl, ap, ◌∙◌}
+use mathlib.Core.Path.{ap, ◌∙◌}
 use Prim.Native.Nat.{◌*◌, ◌/◌, ◌%◌, ◌^◌}
-use native.Mathlib.Omega.{arith}
-use lib.ListN.{get_or, length}
+use lib.ListN.{get_or}
 use Rattle.elements.specs.Tens.{element-bit}
 use Rattle.elements.proofs.element.Goals as goal
 

@@ -1,5 +1,4 @@
 -- `placed` meets its contract: nine bits lose none.
-use borrow.Author.Rules.{rules}
 use native.Mathlib.Omega.{arith}
 use Prim.Native.Nat.{◌+◌, ◌-◌, ◌%◌}
 use lib.Pow.{pow_mono, shl_exact, shl_lt}

@@ -1,9 +1,8 @@
 -- `put_ten` meets its contract: eight bits one by one, the ninth, and the marks at the places that the table gives.
-use borrow.Author.Rules.{rules}
 use mathlib.Core.Path.{◌≡◌, refl, ap, ap₂, ◌∙◌}
-use Prim.Native.Nat.{◌+◌, ◌*◌, ◌-◌, ◌/◌, ◌%◌, ◌^◌, ◌≤◌}
+use Prim.Native.Nat.{◌+◌, ◌*◌, ◌-◌, ◌/◌, ◌%◌, ◌^◌}
 use native.Mathlib.Omega.{arith}
-use lib.ListN.{get_or, length, set, length-set}
+use lib.ListN.{get_or, set, length-set}
 use Rattle.elements.specs.Stores.{bits_stored, bits-stored-none, bits-stored-step}
 use Rattle.elements.specs.Tens.{mark-place, first-ten, later-ten}
 use Rattle.elements.proofs.put_ten.Goals as goal

@@ -1,10 +1,7 @@
-use borrow.Author.Rules.{rules}
-use mathlib.Core.Path.{◌≡◌, refl, ap, ap₂, ◌∙◌}
-use Prim.Native.Nat.{◌+◌, ◌*◌, ◌-◌, ◌/◌, ◌%◌, ◌^◌, ◌≤◌}
-use native.Mathlib.Omega.{arith}
-use lib.ListN.{get_or, length, set, length-set}
-use Rattle.elements.specs.Stores.{bits_stored, bits-stored-none, bits-stored-step}
-use Rattle.elements.specs.Tens.{mark-place, first-ten, later-ten}
+use mathlib.Core.Path.{◌≡◌}
+use Prim.Native.Nat.{◌-◌, ◌≤◌}
+use lib.ListN.{length}
+use Rattle.elements.specs.Stores.{bits_stored}
 use Rattle.elements.proofs.put_ten.Given as goal
 
 abbrev pub invariant-loop-j : goal.invariant-loop-j

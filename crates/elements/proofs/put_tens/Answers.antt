@@ -1,10 +1,9 @@
 -- `put_tens` meets its contract: the tens before k stand in the frame.
-use borrow.Author.Rules.{rules}
-use mathlib.Core.Path.{◌≡◌, refl, ap, ◌∙◌}
-use Prim.Native.Nat.{◌*◌, ◌-◌, ◌/◌, ◌^◌, ◌≤◌}
+use mathlib.Core.Path.{refl, ap, ◌∙◌}
+use Prim.Native.Nat.{◌*◌, ◌-◌, ◌/◌, ◌^◌}
 use native.Mathlib.Omega.{arith}
 use lib.ListN.{length}
-use Rattle.elements.specs.Tens.{ten, length-ten, tens, tens-start, tens-turn}
+use Rattle.elements.specs.Tens.{ten, length-ten, tens-start, tens-turn}
 use Rattle.elements.proofs.put_tens.Goals as goal
 
 pub loop-k-init : goal.loop-k-init

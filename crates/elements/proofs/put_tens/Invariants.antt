@@ -1,9 +1,7 @@
-use borrow.Author.Rules.{rules}
-use mathlib.Core.Path.{◌≡◌, refl, ap, ◌∙◌}
-use Prim.Native.Nat.{◌*◌, ◌-◌, ◌/◌, ◌^◌, ◌≤◌}
-use native.Mathlib.Omega.{arith}
+use mathlib.Core.Path.{◌≡◌}
+use Prim.Native.Nat.{◌-◌, ◌≤◌}
 use lib.ListN.{length}
-use Rattle.elements.specs.Tens.{ten, length-ten, tens, tens-start, tens-turn}
+use Rattle.elements.specs.Tens.{tens}
 use Rattle.elements.proofs.put_tens.Given as goal
 
 abbrev pub invariant-loop-k : goal.invariant-loop-k

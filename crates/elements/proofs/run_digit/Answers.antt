@@ -1,13 +1,10 @@
 -- `run_digit` meets its contract: 0, or the digit at a run that lies in the frame.
-use borrow.Author.Rules.{rules}
-use borrow.Author.Tests.{not-true, not-false}
-use native.Mathlib.Omega.{arith}
-use mathlib.Core.Path.{◌≡◌, refl, sym, ap, ap₂, ◌∙◌}
+use mathlib.Core.Path.{◌≡◌, sym, ap, ap₂, ◌∙◌}
 use mathlib.Core.Bool.{true}
 use Prim.Native.Nat.{◌+◌}
-use lib.ListN.{get_or, length}
+use lib.ListN.{get_or}
 use Rattle.timecode.specs.Layout.{value}
-use Rattle.layout.specs.Tables.{run_starts, full_widths, is_carried, run_widths}
+use Rattle.layout.specs.Tables.{run_starts, is_carried, run_widths}
 use Rattle.elements.specs.RunLoops.{run_digit, carried-width, no_digit}
 use Rattle.elements.proofs.run_digit.Goals as goal
 

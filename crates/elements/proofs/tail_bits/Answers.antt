@@ -1,10 +1,7 @@
 -- `tail_bits` meets its contract: these runs start at 60 or later.
-use borrow.Author.Rules.{rules}
-use native.Mathlib.Omega.{arith}
-use mathlib.Core.Path.{refl, ap₂, ◌∙◌}
+use mathlib.Core.Path.{ap₂, ◌∙◌}
 use Prim.Native.Nat.{◌+◌}
 use Rattle.elements.specs.RunBits.{tail-packed}
-use Rattle.elements.specs.RunLoops.{starts-within}
 use Rattle.elements.proofs.tail_bits.Goals as goal
 
 pub returns : goal.returns

@@ -1,9 +1,6 @@
 -- `year_bits` meets its contract: the units as any digit, and four bits of the tens.
-use mathlib.Core.Path.{◌≡◌, refl}
 use native.Mathlib.Omega.{arith}
-use lib.ListN.{length}
 use Rattle.elements.specs.RunBits.{packed_year}
-use borrow.Author.Rules.{rules}
 use Rattle.elements.proofs.year_bits.Goals as goal
 
 pub returns : goal.returns

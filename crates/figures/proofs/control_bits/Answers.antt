@@ -1,5 +1,4 @@
 -- `control_bits` meets its contract: nine for each range that is carried.
-use borrow.Author.Rules.{rules}
 use Rattle.figures.specs.Ranges.{control_in}
 use Rattle.figures.proofs.control_bits.Goals as goal
 

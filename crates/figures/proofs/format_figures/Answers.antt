@@ -1,5 +1,4 @@
 -- `format_figures` meets its contract: the figures of the format's row, or number 1.
-use borrow.Author.Rules.{rules}
 use mathlib.Core.Path.{sym, ◌∙◌}
 use Rattle.figures.specs.Figures.{format_figures_of}
 use Rattle.figures.specs.Ranges.{control-total}

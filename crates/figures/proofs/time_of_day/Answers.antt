@@ -1,5 +1,4 @@
 -- `time_of_day` meets its contract: the clock of the hundredths, or number 2.
-use borrow.Author.Rules.{rules}
 use mathlib.Core.Path.{sym, ◌∙◌}
 use Rattle.figures.specs.Figures.{time_of_day_of}
 use Rattle.figures.specs.Ranges.{range-hundredths}

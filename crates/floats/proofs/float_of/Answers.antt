@@ -1,6 +1,5 @@
 -- `float_of` meets its contract: by the place of the infinities.
 use Rattle.floats.specs.Patterns.{above-infinity, up_to_infinity}
-use mathlib.Core.Path.{refl}
 use Rattle.floats.proofs.float_of.Goals as goal
 
 pub returns-then-bits-gt-INFINITE : goal.returns-then-bits-gt-INFINITE

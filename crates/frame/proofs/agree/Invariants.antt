@@ -1,14 +1,7 @@
-use borrow.Author.Rules.{rules}
-use borrow.Author.Tests.{eqb-true}
-use native.Mathlib.Omega.{arith}
-use native.Mathlib.Nat.{not-suc-le-zero}
-use mathlib.Core.Path.{◌≡◌, sym, ◌∙◌}
+use mathlib.Core.Path.{◌≡◌}
 use mathlib.Core.Bool.{true}
 use Prim.Native.Nat.{ℕ, ◌-◌, ◌≤◌, ◌<◌}
-use lib.Dec.{eqb}
 use lib.ListN.{get_or, length}
-use Rattle.timecode.specs.Laws.Tests.{and_left, and_right}
-use Rattle.frame.specs.Exits.{agree-turn}
 use Rattle.frame.proofs.agree.Given as goal
 
 abbrev pub invariant-loop-i : goal.invariant-loop-i

@@ -1,8 +1,7 @@
 -- `check_write` meets its contract: each way out is the definition's, by what the row gives.
-use borrow.Author.Rules.{rules}
 use mathlib.Core.Bool.{cond}
 use mathlib.Core.Path.{sym, ap, ◌∙◌}
-use borrow.Author.Tests.{not-true, not-false, eq-eqb, ne_eqb}
+use borrow.Author.Tests.{eq-eqb, ne_eqb}
 use lib.ListN.{length}
 use Rattle.timecode.specs.Formats.{size}
 use Rattle.timecode.specs.Frames.{write_of}

@@ -1,10 +1,9 @@
 -- `lowest_difference` meets its contract: the lowest index so far, or else the elements from index on decide.
-use borrow.Author.Rules.{rules}
 use native.Mathlib.Omega.{arith}
-use mathlib.Core.Path.{◌≡◌, refl, sym, ap, ◌∙◌}
-use Prim.Native.Nat.{ℕ, ◌+◌, ◌-◌, ◌≤◌, ◌<◌}
-use lib.ListN.{get_or, length, drop}
-use Rattle.frame.specs.Offences.{lowest_from, lowest_of, lowest_or, lowered, lowest-turn, lowered-below, lowest-end}
+use mathlib.Core.Path.{◌≡◌, sym, ap, ◌∙◌}
+use Prim.Native.Nat.{ℕ, ◌+◌, ◌-◌, ◌<◌}
+use lib.ListN.{get_or, drop}
+use Rattle.frame.specs.Offences.{lowest_from, lowest_or, lowered, lowest-turn, lowered-below, lowest-end}
 use Rattle.frame.proofs.lowest_difference.Goals as goal
 
 pub loop-index-preserved : goal.loop-index-preserved

@@ -1,9 +1,7 @@
-use borrow.Author.Rules.{rules}
-use native.Mathlib.Omega.{arith}
-use mathlib.Core.Path.{◌≡◌, refl, sym, ap, ◌∙◌}
-use Prim.Native.Nat.{ℕ, ◌+◌, ◌-◌, ◌≤◌, ◌<◌}
-use lib.ListN.{get_or, length, drop}
-use Rattle.frame.specs.Offences.{lowest_from, lowest_of, lowest_or, lowered, lowest-turn, lowered-below, lowest-end}
+use mathlib.Core.Path.{◌≡◌}
+use Prim.Native.Nat.{◌-◌, ◌≤◌, ◌<◌}
+use lib.ListN.{length, drop}
+use Rattle.frame.specs.Offences.{lowest_from, lowest_of, lowest_or}
 use Rattle.frame.proofs.lowest_difference.Given as goal
 
 abbrev pub invariant-loop-index : goal.invariant-loop-index

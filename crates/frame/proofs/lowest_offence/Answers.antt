@@ -1,7 +1,5 @@
 -- `lowest_offence` meets its contract: nothing where the two differ nowhere, else what stands at the lowest index.
-use borrow.Author.Rules.{rules}
 use borrow.Author.Tests.{eq-eqb, ne_eqb}
-use native.Mathlib.Omega.{arith}
 use mathlib.Core.Path.{sym, ◌∙◌}
 use Rattle.frame.specs.Offences.{offended-lowest}
 use Rattle.frame.proofs.lowest_offence.Goals as goal

@@ -1,5 +1,4 @@
 -- `offence_beside` meets its contract: in a frame of 100 and in one of 60 the digits are written again for as many elements.
-use borrow.Author.Rules.{rules}
 use native.Mathlib.Omega.{arith}
 use mathlib.Core.Path.{refl, sym, ap, ◌∙◌}
 use mathlib.Core.List.{List}
@@ -7,7 +6,7 @@ use Prim.Native.Nat.{ℕ}
 use lib.ListN.{length, take}
 use lib.Seq.{length-take-le, take_all}
 use Rattle.elements.specs.RunBits.{put_in}
-use Rattle.elements.specs.Tens.{not-100, tens, length-tens}
+use Rattle.elements.specs.Tens.{not-100, tens}
 use Rattle.frame.specs.Exits.{put-60, put-100, beside-asked}
 use Rattle.frame.specs.Offences.{offence_in}
 use Rattle.frame.proofs.offence_beside.Goals as goal

@@ -1,5 +1,4 @@
 -- `offence_in` meets its contract: agreed, or a symbol above 3, or the lowest index where they differ.
-use borrow.Author.Rules.{rules}
 use mathlib.Core.Path.{sym, ◌∙◌}
 use Rattle.frame.specs.Exits.{agree-nothing}
 use Rattle.frame.specs.Offences.{offence_in}

@@ -1,12 +1,11 @@
 -- `put_frame` meets its contract: the digits of the time fit their runs, and the elements are theirs.
 use borrow.Author.Rules.{rules}
-use native.Mathlib.Omega.{arith}
 use mathlib.Core.Path.{◌≡◌, sym, ap, ap₂, ◌∙◌}
 use lib.ListN.{length}
-use Rattle.timecode.specs.Laws.Table.{size-range}
+use Rattle.timecode.proofs.Laws.Table.{size-range}
 use Rattle.layout.specs.Runs.{code-small, code-written}
 use Rattle.elements.specs.RunBits.{put_in, put_right}
-use Rattle.elements.specs.Tens.{frame-range, not-100, tens, length-tens}
+use Rattle.elements.specs.Tens.{not-100, tens, length-tens}
 use Rattle.frame.specs.Exits.{row-widths, put-60, put-100}
 use Rattle.frame.proofs.put_frame.Goals as goal
 

@@ -1,11 +1,10 @@
 -- `read` meets its contract: each way out is the definition's, by what the row gives.
-use borrow.Author.Rules.{rules}
 use mathlib.Core.Path.{refl, sym, ◌∙◌}
 use borrow.Author.Tests.{ne_eqb}
 use lib.ListN.{length}
 use Rattle.timecode.specs.Formats.{size}
 use Rattle.timecode.specs.Frames.{read_of}
-use Rattle.timecode.specs.Laws.Table.{x-size}
+use Rattle.timecode.proofs.Laws.Table.{x-size}
 use Rattle.frame.specs.Exits.{row-known}
 use Rattle.frame.proofs.read.Goals as goal
 

@@ -1,6 +1,5 @@
 -- `read_frame` meets its contract: what offends is refused, else the digits say it.
-use borrow.Author.Rules.{rules}
-use mathlib.Core.Path.{◌≡◌, sym, ap, subst, ◌∙◌}
+use mathlib.Core.Path.{sym, ap, subst, ◌∙◌}
 use Rattle.timecode.specs.Formats.{carries_leap, carries_year}
 use Rattle.timecode.specs.Layout.{decode}
 use Rattle.layout.specs.Runs.{code_runs}

@@ -1,10 +1,9 @@
 -- `write` meets its contract: done as checked, or refused with the frame as it was.
-use borrow.Author.Rules.{rules}
 use mathlib.Core.Path.{refl, sym, ◌∙◌}
 use lib.ListN.{length}
-use Rattle.timecode.specs.Demands.{refused-write-leaves}
-use Rattle.timecode.specs.Laws.Table.{x-size}
-use Rattle.timecode.specs.Laws.Writing.{taken, leaves}
+use Rattle.timecode.proofs.Demands.{refused-write-leaves}
+use Rattle.timecode.proofs.Laws.Table.{x-size}
+use Rattle.timecode.proofs.Laws.Writing.{taken, leaves}
 use Rattle.frame.specs.Exits.{is-frame}
 use Rattle.frame.proofs.write.Goals as goal
 

@@ -1,10 +1,9 @@
 -- `put_element` meets its contract.
-use borrow.Author.Rules.{rules}
 use native.Mathlib.Omega.{arith}
 use mathlib.Core.Path.{sym, ◌∙◌}
 use mathlib.Core.List.{[], ◌∷◌, append_assoc}
 use lib.ListN.{take}
-use Rattle.frametext.specs.Putting.{element-spaced, element-plain}
+use Rattle.frametext.proofs.Putting.{element-spaced, element-plain}
 use Rattle.frametext.proofs.put_element.Goals as goal
 
 pub returns-then-opens_group : goal.returns-then-opens_group

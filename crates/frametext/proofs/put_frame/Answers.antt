@@ -1,11 +1,9 @@
 -- `put_frame` meets its contract: what stands, followed by the rest of the frame, is the whole line.
 use native.Mathlib.Omega.{arith}
-use mathlib.Core.Path.{◌≡◌, refl, sym, ◌∙◌}
-use mathlib.Core.List.{◌++◌}
-use Prim.Native.Nat.{◌*◌, ◌-◌, ◌≤◌}
-use lib.ListN.{length, take, drop}
-use Rattle.frametext.specs.Characters.{frame_text}
-use Rattle.frametext.specs.Putting.{frame-turn, frame-done}
+use mathlib.Core.Path.{◌≡◌, ◌∙◌}
+use Prim.Native.Nat.{◌-◌}
+use lib.ListN.{length, take}
+use Rattle.frametext.proofs.Putting.{frame-turn, frame-done}
 use Rattle.frametext.proofs.put_frame.Goals as goal
 
 pub loop-i-preserved : goal.loop-i-preserved

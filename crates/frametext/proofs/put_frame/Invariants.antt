@@ -1,10 +1,8 @@
-use native.Mathlib.Omega.{arith}
-use mathlib.Core.Path.{◌≡◌, refl, sym, ◌∙◌}
+use mathlib.Core.Path.{◌≡◌}
 use mathlib.Core.List.{◌++◌}
 use Prim.Native.Nat.{◌*◌, ◌-◌, ◌≤◌}
 use lib.ListN.{length, take, drop}
 use Rattle.frametext.specs.Characters.{frame_text}
-use Rattle.frametext.specs.Putting.{frame-turn, frame-done}
 use Rattle.frametext.proofs.put_frame.Given as goal
 
 abbrev pub invariant-loop-i : goal.invariant-loop-i

@@ -1,9 +1,7 @@
 -- `put_line` meets its contract.
-use borrow.Author.Rules.{rules}
 use native.Mathlib.Omega.{arith}
 use mathlib.Core.Path.{refl, sym, ◌∙◌}
-use lib.Seq.{length-take-le}
-use Rattle.frametext.specs.Putting.{line-text, line-done, line_refused}
+use Rattle.frametext.proofs.Putting.{line-text, line-done, line_refused}
 use Rattle.frametext.proofs.put_line.Goals as goal
 
 pub returns-in-Done : goal.returns-in-Done

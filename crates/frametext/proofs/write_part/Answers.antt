@@ -1,11 +1,9 @@
 -- `write_part` meets its contract.
-use borrow.Author.Rules.{rules}
 use native.Mathlib.Omega.{arith}
 use mathlib.Core.Path.{sym, ◌∙◌}
 use Prim.Native.Nat.{◌≤◌}
 use lib.ListN.{length}
-use lib.Seq.{length-take-le}
-use Rattle.frametext.specs.Putting.{part-taken, part_length, part-written}
+use Rattle.frametext.proofs.Putting.{part-taken, part_length, part-written}
 use Rattle.frametext.proofs.write_part.Goals as goal
 
 pub returns : goal.returns

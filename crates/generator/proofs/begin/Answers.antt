@@ -1,11 +1,11 @@
 -- `begin` meets its contract.
-use borrow.Author.Rules.{rules}
 use mathlib.Core.Path.{ap, ◌∙◌}
 use Rattle.timecode.specs.declared.Stepped.{Stepped}
 use Rattle.timecode.specs.declared.Written.TheVariants.{Done}
 use Rattle.frametext.specs.declared.Lined.{Lined}
 use Rattle.generator.specs.Sending.{begun}
-use Rattle.generator.specs.Lines.{stepped_answer, taken_is, begun-step, begun-refused}
+use Rattle.generator.specs.Lines.{stepped_answer}
+use Rattle.generator.proofs.Lines.{taken_is, begun-step, begun-refused}
 use Rattle.generator.proofs.begin.Goals as goal
 
 pub returns-in-Line : goal.returns-in-Line

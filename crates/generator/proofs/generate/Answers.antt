@@ -1,11 +1,7 @@
 -- `generate` meets its contract: all but the frames left are put.
-use borrow.Author.Rules.{rules}
 use native.Mathlib.Omega.{arith}
-use native.Mathlib.Nat.{le_trans}
-use borrow.Author.Tests.{leb-true, leb-false}
-use mathlib.Core.Path.{◌≡◌, refl}
-use Prim.Native.Nat.{◌≤◌}
-use Rattle.generator.specs.Lines.{PutSoFar, put-start, put-turn, some-put}
+use mathlib.Core.Path.{refl}
+use Rattle.generator.proofs.Lines.{put-start, put-turn}
 use Rattle.generator.proofs.generate.Goals as goal
 
 pub loop-left-init : goal.loop-left-init

@@ -1,10 +1,6 @@
-use borrow.Author.Rules.{rules}
-use native.Mathlib.Omega.{arith}
-use native.Mathlib.Nat.{le_trans}
-use borrow.Author.Tests.{leb-true, leb-false}
-use mathlib.Core.Path.{◌≡◌, refl}
+use mathlib.Core.Path.{◌≡◌}
 use Prim.Native.Nat.{◌≤◌}
-use Rattle.generator.specs.Lines.{PutSoFar, put-start, put-turn, some-put}
+use Rattle.generator.specs.Lines.{PutSoFar}
 use Rattle.generator.proofs.generate.Given as goal
 
 abbrev pub invariant-loop-left : goal.invariant-loop-left

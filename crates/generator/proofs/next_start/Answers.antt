@@ -1,5 +1,4 @@
 -- `next_start` meets its contract.
-use borrow.Author.Rules.{rules}
 use Rattle.generator.specs.Sending.{next_start}
 use Rattle.generator.proofs.next_start.Goals as goal
 

@@ -1,10 +1,10 @@
 -- `put_next` meets its contract.
-use borrow.Author.Rules.{rules}
 use native.Mathlib.Omega.{arith}
 use mathlib.Core.Path.{sym, ap, ◌∙◌}
 use mathlib.Core.List.{append-nil}
 use Rattle.frametext.specs.declared.Lined.{Lined}
-use Rattle.generator.specs.Lines.{stepped_answer, taken_is, line-put, line-none, part_length}
+use Rattle.generator.specs.Lines.{stepped_answer}
+use Rattle.generator.proofs.Lines.{taken_is, line-put, line-none, part_length}
 use Rattle.generator.proofs.put_next.Goals as goal
 
 pub returns-in-Line : goal.returns-in-Line

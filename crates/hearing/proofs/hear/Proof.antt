@@ -5,7 +5,7 @@ use mathlib.Core.Path.{sym, ap, ◌∙◌}
 use mathlib.Core.List.{List}
 use Prim.Native.Nat.{ℕ}
 use lib.ListN.{length}
-use Rattle.characters.specs.Decoding.{feeds-few}
+use Rattle.characters.proofs.Decoding.{feeds-few}
 use Rattle.hearing.proofs.hear.Statement.{statement}
 use Rattle.hearing.proofs.hear.Tie as tie
 use Rattle.hearing.proofs.hear.Reads as reads

@@ -1,5 +1,4 @@
 -- `are_figures_finite` meets its contract: figure by figure.
-use borrow.Author.Rules.{rules}
 use Rattle.forecasts.specs.Forecasting.{figures_finite}
 use Rattle.holdover.proofs.are_figures_finite.Goals as goal
 

@@ -1,5 +1,4 @@
 -- `forecast` meets its contract: by the test.
-use borrow.Author.Rules.{rules}
 use Rattle.forecasts.specs.Forecasting.{forecast_of}
 use Rattle.holdover.proofs.forecast.Goals as goal
 

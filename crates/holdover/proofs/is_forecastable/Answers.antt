@@ -1,5 +1,4 @@
 -- `is_forecastable` meets its contract: test by test.
-use borrow.Author.Rules.{rules}
 use mathlib.Core.Path.{◌≡◌}
 use mathlib.Core.Bool.{true, false, not}
 use lib.Ieee.{eq, ne, of_bits}

@@ -4,7 +4,7 @@ use mathlib.Core.Path.{◌≡◌, sym, ◌∙◌}
 use mathlib.Core.Bool.{true, false}
 use lib.Dec.{eqb}
 use Rattle.timecode.specs.Formats.{A, B, carries_year}
-use Rattle.timecode.specs.Laws.Tests.{by-test}
+use Rattle.timecode.proofs.Laws.Tests.{by-test}
 use Rattle.layout.specs.Tables.{has_year}
 use Rattle.layout.proofs.carries_year.Goals as goal
 

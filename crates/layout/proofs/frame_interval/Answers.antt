@@ -1,7 +1,7 @@
 -- `frame_interval` meets its contract: the letter's own figure, whatever the expression.
 use mathlib.Core.Path.{◌≡◌, refl, sym}
 use Rattle.timecode.specs.Formats.{interval, row_of, carries_year}
-use Rattle.timecode.specs.Laws.Table.{interval-range}
+use Rattle.timecode.proofs.Laws.Table.{interval-range}
 use Rattle.layout.proofs.frame_interval.Goals as goal
 
 pub returns : goal.returns

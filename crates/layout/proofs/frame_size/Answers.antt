@@ -1,7 +1,7 @@
 -- `frame_size` meets its contract: the letter's own figure, whatever the expression.
 use mathlib.Core.Path.{◌≡◌, refl, sym}
 use Rattle.timecode.specs.Formats.{size, row_of, carries_year}
-use Rattle.timecode.specs.Laws.Table.{size-range}
+use Rattle.timecode.proofs.Laws.Table.{size-range}
 use Rattle.layout.proofs.frame_size.Goals as goal
 
 pub returns : goal.returns

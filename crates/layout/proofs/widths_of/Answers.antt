@@ -3,7 +3,7 @@ use native.Mathlib.Omega.{arith}
 use mathlib.Core.Path.{◌≡◌}
 use mathlib.Core.Bool.{cond}
 use lib.ListN.{get_or}
-use Rattle.timecode.specs.Laws.Runs.{fill_end}
+use Rattle.timecode.proofs.Laws.Runs.{fill_end}
 use Rattle.layout.specs.Tables.{full_widths, is_carried, run_widths}
 use Rattle.layout.proofs.widths_of.Goals as goal
 

@@ -1,7 +1,7 @@
 -- `are_rising` meets its contract.
-use Rattle.listeners.specs.Indexes.{every_index, rises_at, index_on, index-out, index-end}
-use Prim.Native.Nat.{◌-◌, ◌≤◌}
-use mathlib.Core.Path.{◌≡◌, refl, sym, ◌∙◌}
+use Rattle.listeners.specs.Indexes.{rises_at, index_on, index-out, index-end}
+use Prim.Native.Nat.{◌-◌}
+use mathlib.Core.Path.{sym, ◌∙◌}
 use native.Mathlib.Omega.{arith}
 use Rattle.listeners.proofs.are_rising.Goals as goal
 

@@ -1,7 +1,6 @@
-use Rattle.listeners.specs.Indexes.{every_index, rises_at, index_on, index-out, index-end}
+use Rattle.listeners.specs.Indexes.{every_index, rises_at}
 use Prim.Native.Nat.{◌-◌, ◌≤◌}
-use mathlib.Core.Path.{◌≡◌, refl, sym, ◌∙◌}
-use native.Mathlib.Omega.{arith}
+use mathlib.Core.Path.{◌≡◌}
 use Rattle.listeners.proofs.are_rising.Given as goal
 
 abbrev pub invariant-loop-i : goal.invariant-loop-i

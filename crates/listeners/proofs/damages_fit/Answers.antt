@@ -1,6 +1,5 @@
 -- `damages_fit` meets its contract.
 use Rattle.listeners.specs.Indexes.{damages_fit}
-use borrow.Author.Rules.{rules}
 use Rattle.listeners.proofs.damages_fit.Goals as goal
 
 pub returns-then-are_rising : goal.returns-then-are_rising

@@ -1,11 +1,8 @@
 -- `ends_fit` meets its contract.
 use Rattle.listeners.specs.Indexes.{ends_on, ends-out, ends-end}
-use Rattle.simulation.specs.Lent.{ends_fit}
-use Prim.Native.Nat.{◌-◌, ◌≤◌}
-use lib.ListN.{get_or, length, drop}
-use mathlib.Core.Path.{◌≡◌, refl, sym}
+use Prim.Native.Nat.{◌-◌}
+use mathlib.Core.Path.{sym}
 use native.Mathlib.Omega.{arith}
-use borrow.Author.Rules.{rules}
 use Rattle.listeners.proofs.ends_fit.Goals as goal
 
 pub returns-then-end-from : goal.returns-then-end-from

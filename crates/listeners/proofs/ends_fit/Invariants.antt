@@ -1,10 +1,7 @@
-use Rattle.listeners.specs.Indexes.{ends_on, ends-out, ends-end}
 use Rattle.simulation.specs.Lent.{ends_fit}
 use Prim.Native.Nat.{◌-◌, ◌≤◌}
-use lib.ListN.{get_or, length, drop}
-use mathlib.Core.Path.{◌≡◌, refl, sym}
-use native.Mathlib.Omega.{arith}
-use borrow.Author.Rules.{rules}
+use lib.ListN.{length, drop}
+use mathlib.Core.Path.{◌≡◌}
 use Rattle.listeners.proofs.ends_fit.Given as goal
 
 abbrev pub invariant-loop-j : goal.invariant-loop-j

@@ -1,10 +1,8 @@
 -- `have_symbols` meets its contract.
-use Rattle.listeners.specs.Indexes.{every_index, index_on, index-out, index-end}
-use Rattle.timecode.specs.Formats.{is_symbol}
-use Prim.Native.Nat.{◌-◌, ◌≤◌}
-use lib.ListN.{get_or}
+use Rattle.listeners.specs.Indexes.{index_on, index-out, index-end}
+use Prim.Native.Nat.{◌-◌}
 use borrow.Author.Tests.{le-leb, lt-leb}
-use mathlib.Core.Path.{◌≡◌, refl, sym, ◌∙◌}
+use mathlib.Core.Path.{sym, ◌∙◌}
 use native.Mathlib.Omega.{arith}
 use Rattle.listeners.proofs.have_symbols.Goals as goal
 

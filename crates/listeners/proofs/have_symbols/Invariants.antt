@@ -1,10 +1,8 @@
-use Rattle.listeners.specs.Indexes.{every_index, index_on, index-out, index-end}
+use Rattle.listeners.specs.Indexes.{every_index}
 use Rattle.timecode.specs.Formats.{is_symbol}
 use Prim.Native.Nat.{◌-◌, ◌≤◌}
 use lib.ListN.{get_or}
-use borrow.Author.Tests.{le-leb, lt-leb}
-use mathlib.Core.Path.{◌≡◌, refl, sym, ◌∙◌}
-use native.Mathlib.Omega.{arith}
+use mathlib.Core.Path.{◌≡◌}
 use Rattle.listeners.proofs.have_symbols.Given as goal
 
 abbrev pub invariant-loop-i : goal.invariant-loop-i

@@ -1,12 +1,9 @@
 -- `listeners_fit` meets its contract.
-use Rattle.listeners.specs.Indexes.{every_index, damages_fit, index_on, index-out, index-end, end-within, starts-before}
-use Rattle.simulation.specs.Lent.{start_of}
-use Prim.Native.Nat.{◌-◌, ◌≤◌}
-use lib.ListN.{get_or, length}
+use Rattle.listeners.specs.Indexes.{damages_fit, index_on, index-out, index-end, end-within, starts-before}
+use Prim.Native.Nat.{◌-◌}
 use native.Mathlib.Numerals.{add-one}
-use mathlib.Core.Path.{◌≡◌, refl, sym, ap, ◌∙◌}
+use mathlib.Core.Path.{refl, sym, ◌∙◌}
 use native.Mathlib.Omega.{arith}
-use borrow.Author.Rules.{rules}
 use Rattle.listeners.proofs.listeners_fit.Goals as goal
 
 pub damages_fit-requires : goal.damages_fit-requires

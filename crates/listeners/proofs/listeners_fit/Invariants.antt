@@ -1,11 +1,8 @@
-use Rattle.listeners.specs.Indexes.{every_index, damages_fit, index_on, index-out, index-end, end-within, starts-before}
+use Rattle.listeners.specs.Indexes.{every_index, damages_fit}
 use Rattle.simulation.specs.Lent.{start_of}
 use Prim.Native.Nat.{◌-◌, ◌≤◌}
 use lib.ListN.{get_or, length}
-use native.Mathlib.Numerals.{add-one}
-use mathlib.Core.Path.{◌≡◌, refl, sym, ap, ◌∙◌}
-use native.Mathlib.Omega.{arith}
-use borrow.Author.Rules.{rules}
+use mathlib.Core.Path.{◌≡◌}
 use Rattle.listeners.proofs.listeners_fit.Given as goal
 
 abbrev pub invariant-loop-j : goal.invariant-loop-j

@@ -1,7 +1,6 @@
 -- `rises_at` meets its contract.
 use Rattle.listeners.specs.Indexes.{rises_at}
 use borrow.Author.Tests.{lt-ltb, le-ltb}
-use borrow.Author.Rules.{rules}
 use Rattle.listeners.proofs.rises_at.Goals as goal
 
 pub returns-then-to-i-lt2 : goal.returns-then-to-i-lt2

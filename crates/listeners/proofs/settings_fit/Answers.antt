@@ -1,11 +1,9 @@
 -- `settings_fit` meets its contract.
-use Rattle.listeners.specs.Indexes.{every_index, index_on, index-out, index-end}
+use Rattle.listeners.specs.Indexes.{index_on, index-out, index-end}
 use Rattle.timecode.specs.Stream.{is_setting}
-use Prim.Native.Nat.{◌-◌, ◌≤◌}
-use lib.ListN.{get_or, length}
-use mathlib.Core.Path.{◌≡◌, refl, sym, ◌∙◌}
+use Prim.Native.Nat.{◌-◌}
+use mathlib.Core.Path.{sym, ◌∙◌}
 use native.Mathlib.Omega.{arith}
-use borrow.Author.Rules.{rules}
 use Rattle.listeners.proofs.settings_fit.Goals as goal
 
 pub loop-j-preserved : goal.loop-j-preserved

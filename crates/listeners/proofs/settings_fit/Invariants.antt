@@ -1,10 +1,8 @@
-use Rattle.listeners.specs.Indexes.{every_index, index_on, index-out, index-end}
+use Rattle.listeners.specs.Indexes.{every_index}
 use Rattle.timecode.specs.Stream.{is_setting}
 use Prim.Native.Nat.{◌-◌, ◌≤◌}
 use lib.ListN.{get_or, length}
-use mathlib.Core.Path.{◌≡◌, refl, sym, ◌∙◌}
-use native.Mathlib.Omega.{arith}
-use borrow.Author.Rules.{rules}
+use mathlib.Core.Path.{◌≡◌}
 use Rattle.listeners.proofs.settings_fit.Given as goal
 
 abbrev pub invariant-loop-j : goal.invariant-loop-j

@@ -1,8 +1,6 @@
 -- `count_answer` meets its contract.
 use Rattle.listening.specs.Counted.{count_answer}
-use mathlib.Core.Path.{◌∙◌}
 use borrow.Author.Tests.{eq-eqb, ne_eqb}
-use borrow.Author.Rules.{rules}
 use Rattle.listening.proofs.count_answer.Goals as goal
 
 pub returns-then-number-end : goal.returns-then-number-end

@@ -1,9 +1,7 @@
 -- `hear` meets its contract.
-use Rattle.listening.specs.Counted.{HeardTo, heard-start, heard-ready, heard-bound, heard_all, heard-stride}
-use Prim.Native.Nat.{◌-◌, ◌≤◌}
-use mathlib.Core.Path.{◌≡◌, ◌∙◌}
+use Rattle.listening.specs.Counted.{heard-start, heard-ready, heard-bound, heard-stride}
+use Prim.Native.Nat.{◌-◌}
 use native.Mathlib.Omega.{arith}
-use borrow.Author.Rules.{rules}
 use Rattle.listening.proofs.hear.Goals as goal
 
 pub loop-i-init : goal.loop-i-init

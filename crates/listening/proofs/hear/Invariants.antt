@@ -1,8 +1,5 @@
-use Rattle.listening.specs.Counted.{HeardTo, heard-start, heard-ready, heard-bound, heard_all, heard-stride}
+use Rattle.listening.specs.Counted.{HeardTo}
 use Prim.Native.Nat.{◌-◌, ◌≤◌}
-use mathlib.Core.Path.{◌≡◌, ◌∙◌}
-use native.Mathlib.Omega.{arith}
-use borrow.Author.Rules.{rules}
 use Rattle.listening.proofs.hear.Given as goal
 
 abbrev pub invariant-loop-i : goal.invariant-loop-i

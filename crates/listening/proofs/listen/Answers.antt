@@ -2,7 +2,6 @@
 use Rattle.listening.specs.FrameDamages.{put-start}
 use Rattle.listening.specs.Frames.{none-behind, hears}
 use mathlib.Core.Path.{sym, ◌∙◌}
-use borrow.Author.Rules.{rules}
 use Rattle.listening.proofs.listen.Goals as goal
 
 pub returns : goal.returns

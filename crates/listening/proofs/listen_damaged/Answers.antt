@@ -1,7 +1,6 @@
 -- `listen_damaged` meets its contract.
-use Rattle.listening.specs.Frames.{heard-small, hears}
+use Rattle.listening.specs.Frames.{heard-small}
 use native.Mathlib.Omega.{arith}
-use borrow.Author.Rules.{rules}
 use Rattle.listening.proofs.listen_damaged.Goals as goal
 
 pub hear-requires : goal.hear-requires

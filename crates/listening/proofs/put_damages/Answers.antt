@@ -1,9 +1,7 @@
 -- `put_damages` meets its contract.
-use Rattle.listening.specs.FrameDamages.{PutUpTo, put-start, put-more, put-none}
-use Prim.Native.Nat.{◌-◌, ◌≤◌}
-use mathlib.Core.Path.{◌∙◌}
+use Rattle.listening.specs.FrameDamages.{put-start, put-more, put-none}
+use Prim.Native.Nat.{◌-◌}
 use native.Mathlib.Omega.{arith}
-use borrow.Author.Rules.{rules}
 use Rattle.listening.proofs.put_damages.Goals as goal
 
 pub loop-at-init : goal.loop-at-init

@@ -1,8 +1,5 @@
-use Rattle.listening.specs.FrameDamages.{PutUpTo, put-start, put-more, put-none}
-use Prim.Native.Nat.{◌-◌, ◌≤◌}
-use mathlib.Core.Path.{◌∙◌}
-use native.Mathlib.Omega.{arith}
-use borrow.Author.Rules.{rules}
+use Rattle.listening.specs.FrameDamages.{PutUpTo}
+use Prim.Native.Nat.{◌-◌}
 use Rattle.listening.proofs.put_damages.Given as goal
 
 abbrev pub invariant-loop-at : goal.invariant-loop-at

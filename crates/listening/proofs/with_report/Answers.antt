@@ -1,6 +1,5 @@
 -- `with_report` meets its contract.
 use Rattle.listening.specs.Counted.{with_report}
-use borrow.Author.Rules.{rules}
 use Rattle.listening.proofs.with_report.Goals as goal
 
 pub returns : goal.returns

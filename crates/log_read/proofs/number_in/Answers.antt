@@ -1,7 +1,7 @@
 -- `number_in` meets its contract: the bytes from i on.
 use Prim.Native.Nat.{◌+◌, ◌-◌}
 use native.Mathlib.Omega.{arith}
-use Rattle.log_read.specs.Gathering.{Gathered, gathered-start, gathered-room, gathered-turn, gathered-end}
+use Rattle.log_read.specs.Gathering.{gathered-start, gathered-room, gathered-turn}
 use Rattle.log_read.proofs.number_in.Goals as goal
 
 pub loop-i-init : goal.loop-i-init

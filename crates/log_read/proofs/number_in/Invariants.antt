@@ -1,6 +1,5 @@
-use Prim.Native.Nat.{◌+◌, ◌-◌}
-use native.Mathlib.Omega.{arith}
-use Rattle.log_read.specs.Gathering.{Gathered, gathered-start, gathered-room, gathered-turn, gathered-end}
+use Prim.Native.Nat.{◌-◌}
+use Rattle.log_read.specs.Gathering.{Gathered}
 use Rattle.log_read.proofs.number_in.Given as goal
 
 abbrev pub invariant-loop-i : goal.invariant-loop-i

@@ -1,7 +1,5 @@
 -- `read_record` meets its contract: 19, 20, the ranges.
 use mathlib.Core.Path.{sym, ◌∙◌}
-use native.Mathlib.Omega.{arith}
-use borrow.Author.Rules.{rules}
 use Rattle.log_read.specs.Parsing.{read_short, read-improper, read-passed, read-refused}
 use Rattle.log_read.proofs.read_record.Goals as goal
 

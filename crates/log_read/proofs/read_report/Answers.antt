@@ -1,5 +1,4 @@
 -- `read_report` meets its contract: 12, none at the end, then the record.
-use borrow.Author.Rules.{rules}
 use Rattle.log_read.specs.Parsing.{read_past, read-end, read-inside}
 use Rattle.log_read.proofs.read_report.Goals as goal
 

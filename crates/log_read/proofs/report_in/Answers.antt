@@ -4,7 +4,6 @@ use Prim.Native.Nat.{ℕ, ◌+◌}
 use native.Mathlib.Omega.{arith}
 use lib.ListN.{get_or}
 use Rattle.log_read.specs.Parsing.{four-sizes, report-read}
-use borrow.Author.Rules.{rules}
 use Rattle.log_read.proofs.report_in.Goals as goal
 
 pub field_in-day-requires : goal.field_in-day-requires

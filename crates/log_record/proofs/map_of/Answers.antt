@@ -1,7 +1,6 @@
 -- `map_of` meets its contract: the four bits.
 use native.Mathlib.Omega.{arith}
 use Rattle.report_log.specs.Log.{fields_of, map_of}
-use borrow.Author.Rules.{rules}
 use Rattle.log_record.proofs.map_of.Goals as goal
 
 pub returns : goal.returns

@@ -1,7 +1,6 @@
 -- `record_size` meets its contract: the four widths.
 use native.Mathlib.Omega.{arith}
 use Rattle.report_log.specs.Log.{fields_of, size_of}
-use borrow.Author.Rules.{rules}
 use Rattle.log_record.proofs.record_size.Goals as goal
 
 pub returns : goal.returns

@@ -1,7 +1,6 @@
 -- `put_field` meets its contract: it puts nothing where the field is as before.
 use native.Mathlib.Omega.{arith}
-use Rattle.log_write.specs.Parts.{field-kept, field_room, field_put}
-use borrow.Author.Rules.{rules}
+use Rattle.log_write.specs.Parts.{field_room, field_put}
 use Rattle.log_write.proofs.put_field.Goals as goal
 
 pub put_number-requires : goal.put_number-requires

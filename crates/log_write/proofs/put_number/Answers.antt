@@ -1,7 +1,7 @@
 -- `put_number` meets its contract: the rest of the number is still to be put.
 use native.Mathlib.Omega.{arith}
 use Prim.Native.Nat.{◌-◌}
-use Rattle.log_write.specs.Parts.{PutTo, put-start, put-turn, put-end}
+use Rattle.log_write.specs.Parts.{put-turn, put-end}
 use Rattle.log_write.proofs.put_number.Goals as goal
 
 pub loop-i-preserved : goal.loop-i-preserved

@@ -1,6 +1,5 @@
-use native.Mathlib.Omega.{arith}
 use Prim.Native.Nat.{◌-◌}
-use Rattle.log_write.specs.Parts.{PutTo, put-start, put-turn, put-end}
+use Rattle.log_write.specs.Parts.{PutTo}
 use Rattle.log_write.proofs.put_number.Given as goal
 
 abbrev pub invariant-loop-i : goal.invariant-loop-i

@@ -1,9 +1,7 @@
 -- `put_record` meets its contract: the map, then each field behind the one before.
-use Rattle.report_log.specs.Log.{record_of}
-use Rattle.log_write.specs.Parts.{record-length, sets-long, record-stored, room-1, room-2, room-3, room-4}
+use Rattle.log_write.specs.Parts.{record-length, record-stored, room-1, room-2, room-3, room-4}
 use native.Mathlib.Omega.{arith}
-use Rattle.log_write.specs.Parts.{record-length, sets-long, record-stored}
-use borrow.Author.Rules.{rules}
+use Rattle.log_write.specs.Parts.{record-length, record-stored}
 use Rattle.log_write.proofs.put_record.Goals as goal
 
 pub bounds-part-0 : goal.bounds-part-0

@@ -1,7 +1,6 @@
 -- `put_where_fits` meets its contract.
 use native.Mathlib.Omega.{arith}
 use Rattle.log_write.specs.Parts.{sizes, fits-put, fits_not}
-use borrow.Author.Rules.{rules}
 use Rattle.log_write.proofs.put_where_fits.Goals as goal
 
 pub put_record-requires : goal.put_record-requires

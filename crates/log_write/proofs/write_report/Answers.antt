@@ -1,6 +1,5 @@
 -- `write_report` meets its contract: 12, the ranges, then the fit.
 use mathlib.Core.Path.{sym, ◌∙◌}
-use borrow.Author.Rules.{rules}
 use Rattle.log_write.specs.Parts.{write-past, write-passed, write-refused}
 use Rattle.log_write.proofs.write_report.Goals as goal
 

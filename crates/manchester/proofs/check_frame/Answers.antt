@@ -1,12 +1,11 @@
 -- `check_frame` meets its contract: check by check.
-use borrow.Author.Rules.{rules}
 use native.Mathlib.Omega.{arith}
 use mathlib.Core.Path.{sym, ap, ◌∙◌}
 use Prim.Native.Nat.{ℕ, ◌*◌, ◌≤◌}
-use borrow.Author.Tests.{not-true, not-false, eq-eqb, ne_eqb}
+use borrow.Author.Tests.{eq-eqb, ne_eqb}
 use native.Mathlib.Nat.{mul-le-mul}
 use Rattle.cycles.specs.Cycles.{check_frame}
-use Rattle.cycles.specs.Elements.{count-parts}
+use Rattle.cycles.proofs.Elements.{count-parts}
 use Rattle.manchester.proofs.check_frame.Goals as goal
 
 pub returns-then-not-is_modulated : goal.returns-then-not-is_modulated

@@ -1,8 +1,7 @@
 -- `is_modulated` meets its contract: letter by letter.
-use borrow.Author.Rules.{rules}
 use mathlib.Core.Path.{sym, ◌∙◌}
 use mathlib.Core.Bool.{or-false}
-use borrow.Author.Tests.{not-true, not-false, eq-eqb, ne_eqb}
+use borrow.Author.Tests.{eq-eqb, ne_eqb}
 use Rattle.cycles.specs.Cycles.{is_modulated}
 use Rattle.manchester.proofs.is_modulated.Goals as goal
 

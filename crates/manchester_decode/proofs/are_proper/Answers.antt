@@ -1,11 +1,6 @@
 -- `are_proper` meets its contract: what is left decides.
-use borrow.Author.Rules.{rules}
-use native.Mathlib.Omega.{arith}
-use mathlib.Core.Path.{◌≡◌, refl, sym, ◌∙◌}
-use mathlib.Core.Bool.{◌&&◌}
+use mathlib.Core.Path.{sym, ◌∙◌}
 use Prim.Native.Nat.{◌-◌}
-use lib.ListN.{length, drop}
-use Rattle.cycles.specs.Elements.{all_proper}
 use Rattle.manchester_decode.specs.Decoding.{proper-on, proper-end}
 use Rattle.manchester_decode.proofs.are_proper.Goals as goal
 

@@ -1,11 +1,8 @@
-use borrow.Author.Rules.{rules}
-use native.Mathlib.Omega.{arith}
-use mathlib.Core.Path.{◌≡◌, refl, sym, ◌∙◌}
+use mathlib.Core.Path.{◌≡◌}
 use mathlib.Core.Bool.{◌&&◌}
 use Prim.Native.Nat.{◌-◌}
 use lib.ListN.{length, drop}
 use Rattle.cycles.specs.Elements.{all_proper}
-use Rattle.manchester_decode.specs.Decoding.{proper-on, proper-end}
 use Rattle.manchester_decode.proofs.are_proper.Given as goal
 
 abbrev pub invariant-loop-i : goal.invariant-loop-i

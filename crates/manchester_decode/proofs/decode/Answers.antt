@@ -1,5 +1,4 @@
 -- `decode` meets its contract: done with every symbol set, or refused with the frame as it was.
-use borrow.Author.Rules.{rules}
 use mathlib.Core.Path.{sym, ◌∙◌}
 use Rattle.manchester_decode.specs.Decoding.{decode-room, decode-done, decode-improper, decode-refused}
 use Rattle.manchester_decode.proofs.decode.Goals as goal

@@ -1,11 +1,6 @@
 -- `first_improper` meets its contract: what is left decides.
-use borrow.Author.Rules.{rules}
-use native.Mathlib.Omega.{arith}
-use mathlib.Core.Path.{◌≡◌, sym, ◌∙◌}
-use Prim.Native.Nat.{◌+◌, ◌-◌}
-use native.Mathlib.Nat.{zero-add}
-use lib.ListN.{length, drop}
-use Rattle.cycles.specs.Cycles.{first_improper}
+use mathlib.Core.Path.{sym, ◌∙◌}
+use Prim.Native.Nat.{◌-◌}
 use Rattle.manchester_decode.specs.Decoding.{improper-on, improper-off, improper-end}
 use Rattle.manchester_decode.proofs.first_improper.Goals as goal
 

@@ -1,9 +1,7 @@
-use native.Mathlib.Omega.{arith}
-use mathlib.Core.Path.{◌≡◌, refl, sym, ◌∙◌}
+use mathlib.Core.Path.{◌≡◌}
 use Prim.Native.Nat.{◌-◌}
 use lib.ListN.{length, drop}
 use Rattle.cycles.specs.Elements.{all_low}
-use Rattle.manchester_decode.specs.Decoding.{low-on, low-off, low_end}
 use Rattle.manchester_decode.proofs.is_low_from.Given as goal
 
 abbrev pub invariant-loop-i : goal.invariant-loop-i

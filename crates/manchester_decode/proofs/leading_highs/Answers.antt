@@ -1,10 +1,6 @@
 -- `leading_highs` meets its contract: what is left decides.
-use native.Mathlib.Omega.{arith}
-use mathlib.Core.Path.{◌≡◌, sym, ◌∙◌}
-use Prim.Native.Nat.{◌+◌, ◌-◌}
-use native.Mathlib.Nat.{zero-add}
-use lib.ListN.{length, drop}
-use Rattle.cycles.specs.Elements.{leading}
+use mathlib.Core.Path.{sym, ◌∙◌}
+use Prim.Native.Nat.{◌-◌}
 use Rattle.manchester_decode.specs.Decoding.{leading-on, leading-off, leading_end}
 use Rattle.manchester_decode.proofs.leading_highs.Goals as goal
 

@@ -1,10 +1,7 @@
-use native.Mathlib.Omega.{arith}
-use mathlib.Core.Path.{◌≡◌, sym, ◌∙◌}
+use mathlib.Core.Path.{◌≡◌}
 use Prim.Native.Nat.{◌+◌, ◌-◌}
-use native.Mathlib.Nat.{zero-add}
 use lib.ListN.{length, drop}
 use Rattle.cycles.specs.Elements.{leading}
-use Rattle.manchester_decode.specs.Decoding.{leading-on, leading-off, leading_end}
 use Rattle.manchester_decode.proofs.leading_highs.Given as goal
 
 abbrev pub invariant-loop-i : goal.invariant-loop-i

@@ -1,13 +1,11 @@
 -- `put_symbols` meets its contract: the symbols below i are set.
 use native.Mathlib.Omega.{arith}
-use mathlib.Core.Path.{◌≡◌, refl, sym, ◌∙◌}
-use Prim.Native.Nat.{◌-◌, ◌*◌, ◌≤◌}
-use native.Mathlib.Nat.{zero-mul}
-use lib.ListN.{length, take, length-set}
-use Rattle.timecode.specs.Layout.{tabulate}
-use Rattle.cycles.specs.Cycles.{symbol_in, cycles_at}
-use Rattle.manchester_decode.specs.Decoding.{part_length, symbol-filled, symbols-filled}
-use Rattle.cycles.specs.Frames.{room_for, next-at}
+use mathlib.Core.Path.{◌∙◌}
+use Prim.Native.Nat.{◌-◌}
+use lib.ListN.{length, length-set}
+use Rattle.cycles.specs.Cycles.{symbol_in}
+use Rattle.manchester_decode.specs.Decoding.{symbol-filled, symbols-filled}
+use Rattle.cycles.proofs.Frames.{next-at}
 use Rattle.manchester_decode.proofs.put_symbols.Goals as goal
 
 pub loop-i-preserved : goal.loop-i-preserved

@@ -1,12 +1,8 @@
-use native.Mathlib.Omega.{arith}
-use mathlib.Core.Path.{◌≡◌, refl, sym, ◌∙◌}
+use mathlib.Core.Path.{◌≡◌}
 use Prim.Native.Nat.{◌-◌, ◌*◌, ◌≤◌}
-use native.Mathlib.Nat.{zero-mul}
-use lib.ListN.{length, take, length-set}
+use lib.ListN.{length, take}
 use Rattle.timecode.specs.Layout.{tabulate}
 use Rattle.cycles.specs.Cycles.{symbol_in, cycles_at}
-use Rattle.manchester_decode.specs.Decoding.{part_length, symbol-filled, symbols-filled}
-use Rattle.cycles.specs.Frames.{room_for, next-at}
 use Rattle.manchester_decode.proofs.put_symbols.Given as goal
 
 abbrev pub invariant-loop-i : goal.invariant-loop-i

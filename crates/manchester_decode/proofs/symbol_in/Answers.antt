@@ -1,8 +1,7 @@
 -- `symbol_in` meets its contract: by the high cycles that it begins with.
-use borrow.Author.Rules.{rules}
 use mathlib.Core.Path.{sym, ◌∙◌}
 use borrow.Author.Tests.{eq-eqb, ne_eqb}
-use Rattle.cycles.specs.Elements.{symbol-run, symbol-other}
+use Rattle.cycles.proofs.Elements.{symbol-run, symbol-other}
 use Rattle.manchester_decode.proofs.symbol_in.Goals as goal
 
 pub returns-then-highs-count : goal.returns-then-highs-count

@@ -1,8 +1,8 @@
 -- `copy_blocks` meets its contract: the blocks below i are copied.
 use native.Mathlib.Omega.{arith}
 use mathlib.Core.Path.{◌≡◌}
-use Prim.Native.Nat.{◌+◌, ◌*◌, ◌-◌, ◌≤◌}
-use Rattle.manchester_encode.specs.Encoding.{Copied, none-copied, block-copied}
+use Prim.Native.Nat.{◌+◌, ◌*◌, ◌-◌}
+use Rattle.manchester_encode.specs.Encoding.{block-copied}
 use Rattle.manchester_encode.proofs.copy_blocks.Goals as goal
 
 pub loop-i-preserved : goal.loop-i-preserved

@@ -1,7 +1,5 @@
-use native.Mathlib.Omega.{arith}
-use mathlib.Core.Path.{◌≡◌}
 use Prim.Native.Nat.{◌-◌, ◌≤◌}
-use Rattle.manchester_encode.specs.Encoding.{Copied, none-copied, one-copied}
+use Rattle.manchester_encode.specs.Encoding.{Copied}
 use Rattle.manchester_encode.proofs.copy_cycles.Given as goal
 
 abbrev pub invariant-loop-i : goal.invariant-loop-i

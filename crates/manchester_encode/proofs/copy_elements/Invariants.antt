@@ -1,11 +1,7 @@
-use native.Mathlib.Omega.{arith}
-use mathlib.Core.Path.{◌≡◌, refl, sym, ◌∙◌}
-use Prim.Native.Nat.{◌+◌, ◌-◌, ◌*◌, ◌≤◌}
-use native.Mathlib.Nat.{zero-mul}
-use lib.ListN.{get_or, length, take}
+use mathlib.Core.Path.{◌≡◌}
+use Prim.Native.Nat.{◌-◌, ◌*◌, ◌≤◌}
+use lib.ListN.{length, take}
 use Rattle.cycles.specs.Cycles.{cycles_of}
-use Rattle.cycles.specs.Frames.{unspoiled-at, room_for, next-at}
-use Rattle.manchester_encode.specs.Encoding.{all_set, none-set, element-next, starts-length, part_room, fewer-copied, element-copied}
 use Rattle.manchester_encode.proofs.copy_elements.Given as goal
 
 abbrev pub invariant-loop-i : goal.invariant-loop-i

@@ -1,10 +1,9 @@
 -- `copy_short_elements` meets its contract: the elements below i are copied, and then the last one.
 use native.Mathlib.Omega.{arith}
-use mathlib.Core.Path.{◌≡◌, refl, ◌∙◌}
-use Prim.Native.Nat.{◌+◌, ◌-◌, ◌*◌, ◌≤◌}
-use lib.ListN.{get_or, length, take}
-use Rattle.cycles.specs.Cycles.{cycles_of}
-use Rattle.cycles.specs.Frames.{unspoiled-at, room_for, next-at}
+use mathlib.Core.Path.{refl, ◌∙◌}
+use Prim.Native.Nat.{◌+◌, ◌-◌, ◌*◌}
+use lib.ListN.{get_or}
+use Rattle.cycles.proofs.Frames.{unspoiled-at, next-at}
 use Rattle.manchester_encode.specs.Encoding.{all_set, none-set, element-next, shorts-length, fewer-copied, short-copied}
 use Rattle.manchester_encode.proofs.copy_short_elements.Goals as goal
 

@@ -1,5 +1,4 @@
 -- `encode` meets its contract: done with every cycle set, or refused with the cycles as they were.
-use borrow.Author.Rules.{rules}
 use mathlib.Core.Path.{sym, ◌∙◌}
 use Rattle.manchester_encode.specs.Encoding.{encode-room, encode-done, encode-spoiled, encode-refused}
 use Rattle.manchester_encode.proofs.encode.Goals as goal

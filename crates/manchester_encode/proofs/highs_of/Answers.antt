@@ -1,5 +1,4 @@
 -- `highs_of` meets its contract: symbol by symbol.
-use borrow.Author.Rules.{rules}
 use native.Mathlib.Omega.{arith}
 use borrow.Author.Tests.{eq-eqb, ne_eqb}
 use Rattle.cycles.specs.Cycles.{highs}

@@ -1,13 +1,7 @@
 -- `is_unspoiled` meets its contract: the largest so far and what is left decide.
-use borrow.Author.Rules.{rules}
 use native.Mathlib.Omega.{arith}
-use mathlib.Core.Path.{◌≡◌}
-use mathlib.Core.Bool.{◌&&◌}
 use Prim.Native.Nat.{◌-◌}
-use lib.Dec.{leb}
-use lib.ListN.{length, drop}
-use Rattle.cycles.specs.Cycles.{unspoiled}
-use Rattle.manchester_encode.specs.Encoding.{unspoiled-start, unspoiled-on, unspoiled-end}
+use Rattle.manchester_encode.specs.Encoding.{unspoiled-on, unspoiled-end}
 use Rattle.manchester_encode.proofs.is_unspoiled.Goals as goal
 
 pub loop-i-preserved : goal.loop-i-preserved

@@ -1,12 +1,9 @@
-use borrow.Author.Rules.{rules}
-use native.Mathlib.Omega.{arith}
 use mathlib.Core.Path.{◌≡◌}
 use mathlib.Core.Bool.{◌&&◌}
 use Prim.Native.Nat.{◌-◌}
 use lib.Dec.{leb}
 use lib.ListN.{length, drop}
 use Rattle.cycles.specs.Cycles.{unspoiled}
-use Rattle.manchester_encode.specs.Encoding.{unspoiled-start, unspoiled-on, unspoiled-end}
 use Rattle.manchester_encode.proofs.is_unspoiled.Given as goal
 
 abbrev pub invariant-loop-i : goal.invariant-loop-i

@@ -1,5 +1,4 @@
 -- `put_long_cycles` meets its contract: the levels, where an element of each kind begins in them, and the copies.
-use borrow.Author.Rules.{rules}
 use Rattle.manchester_encode.specs.Encoding.{levels-put}
 use Rattle.manchester_encode.proofs.put_long_cycles.Goals as goal
 

@@ -1,5 +1,4 @@
 -- `put_short_cycles` meets its contract: the three elements, and their copies.
-use borrow.Author.Rules.{rules}
 use mathlib.Core.Path.{◌∙◌}
 use Rattle.manchester_encode.specs.Encoding.{shorts-put}
 use Rattle.manchester_encode.proofs.put_short_cycles.Goals as goal

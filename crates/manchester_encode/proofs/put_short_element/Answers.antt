@@ -1,10 +1,6 @@
 -- `put_short_element` meets its contract: its two runs.
-use borrow.Author.Rules.{rules}
 use native.Mathlib.Omega.{arith}
-use mathlib.Core.Path.{ap, ◌∙◌}
-use Prim.Native.Nat.{ℕ, ◌+◌}
-use Rattle.cycles.specs.Elements.{highs-within}
-use Rattle.manchester_encode.specs.Encoding.{short-runs}
+use Rattle.cycles.proofs.Elements.{highs-within}
 use Rattle.manchester_encode.proofs.put_short_element.Goals as goal
 
 pub put_run-requires : goal.put_run-requires

@@ -4,7 +4,6 @@ use mathlib.Core.Path.{sym, ◌∙◌}
 use borrow.Author.Tests.{le-leb, lt-leb}
 use Rattle.calendar.specs.Dates.{date_of}
 use Rattle.months.specs.Counting.{place-small}
-use borrow.Author.Rules.{rules}
 use Rattle.months.proofs.date_of.Goals as goal
 
 pub overflow_add-month : goal.overflow_add-month

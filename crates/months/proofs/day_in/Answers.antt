@@ -1,8 +1,7 @@
 -- `day_in` meets its contract: the days of the first i months.
 use native.Mathlib.Omega.{arith}
-use borrow.Author.Rules.{rules}
 use Prim.Native.Nat.{◌-◌}
-use Rattle.months.specs.Counting.{Summed, summed-start, twelve-of, short-of, summed-on, summed-all}
+use Rattle.months.specs.Counting.{short-of, summed-on, summed-all}
 use Rattle.months.proofs.day_in.Goals as goal
 
 pub overflow_add-total : goal.overflow_add-total

@@ -1,7 +1,5 @@
-use native.Mathlib.Omega.{arith}
-use borrow.Author.Rules.{rules}
 use Prim.Native.Nat.{◌-◌}
-use Rattle.months.specs.Counting.{Summed, summed-start, twelve-of, short-of, summed-on, summed-all}
+use Rattle.months.specs.Counting.{Summed}
 use Rattle.months.proofs.day_in.Given as goal
 
 abbrev pub invariant-loop-i : goal.invariant-loop-i

@@ -3,8 +3,7 @@ use native.Mathlib.Omega.{arith}
 use mathlib.Core.Path.{sym, ◌∙◌}
 use borrow.Author.Tests.{le-leb, lt-leb}
 use Rattle.calendar.specs.Dates.{day_of}
-use Rattle.calendar.specs.Inverse.{has}
-use borrow.Author.Rules.{rules}
+use Rattle.calendar.proofs.Inverse.{has}
 use Rattle.months.proofs.day_of.Goals as goal
 
 pub overflow_sub-month : goal.overflow_sub-month

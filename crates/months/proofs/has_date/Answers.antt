@@ -1,7 +1,6 @@
 -- `has_date` meets its contract.
 use borrow.Author.Tests.{le-leb, lt-leb}
 use Rattle.calendar.specs.Dates.{has_date}
-use borrow.Author.Rules.{rules}
 use Rattle.months.proofs.has_date.Goals as goal
 
 pub returns-then-date-ge1-2 : goal.returns-then-date-ge1-2

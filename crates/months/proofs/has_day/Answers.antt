@@ -1,7 +1,6 @@
 -- `has_day` meets its contract.
 use borrow.Author.Tests.{le-leb, lt-leb}
 use Rattle.calendar.specs.Dates.{has_day}
-use borrow.Author.Rules.{rules}
 use Rattle.months.proofs.has_day.Goals as goal
 
 pub returns-then-day-ge-FIRST_DAY : goal.returns-then-day-ge-FIRST_DAY

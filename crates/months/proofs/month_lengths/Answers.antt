@@ -1,6 +1,5 @@
 -- `month_lengths` meets its contract.
 use Rattle.calendar.specs.Dates.{month_lengths}
-use borrow.Author.Rules.{rules}
 use Rattle.months.proofs.month_lengths.Goals as goal
 
 pub returns-then-is_leap : goal.returns-then-is_leap

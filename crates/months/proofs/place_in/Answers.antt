@@ -1,8 +1,7 @@
 -- `place_in` meets its contract: the months that the day lies behind.
 use native.Mathlib.Omega.{arith}
-use borrow.Author.Rules.{rules}
 use Prim.Native.Nat.{◌-◌}
-use Rattle.months.specs.Counting.{Passed, passed_start, passed-turn, twelve-of, found_in, found-not}
+use Rattle.months.specs.Counting.{passed-turn, twelve-of, found_in, found-not}
 use Rattle.months.proofs.place_in.Goals as goal
 
 pub returns-then-rest-length : goal.returns-then-rest-length

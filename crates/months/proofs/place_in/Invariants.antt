@@ -1,7 +1,5 @@
-use native.Mathlib.Omega.{arith}
-use borrow.Author.Rules.{rules}
 use Prim.Native.Nat.{◌-◌}
-use Rattle.months.specs.Counting.{Passed, passed_start, passed-turn, twelve-of, found_in, found-not}
+use Rattle.months.specs.Counting.{Passed}
 use Rattle.months.proofs.place_in.Given as goal
 
 abbrev pub invariant-loop-months : goal.invariant-loop-months

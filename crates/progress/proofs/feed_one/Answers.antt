@@ -1,5 +1,4 @@
 -- `feed_one` meets its contract: it is one step of the progress.
-use borrow.Author.Rules.{rules}
 use native.Mathlib.Omega.{arith}
 use mathlib.Core.Path.{ap, ◌∙◌}
 use mathlib.Core.List.{◌++◌}

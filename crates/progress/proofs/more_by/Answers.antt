@@ -1,5 +1,4 @@
 -- `more_by` meets its contract: the count and so many more, or the end of its 64 bits.
-use borrow.Author.Rules.{rules}
 use native.Mathlib.Omega.{arith}
 use mathlib.Core.Path.{sym}
 use Rattle.progress.specs.Steps.{more_within, more-beyond}

@@ -1,5 +1,4 @@
 -- `one_more` meets its contract.
-use borrow.Author.Rules.{rules}
 use borrow.Author.Tests.{lt-ltb, le-ltb}
 use native.Mathlib.Numerals.{add-one}
 use Rattle.progress.specs.Progress.{one_more}

@@ -4,7 +4,7 @@ use mathlib.Core.Path.{◌≡◌, ap, ◌∙◌}
 use Prim.Native.Nat.{ℕ, ◌+◌}
 use lib.IntN.{ℤ}
 use lib.ListN.{length, take, set, length-set}
-use Rattle.timecode.specs.Laws.Runs.{fill_step, fill_end}
+use Rattle.timecode.proofs.Laws.Runs.{fill_step, fill_end}
 use Rattle.pulse.specs.Pulses.{pulse-classed, pulse-deviation, deviation-back, pulse, pulses-tabulated}
 use Rattle.pulse.proofs.put_pulses.Goals as goal
 

@@ -1,9 +1,9 @@
 -- `feed_pulse` meets its contract: by the classifier's answer.
-use borrow.Author.Rules.{rules}
-use mathlib.Core.Path.{◌≡◌, refl, sym, ap, ap₂, ◌∙◌}
+use mathlib.Core.Path.{sym, ap, ap₂, ◌∙◌}
 use mir.Syntax.{w32}
 use mir.ValLaws.{to_z-of_z}
-use Rattle.pulse_feed.specs.PulseFeeds.{handed_up, fed_by, fed_by_lem}
+use Rattle.pulse_feed.specs.PulseFeeds.{handed_up, fed_by}
+use Rattle.pulse_feed.proofs.PulseFeeds.{fed_by_lem}
 use Rattle.pulse_feed.proofs.feed_pulse.Goals as goal
 
 pub returns-in-Symbol : goal.returns-in-Symbol

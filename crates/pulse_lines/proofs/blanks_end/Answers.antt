@@ -1,13 +1,10 @@
 -- `blanks_end` meets its contract: what ends the blanks from the start ends those from each place passed.
 use mathlib.Core.Bool.{not}
 use mathlib.Core.Path.{ap}
-use borrow.Author.Rules.{rules}
 use native.Mathlib.Omega.{arith}
-use mathlib.Core.Path.{◌≡◌, refl, sym, ◌∙◌}
-use Prim.Native.Nat.{◌-◌, ◌≤◌}
-use lib.ListN.{length}
-use Rattle.pulse_lines.specs.PulseLines.{is_blank, end_of}
-use Rattle.pulse_lines.specs.Runs.{run-turn, run-here, run-all}
+use Prim.Native.Nat.{◌-◌}
+use Rattle.pulse_lines.specs.PulseLines.{is_blank}
+use Rattle.pulse_lines.proofs.Runs.{run-turn, run-here, run-all}
 use Rattle.pulse_lines.proofs.blanks_end.Goals as goal
 
 pub returns-then-not-is_blank : goal.returns-then-not-is_blank

@@ -1,10 +1,7 @@
-use borrow.Author.Rules.{rules}
-use native.Mathlib.Omega.{arith}
-use mathlib.Core.Path.{◌≡◌, refl, sym, ◌∙◌}
+use mathlib.Core.Path.{◌≡◌}
 use Prim.Native.Nat.{◌-◌, ◌≤◌}
 use lib.ListN.{length}
 use Rattle.pulse_lines.specs.PulseLines.{is_blank, end_of}
-use Rattle.pulse_lines.specs.Runs.{run-turn, run-here, run-all}
 use Rattle.pulse_lines.proofs.blanks_end.Given as goal
 
 abbrev pub invariant-loop-i : goal.invariant-loop-i

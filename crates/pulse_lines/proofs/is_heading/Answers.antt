@@ -1,6 +1,4 @@
 -- `is_heading` meets its contract: its first character that is no blank decides.
-use borrow.Author.Rules.{rules}
-use native.Mathlib.Omega.{arith}
 use borrow.Author.Tests.{lt-ltb, le-ltb}
 use Rattle.pulse_lines.specs.PulseLines.{is_heading, width_start}
 use Rattle.pulse_lines.proofs.is_heading.Goals as goal

@@ -1,6 +1,4 @@
 -- `pulse_line` meets its contract: the numbers stand where the definition has them.
-use borrow.Author.Rules.{rules}
-use native.Mathlib.Omega.{arith}
 use borrow.Author.Tests.{eq-eqb, ne_eqb}
 use Rattle.pulse_lines.specs.PulseLines.{width_start, width_end, period_start, period_end, pulse_line_of}
 use Rattle.pulse_lines.proofs.pulse_line.Goals as goal

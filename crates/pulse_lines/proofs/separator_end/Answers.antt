@@ -1,9 +1,7 @@
 -- `separator_end` meets its contract: blanks, a comma, blanks.
-use borrow.Author.Rules.{rules}
 use native.Mathlib.Omega.{arith}
-use mathlib.Core.Path.{ap, ◌∙◌}
-use Prim.Native.Nat.{ℕ}
-use Rattle.pulse_lines.specs.PulseLines.{is_blank, end_of, comma_end, separator_end}
+use mathlib.Core.Path.{◌∙◌}
+use Rattle.pulse_lines.specs.PulseLines.{separator_end}
 use Rattle.pulse_lines.proofs.separator_end.Goals as goal
 
 pub returns : goal.returns

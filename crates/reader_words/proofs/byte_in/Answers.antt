@@ -1,5 +1,4 @@
 -- `byte_in` meets its contract: the word, or 255 where it is no byte.
-use borrow.Author.Rules.{rules}
 use borrow.Author.Tests.{lt-ltb, le-ltb}
 use Rattle.reader_words.specs.Words.{byte_in}
 use Rattle.reader_words.proofs.byte_in.Goals as goal

@@ -1,9 +1,8 @@
 -- `put_fresh` meets its contract: the words of a fresh reader, or the number and nothing written.
-use borrow.Author.Rules.{rules}
 use mathlib.Core.Path.{refl, sym, ◌∙◌}
-use Rattle.ffi.specs.Fields.{refusal-numbered}
+use Rattle.ffi.proofs.Fields.{refusal-numbered}
 use Rattle.reader_words.specs.Words.{fresh_left}
-use Rattle.reader_words.specs.WordLaws.{made-fresh}
+use Rattle.reader_words.proofs.WordLaws.{made-fresh}
 use Rattle.reader_words.proofs.put_fresh.Goals as goal
 
 both : {A B : Type 0} → A × B → record { value : A; reader_after : B }

@@ -1,5 +1,4 @@
 -- `reader_in` meets its contract: each word at its place.
-use borrow.Author.Rules.{rules}
 use Rattle.reader_words.specs.Words.{reader_in}
 use Rattle.reader_words.proofs.reader_in.Goals as goal
 

@@ -1,5 +1,4 @@
 -- `words_for` meets its contract: the fourteen words in their order.
-use borrow.Author.Rules.{rules}
 use mathlib.Core.Path.{refl}
 use Rattle.reader_words.specs.Words.{words_for}
 use Rattle.reader_words.proofs.words_for.Goals as goal

@@ -1,12 +1,8 @@
 -- `count_reports` meets its contract: what was counted and what the rest brings is the whole.
-use borrow.Author.Rules.{rules}
 use native.Mathlib.Omega.{arith}
-use mathlib.Core.Path.{◌≡◌, refl, sym, ap, ◌∙◌}
-use Prim.Native.Nat.{ℕ, ◌+◌, ◌-◌, ◌≤◌}
-use native.Mathlib.Nat.{zero-add}
-use lib.ListN.{length, drop}
-use Rattle.report_counts.specs.Reports.{directed, reports_of}
-use Rattle.report_counts.specs.Counting.{count-fed, count-end, length-directed}
+use Prim.Native.Nat.{◌-◌}
+use Rattle.report_counts.specs.Reports.{directed}
+use Rattle.report_counts.proofs.Counting.{count-fed, count-end, length-directed}
 use Rattle.report_counts.proofs.count_reports.Goals as goal
 
 pub loop-i-preserved : goal.loop-i-preserved

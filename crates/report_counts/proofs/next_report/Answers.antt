@@ -1,11 +1,8 @@
 -- `next_report` meets its contract: the rest of the Feeds decides.
-use borrow.Author.Rules.{rules}
 use native.Mathlib.Omega.{arith}
-use mathlib.Core.Path.{◌≡◌, refl, sym, ap, ◌∙◌}
+use mathlib.Core.Path.{sym, ◌∙◌}
 use Prim.Native.Nat.{◌-◌}
-use lib.ListN.{length, drop}
-use Rattle.report_counts.specs.Reports.{first_report}
-use Rattle.report_counts.specs.Counting.{report-turn, report-here, report-end}
+use Rattle.report_counts.proofs.Counting.{report-turn, report-here, report-end}
 use Rattle.report_counts.proofs.next_report.Goals as goal
 
 pub returns-then-is_report-eq1 : goal.returns-then-is_report-eq1

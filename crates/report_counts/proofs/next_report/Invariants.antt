@@ -1,10 +1,7 @@
-use borrow.Author.Rules.{rules}
-use native.Mathlib.Omega.{arith}
-use mathlib.Core.Path.{◌≡◌, refl, sym, ap, ◌∙◌}
+use mathlib.Core.Path.{◌≡◌}
 use Prim.Native.Nat.{◌-◌}
 use lib.ListN.{length, drop}
 use Rattle.report_counts.specs.Reports.{first_report}
-use Rattle.report_counts.specs.Counting.{report-turn, report-here, report-end}
 use Rattle.report_counts.proofs.next_report.Given as goal
 
 abbrev pub invariant-loop-i : goal.invariant-loop-i

@@ -1,5 +1,4 @@
 -- `reports_in` meets its contract: those of a fresh reader.
-use borrow.Author.Rules.{rules}
 use Rattle.report_counts.specs.Reports.{reports_in}
 use Rattle.report_counts.proofs.reports_in.Goals as goal
 

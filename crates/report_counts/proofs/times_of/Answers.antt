@@ -1,12 +1,8 @@
 -- `times_of` meets its contract: what was counted and what the rest has is the whole.
-use borrow.Author.Rules.{rules}
 use native.Mathlib.Omega.{arith}
-use mathlib.Core.Path.{◌≡◌, refl, sym, ap, ◌∙◌}
-use Prim.Native.Nat.{ℕ, ◌+◌, ◌-◌, ◌≤◌}
-use native.Mathlib.Nat.{zero-add}
-use lib.ListN.{length, drop}
-use Rattle.report_counts.specs.Reports.{times_of}
-use Rattle.report_counts.specs.Counting.{times-turn, times-end}
+use mathlib.Core.Path.{◌∙◌}
+use Prim.Native.Nat.{◌-◌}
+use Rattle.report_counts.proofs.Counting.{times-turn, times-end}
 use Rattle.report_counts.proofs.times_of.Goals as goal
 
 pub loop-i-preserved : goal.loop-i-preserved

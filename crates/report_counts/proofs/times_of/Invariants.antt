@@ -1,11 +1,7 @@
-use borrow.Author.Rules.{rules}
-use native.Mathlib.Omega.{arith}
-use mathlib.Core.Path.{◌≡◌, refl, sym, ap, ◌∙◌}
-use Prim.Native.Nat.{ℕ, ◌+◌, ◌-◌, ◌≤◌}
-use native.Mathlib.Nat.{zero-add}
+use mathlib.Core.Path.{◌≡◌}
+use Prim.Native.Nat.{◌+◌, ◌-◌, ◌≤◌}
 use lib.ListN.{length, drop}
 use Rattle.report_counts.specs.Reports.{times_of}
-use Rattle.report_counts.specs.Counting.{times-turn, times-end}
 use Rattle.report_counts.proofs.times_of.Given as goal
 
 abbrev pub invariant-loop-i : goal.invariant-loop-i

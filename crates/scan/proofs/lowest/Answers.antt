@@ -1,9 +1,8 @@
 -- `lowest` meets its contract: the places from the one reached on decide.
-use borrow.Author.Rules.{rules}
 use native.Mathlib.Omega.{arith}
-use mathlib.Core.Path.{◌≡◌, refl, sym, ◌∙◌}
-use Prim.Native.Nat.{◌+◌, ◌-◌, ◌≤◌}
-use Rattle.scan.specs.Places.{lowest_from, part-at, refused-here, found_here, passed_over, skipped-to, none_left}
+use mathlib.Core.Path.{sym, ◌∙◌}
+use Prim.Native.Nat.{◌+◌, ◌-◌}
+use Rattle.scan.specs.Places.{part-at, refused-here, found_here, passed_over, skipped-to, none_left}
 use Rattle.scan.proofs.lowest.Goals as goal
 
 pub returns-then-recording-n : goal.returns-then-recording-n

@@ -1,8 +1,6 @@
-use borrow.Author.Rules.{rules}
-use native.Mathlib.Omega.{arith}
-use mathlib.Core.Path.{◌≡◌, refl, sym, ◌∙◌}
+use mathlib.Core.Path.{◌≡◌}
 use Prim.Native.Nat.{◌+◌, ◌-◌, ◌≤◌}
-use Rattle.scan.specs.Places.{lowest_from, part-at, refused-here, found_here, passed_over, skipped-to, none_left}
+use Rattle.scan.specs.Places.{lowest_from}
 use Rattle.scan.proofs.lowest.Given as goal
 
 abbrev pub invariant-loop-place : goal.invariant-loop-place

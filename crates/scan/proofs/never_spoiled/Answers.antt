@@ -2,7 +2,7 @@
 use native.Mathlib.Omega.{arith}
 use borrow.Author.Tests.{eq-eqb, ne_eqb}
 use Rattle.timecode.specs.Formats.{is_x}
-use Rattle.timecode.specs.Laws.Table.{size-range}
+use Rattle.timecode.proofs.Laws.Table.{size-range}
 use Rattle.scan.specs.Spoiled.{never_spoiled}
 use Rattle.scan.proofs.never_spoiled.Goals as goal
 

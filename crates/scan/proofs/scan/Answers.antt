@@ -1,7 +1,5 @@
 -- `scan` meets its contract: each way out is the definition's.
-use borrow.Author.Rules.{rules}
 use borrow.Author.Tests.{le-leb, lt-leb}
-use native.Mathlib.Omega.{arith}
 use Rattle.timecode.specs.Calls.{first_place, scan_of}
 use Rattle.scan.proofs.scan.Goals as goal
 

@@ -1,11 +1,8 @@
-use Rattle.simulate.specs.Hearing.{AllBegin, begin-none, begin-more, begin-all}
+use Rattle.simulate.specs.Hearing.{AllBegin}
 use Rattle.simulation.specs.Lent.{start_of}
 use Prim.Native.Nat.{◌-◌, ◌≤◌}
 use lib.ListN.{length}
-use mathlib.Core.Path.{◌≡◌, refl}
-use native.Mathlib.Numerals.{add-one}
-use native.Mathlib.Omega.{arith}
-use borrow.Author.Rules.{rules}
+use mathlib.Core.Path.{◌≡◌}
 use Rattle.simulate.proofs.begin_all.Given as goal
 
 abbrev pub invariant-loop-j : goal.invariant-loop-j

@@ -1,7 +1,5 @@
-use Rattle.simulate.specs.Hearing.{CountsOf, counts_start, counts-more, counts_all}
+use Rattle.simulate.specs.Hearing.{CountsOf}
 use Prim.Native.Nat.{◌-◌, ◌≤◌}
-use native.Mathlib.Omega.{arith}
-use borrow.Author.Rules.{rules}
 use Rattle.simulate.proofs.counts_of.Given as goal
 
 abbrev pub invariant-loop-j : goal.invariant-loop-j

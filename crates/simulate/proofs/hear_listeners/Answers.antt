@@ -1,7 +1,6 @@
 -- `hear_listeners` meets its contract.
 use Rattle.simulate.specs.Results.{run-result, made-fresh, made-never-refused}
 use mathlib.Core.Path.{sym, ◌∙◌}
-use borrow.Author.Rules.{rules}
 use Rattle.simulate.proofs.hear_listeners.Goals as goal
 
 pub hear_run-all-requires : goal.hear_run-all-requires

@@ -1,8 +1,7 @@
 -- `hear_run` meets its contract.
-use Rattle.simulate.specs.Results.{valid-time, RunAt, run-start, past_bound, run-listens-n, run-more-n, run_end}
-use Prim.Native.Nat.{◌-◌, ◌≤◌}
+use Rattle.simulate.specs.Results.{valid-time, run-start, run-listens-n, run-more-n}
+use Prim.Native.Nat.{◌-◌}
 use native.Mathlib.Omega.{arith}
-use borrow.Author.Rules.{rules}
 use Rattle.simulate.proofs.hear_run.Goals as goal
 
 pub loop-i-init : goal.loop-i-init

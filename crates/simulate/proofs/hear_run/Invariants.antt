@@ -1,7 +1,5 @@
-use Rattle.simulate.specs.Results.{valid-time, RunAt, run-start, past_bound, run-listens-n, run-more-n, run_end}
-use Prim.Native.Nat.{◌-◌, ◌≤◌}
-use native.Mathlib.Omega.{arith}
-use borrow.Author.Rules.{rules}
+use Rattle.simulate.specs.Results.{RunAt}
+use Prim.Native.Nat.{◌-◌}
 use Rattle.simulate.proofs.hear_run.Given as goal
 
 abbrev pub invariant-loop-i : goal.invariant-loop-i

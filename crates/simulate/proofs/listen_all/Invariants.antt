@@ -1,7 +1,6 @@
-use Rattle.simulate.specs.Hearing.{HearsAll, hears-none, hears-more, hears-all, hears-listens}
+use Rattle.simulate.specs.Hearing.{HearsAll}
 use Prim.Native.Nat.{◌-◌, ◌≤◌}
 use lib.ListN.{length}
-use native.Mathlib.Omega.{arith}
 use Rattle.simulate.proofs.listen_all.Given as goal
 
 abbrev pub invariant-loop-j : goal.invariant-loop-j

@@ -2,7 +2,6 @@
 use Rattle.simulate.specs.Hearing.{result_of}
 use Rattle.simulate.specs.Results.{lent-stepped, lent-refused, stepped-known}
 use mathlib.Core.Path.{sym, ap, ◌∙◌}
-use borrow.Author.Rules.{rules}
 use Rattle.simulate.proofs.simulate.Goals as goal
 
 pub simulate_lists-requires : goal.simulate_lists-requires

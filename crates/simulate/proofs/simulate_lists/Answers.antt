@@ -1,9 +1,8 @@
 -- `simulate_lists` meets its contract.
 use Rattle.simulate.specs.Hearing.{result_of}
-use Rattle.simulate.specs.Results.{lists-fit, ground, lists-asked, lent-setting, lent-lists, lent-listeners, lent-heard}
+use Rattle.simulate.specs.Results.{ground, lists-asked, lent-setting, lent-lists, lent-listeners, lent-heard}
 use mathlib.Core.Bool.{true, false}
 use mathlib.Core.Path.{sym, ap, ◌∙◌}
-use borrow.Author.Rules.{rules}
 use Rattle.simulate.proofs.simulate_lists.Goals as goal
 
 pub hear_listeners-requires : goal.hear_listeners-requires

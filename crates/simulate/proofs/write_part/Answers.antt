@@ -1,9 +1,7 @@
 -- `write_part` meets its contract.
 use Rattle.simulate.specs.Results.{part-written}
-use lib.Seq.{length-take-le}
-use mathlib.Core.Path.{sym, ◌∙◌}
+use mathlib.Core.Path.{◌∙◌}
 use native.Mathlib.Omega.{arith}
-use borrow.Author.Rules.{rules}
 use Rattle.simulate.proofs.write_part.Goals as goal
 
 pub returns : goal.returns

@@ -1,7 +1,6 @@
 -- `answer_after` meets its contract.
 use borrow.Author.Tests.{eq-eqb, ne_eqb, le-leb, lt-leb}
 use Rattle.stream.specs.Feeding.{answer_after}
-use borrow.Author.Rules.{rules}
 use Rattle.stream.proofs.answer_after.Goals as goal
 
 pub returns-then-reader-received : goal.returns-then-reader-received

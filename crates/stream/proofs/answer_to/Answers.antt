@@ -1,7 +1,6 @@
 -- `answer_to` meets its contract: 13, 26, 4, then the answer of the reader after it.
 use borrow.Author.Tests.{le-leb, lt-leb}
 use Rattle.stream.specs.Feeding.{answer_of}
-use borrow.Author.Rules.{rules}
 use Rattle.stream.proofs.answer_to.Goals as goal
 
 pub returns-then-symbol-gt-SPOILED : goal.returns-then-symbol-gt-SPOILED

@@ -1,6 +1,5 @@
 -- `feed` meets its contract: the next reader, and the answer.
 use Rattle.stream.specs.Feeding.{feed_of}
-use borrow.Author.Rules.{rules}
 use Rattle.stream.proofs.feed.Goals as goal
 
 pub returns : goal.returns

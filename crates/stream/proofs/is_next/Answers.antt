@@ -1,7 +1,6 @@
 -- `is_next` meets its contract: the next second of the day is next after, and else it is asked.
-use borrow.Author.Rules.{rules}
 use mathlib.Core.Path.{sym, ◌∙◌}
-use Rattle.stream.specs.Tapes.{second-later}
+use Rattle.stream.proofs.Tapes.{second-later}
 use Rattle.stream.proofs.is_next.Goals as goal
 
 pub returns-then-is_second_later : goal.returns-then-is_second_later

@@ -1,6 +1,5 @@
 -- `is_valid` meets its contract.
 use Rattle.stream.specs.Feeding.{is_valid}
-use borrow.Author.Rules.{rules}
 use Rattle.stream.proofs.is_valid.Goals as goal
 
 pub returns-then-is_known : goal.returns-then-is_known

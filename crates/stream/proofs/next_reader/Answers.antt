@@ -1,8 +1,6 @@
 -- `next_reader` meets its contract: a refused Feed hands back the same reader.
 use borrow.Author.Tests.{le-leb, lt-leb}
-use mathlib.Core.Path.{sym, ◌∙◌}
 use Rattle.stream.specs.Feeding.{next_of}
-use borrow.Author.Rules.{rules}
 use Rattle.stream.proofs.next_reader.Goals as goal
 
 pub returns-then-symbol-le-SPOILED : goal.returns-then-symbol-le-SPOILED

@@ -1,5 +1,4 @@
 -- `row_after` meets its contract: one frame more, or the first.
-use borrow.Author.Rules.{rules}
 use borrow.Author.Tests.{eq-eqb, ne_eqb, lt-ltb, le-ltb}
 use Rattle.following.specs.Following.{row_after}
 use Rattle.stream.proofs.row_after.Goals as goal

@@ -1,7 +1,6 @@
 -- `row_with_frame` meets its contract.
 use mathlib.Core.Path.{sym, ◌∙◌}
-use Rattle.stream.specs.Tapes.{tape-x, tape-known, tape-frame}
-use borrow.Author.Rules.{rules}
+use Rattle.stream.proofs.Tapes.{tape-x, tape-known, tape-frame}
 use Rattle.stream.proofs.row_with_frame.Goals as goal
 
 pub row_with_tape-requires : goal.row_with_tape-requires

@@ -1,6 +1,5 @@
 -- `row_with_reading` meets its contract.
 use Rattle.stream.specs.Feeding.{row_with}
-use borrow.Author.Rules.{rules}
 use Rattle.stream.proofs.row_with_reading.Goals as goal
 
 pub returns-in-Accepted : goal.returns-in-Accepted

@@ -2,7 +2,6 @@
 use mathlib.Core.Path.{sym, ◌∙◌}
 use Rattle.tape.specs.InWord.{reads-fitting, reads_other}
 use Rattle.stream.specs.Feeding.{row_with}
-use borrow.Author.Rules.{rules}
 use Rattle.stream.proofs.row_with_tape.Goals as goal
 
 pub returns-then-word_fits : goal.returns-then-word_fits

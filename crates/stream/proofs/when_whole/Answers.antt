@@ -1,7 +1,6 @@
 -- `when_whole` meets its contract.
 use borrow.Author.Tests.{eq-eqb, ne_eqb}
 use Rattle.stream.specs.Feeding.{when_whole}
-use borrow.Author.Rules.{rules}
 use Rattle.stream.proofs.when_whole.Goals as goal
 
 pub returns-then-received-n : goal.returns-then-received-n

@@ -1,7 +1,6 @@
 -- `with_reading` meets its contract.
 use mathlib.Core.Path.{◌∙◌}
-use Rattle.stream.specs.Feeding.{with-row-reading}
-use borrow.Author.Rules.{rules}
+use Rattle.stream.proofs.Feeding.{with-row-reading}
 use Rattle.stream.proofs.with_reading.Goals as goal
 
 pub returns : goal.returns

@@ -1,6 +1,6 @@
 -- `with_symbol` meets its contract.
-use Rattle.stream.specs.Feeding.{valid-place, with_symbol_of}
-use borrow.Author.Rules.{rules}
+use Rattle.stream.specs.Feeding.{with_symbol_of}
+use Rattle.stream.proofs.Feeding.{valid-place}
 use Rattle.stream.proofs.with_symbol.Goals as goal
 
 pub place_after-place-requires : goal.place_after-place-requires

@@ -1,9 +1,8 @@
 -- `advance` meets its contract.
 use Rattle.stride.specs.Strides.{first-low, advance-way, frame-way}
 use Rattle.register.specs.Contents.{receive-most}
-use Rattle.stream.specs.Feeding.{valid-place}
+use Rattle.stream.proofs.Feeding.{valid-place}
 use native.Mathlib.Omega.{arith}
-use borrow.Author.Rules.{rules}
 use Rattle.stride.proofs.advance.Goals as goal
 
 pub stride_limit-end-requires : goal.stride_limit-end-requires

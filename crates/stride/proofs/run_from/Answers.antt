@@ -4,7 +4,6 @@ use mathlib.Core.Path.{ap, ◌∙◌}
 use Prim.Native.Nat.{ℕ}
 use Rattle.register.specs.Receiving.{begun_of}
 use native.Mathlib.Omega.{arith}
-use borrow.Author.Rules.{rules}
 use Rattle.stride.proofs.run_from.Goals as goal
 
 pub returns-then-from-last : goal.returns-then-from-last

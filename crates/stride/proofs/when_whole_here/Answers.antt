@@ -1,6 +1,5 @@
 -- `when_whole_here` meets its contract.
 use Rattle.stride.specs.Strides.{whole-way}
-use borrow.Author.Rules.{rules}
 use Rattle.stride.proofs.when_whole_here.Goals as goal
 
 pub returns-then-to-from : goal.returns-then-to-from

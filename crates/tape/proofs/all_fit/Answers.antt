@@ -1,9 +1,7 @@
 -- `all_fit` meets its contract: whether the elements before fit.
-use borrow.Author.Rules.{rules}
 use native.Mathlib.Omega.{arith}
-use mathlib.Core.Path.{◌≡◌, refl, sym, ◌∙◌}
-use Prim.Native.Nat.{◌-◌, ◌≤◌}
-use Rattle.tape.specs.Offences.{all_fit, all-turn}
+use mathlib.Core.Path.{◌≡◌}
+use Prim.Native.Nat.{◌-◌}
 use Rattle.tape.proofs.all_fit.Goals as goal
 
 pub returns : goal.returns

@@ -1,8 +1,6 @@
-use borrow.Author.Rules.{rules}
-use native.Mathlib.Omega.{arith}
-use mathlib.Core.Path.{◌≡◌, refl, sym, ◌∙◌}
+use mathlib.Core.Path.{◌≡◌}
 use Prim.Native.Nat.{◌-◌, ◌≤◌}
-use Rattle.tape.specs.Offences.{all_fit, all-turn}
+use Rattle.tape.specs.Offences.{all_fit}
 use Rattle.tape.proofs.all_fit.Given as goal
 
 abbrev pub invariant-loop-index : goal.invariant-loop-index

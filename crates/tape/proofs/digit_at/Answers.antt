@@ -1,9 +1,8 @@
 -- `digit_at` meets its contract: the number that the first j elements say.
-use borrow.Author.Rules.{rules}
 use native.Mathlib.Omega.{arith}
 use mathlib.Core.Path.{◌≡◌, sym}
-use Prim.Native.Nat.{◌+◌, ◌*◌, ◌-◌, ◌^◌, ◌≤◌}
-use Rattle.tape.specs.Readings.{digit_of, digit-more, digit-none, digit-grows, digit-bound}
+use Prim.Native.Nat.{◌-◌}
+use Rattle.tape.specs.Readings.{digit-more, digit-none, digit-grows, digit-bound}
 use Rattle.tape.proofs.digit_at.Goals as goal
 
 pub loop-j-init : goal.loop-j-init

@@ -1,8 +1,6 @@
-use borrow.Author.Rules.{rules}
-use native.Mathlib.Omega.{arith}
-use mathlib.Core.Path.{◌≡◌, sym}
+use mathlib.Core.Path.{◌≡◌}
 use Prim.Native.Nat.{◌+◌, ◌*◌, ◌-◌, ◌^◌, ◌≤◌}
-use Rattle.tape.specs.Readings.{digit_of, digit-more, digit-none, digit-grows, digit-bound}
+use Rattle.tape.specs.Readings.{digit_of}
 use Rattle.tape.proofs.digit_at.Given as goal
 
 abbrev pub invariant-loop-j : goal.invariant-loop-j

@@ -1,8 +1,7 @@
 -- `digit_in` meets its contract: the number that the first j elements say.
-use borrow.Author.Rules.{rules}
 use mathlib.Core.Path.{◌≡◌, sym, ap, ◌∙◌}
 use native.Mathlib.Omega.{arith}
-use Prim.Native.Nat.{ℕ, ◌+◌, ◌*◌, ◌-◌, ◌^◌, ◌≤◌}
+use Prim.Native.Nat.{ℕ, ◌+◌, ◌*◌, ◌-◌}
 use Rattle.tape.specs.Readings.{digit_of, digit-more, digit-none, digit-grows, digit-bound}
 use Rattle.tape.specs.InWord.{elements_in, element-at}
 use Rattle.tape.proofs.digit_in.Goals as goal

@@ -1,9 +1,7 @@
-use borrow.Author.Rules.{rules}
-use mathlib.Core.Path.{◌≡◌, sym, ap, ◌∙◌}
-use native.Mathlib.Omega.{arith}
-use Prim.Native.Nat.{ℕ, ◌+◌, ◌*◌, ◌-◌, ◌^◌, ◌≤◌}
-use Rattle.tape.specs.Readings.{digit_of, digit-more, digit-none, digit-grows, digit-bound}
-use Rattle.tape.specs.InWord.{elements_in, element-at}
+use mathlib.Core.Path.{◌≡◌}
+use Prim.Native.Nat.{◌+◌, ◌*◌, ◌-◌, ◌^◌, ◌≤◌}
+use Rattle.tape.specs.Readings.{digit_of}
+use Rattle.tape.specs.InWord.{elements_in}
 use Rattle.tape.proofs.digit_in.Given as goal
 
 abbrev pub invariant-loop-j : goal.invariant-loop-j

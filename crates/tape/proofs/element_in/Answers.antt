@@ -1,5 +1,4 @@
 -- `element_in` meets its contract: the element's two bits.
-use borrow.Author.Rules.{rules}
 use mathlib.Core.Path.{refl}
 use Rattle.tape.specs.InWord.{element_in}
 use Rattle.tape.proofs.element_in.Goals as goal

@@ -1,10 +1,9 @@
 -- `lowest_offending` meets its contract: the lowest of the elements before is found.
-use borrow.Author.Rules.{rules}
 use native.Mathlib.Omega.{arith}
 use mathlib.Core.Path.{◌≡◌, ◌∙◌}
-use Prim.Native.Nat.{◌-◌, ◌≤◌}
+use Prim.Native.Nat.{◌-◌}
 use lib.ListN.{get_or}
-use Rattle.tape.specs.Offences.{LowestBelow, lowered, lowest-none, lowest-turn}
+use Rattle.tape.specs.Offences.{lowered, lowest-turn}
 use Rattle.tape.proofs.lowest_offending.Goals as goal
 
 pub loop-index-preserved : goal.loop-index-preserved

@@ -1,9 +1,5 @@
-use borrow.Author.Rules.{rules}
-use native.Mathlib.Omega.{arith}
-use mathlib.Core.Path.{◌≡◌, ◌∙◌}
 use Prim.Native.Nat.{◌-◌, ◌≤◌}
-use lib.ListN.{get_or}
-use Rattle.tape.specs.Offences.{LowestBelow, lowered, lowest-none, lowest-turn}
+use Rattle.tape.specs.Offences.{LowestBelow}
 use Rattle.tape.proofs.lowest_offending.Given as goal
 
 abbrev pub invariant-loop-index : goal.invariant-loop-index

@@ -1,11 +1,8 @@
 -- `put_blank` meets its contract: the first i elements.
-use borrow.Author.Rules.{rules}
 use native.Mathlib.Omega.{arith}
-use mathlib.Core.Path.{◌≡◌, refl, sym, ◌∙◌}
-use Prim.Native.Nat.{◌-◌, ◌≤◌}
-use lib.ListN.{length, take, length-set}
-use Rattle.timecode.specs.Laws.Runs.{fill_step, fill_end}
-use Rattle.timecode.specs.Layout.{tabulate}
+use Prim.Native.Nat.{◌-◌}
+use lib.ListN.{length-set}
+use Rattle.timecode.proofs.Laws.Runs.{fill_step}
 use Rattle.tape.specs.Tape.{blank_at}
 use Rattle.tape.proofs.put_blank.Goals as goal
 

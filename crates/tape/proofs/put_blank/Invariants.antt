@@ -1,9 +1,6 @@
-use borrow.Author.Rules.{rules}
-use native.Mathlib.Omega.{arith}
-use mathlib.Core.Path.{◌≡◌, refl, sym, ◌∙◌}
+use mathlib.Core.Path.{◌≡◌}
 use Prim.Native.Nat.{◌-◌, ◌≤◌}
-use lib.ListN.{length, take, length-set}
-use Rattle.timecode.specs.Laws.Runs.{fill_step, fill_end}
+use lib.ListN.{length, take}
 use Rattle.timecode.specs.Layout.{tabulate}
 use Rattle.tape.specs.Tape.{blank_at}
 use Rattle.tape.proofs.put_blank.Given as goal

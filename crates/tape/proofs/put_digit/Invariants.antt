@@ -1,7 +1,5 @@
-use native.Mathlib.Omega.{arith}
-use mathlib.Core.Path.{◌≡◌}
 use Prim.Native.Nat.{◌-◌, ◌≤◌}
-use Rattle.tape.specs.Tape.{DigitPut, digit-start, digit-turn}
+use Rattle.tape.specs.Tape.{DigitPut}
 use Rattle.tape.proofs.put_digit.Given as goal
 
 abbrev pub invariant-loop-j : goal.invariant-loop-j

@@ -1,6 +1,4 @@
 -- `put_number` meets its contract: tens, then units.
-use native.Mathlib.Omega.{arith}
-use mathlib.Core.Path.{◌∙◌}
 use Rattle.tape.specs.Tape.{number_put}
 use Rattle.tape.proofs.put_number.Goals as goal
 

@@ -1,8 +1,6 @@
 -- `read_tape` meets its contract: every element fits, or a symbol is above 3, or the lowest index that offends decides.
-use borrow.Author.Rules.{rules}
 use native.Mathlib.Omega.{arith}
 use mathlib.Core.Path.{sym, ap, ◌∙◌}
-use borrow.Author.Tests.{not-false, not-true}
 use Rattle.timecode.specs.declared.Reading.{Reading}
 use Rattle.timecode.specs.declared.Refusal.{Refusal}
 use Rattle.tape.specs.Readings.{reads_so}

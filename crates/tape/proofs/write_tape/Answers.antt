@@ -1,6 +1,5 @@
 -- `write_tape` meets its contract: the digits of hours, minutes and seconds over what stands where none does.
-use native.Mathlib.Omega.{arith}
-use mathlib.Core.Path.{sym, ◌∙◌}
+use mathlib.Core.Path.{◌∙◌}
 use Prim.Native.Nat.{◌/◌}
 use Rattle.tape.specs.Tape.{blank-long, tape-put, is-written}
 use Rattle.tape.proofs.write_tape.Goals as goal

@@ -1,6 +1,6 @@
 use Rattle.std.proofs.Common.{arith}
-use Rattle.generator.specs.Lines.{starts_first}
-use Rattle.generator.specs.Generators.{starts-turn}
+use Rattle.generator.proofs.Lines.{starts_first}
+use Rattle.generator.proofs.Generators.{starts-turn}
 use Rattle.timewrite.proofs.print_frames.Goals as goal
 
 pub loop-left-init : goal.loop-left-init

@@ -1,7 +1,6 @@
 -- `add` meets its contract: the window is taken, or the calendar is handed back.
 use mathlib.Core.Path.{sym, ◌∙◌}
 use Rattle.windows.specs.Ways.{booked, add-taken, add-refused}
-use borrow.Author.Rules.{rules}
 use Rattle.windows.proofs.add.Goals as goal
 
 pub with_keys-requires : goal.with_keys-requires

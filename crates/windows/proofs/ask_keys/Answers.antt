@@ -3,7 +3,6 @@ use mathlib.Core.Path.{sym, ◌∙◌}
 use borrow.Author.Tests.{le-leb, lt-leb}
 use Rattle.windows.specs.Asking.{ask-is}
 use Rattle.calendar.specs.Moments.{ask_of}
-use borrow.Author.Rules.{rules}
 use Rattle.windows.proofs.ask_keys.Goals as goal
 
 pub returns-then-has_day : goal.returns-then-has_day

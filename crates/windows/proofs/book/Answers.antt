@@ -1,7 +1,6 @@
 -- `book` meets its contract: 17, 2, 22, then 21 or the keys.
 use mathlib.Core.Path.{sym, ◌∙◌, refl}
-use Rattle.windows.specs.Ways.{dates-are, book-keys, book-refused, window-path}
-use borrow.Author.Rules.{rules}
+use Rattle.windows.specs.Ways.{book-keys, book-refused, window-path}
 use Rattle.windows.proofs.book.Goals as goal
 
 pub returns-in-Done : goal.returns-in-Done

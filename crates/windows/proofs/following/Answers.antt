@@ -1,8 +1,6 @@
 -- `following` meets its contract.
-use mathlib.Core.Path.{ap}
 use borrow.Author.Tests.{eq-eqb, ne_eqb}
 use Rattle.windows.specs.Asking.{following_of}
-use borrow.Author.Rules.{rules}
 use Rattle.windows.proofs.following.Goals as goal
 
 pub returns-then-key-eq-NO_KEY : goal.returns-then-key-eq-NO_KEY

@@ -1,6 +1,5 @@
 -- `keys_of` meets its contract: 21, or the two keys.
-use Rattle.windows.specs.Ways.{keys-taken, keys-backwards, keys-full}
-use borrow.Author.Rules.{rules}
+use Rattle.windows.specs.Ways.{keys-taken, keys-backwards}
 use Rattle.windows.proofs.keys_of.Goals as goal
 
 pub returns-then-start-end : goal.returns-then-start-end

@@ -1,7 +1,5 @@
 -- `look` meets its contract: the windows from i on.
-use native.Mathlib.Omega.{arith}
-use borrow.Author.Rules.{rules}
-use Rattle.windows.specs.Asking.{Looked, looked-start, looked-room, looked-turn, looked-end}
+use Rattle.windows.specs.Asking.{looked-start, looked-room, looked-turn}
 use Rattle.windows.proofs.look.Goals as goal
 
 pub loop-i-init : goal.loop-i-init

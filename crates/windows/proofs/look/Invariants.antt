@@ -1,6 +1,4 @@
-use native.Mathlib.Omega.{arith}
-use borrow.Author.Rules.{rules}
-use Rattle.windows.specs.Asking.{Looked, looked-start, looked-room, looked-turn, looked-end}
+use Rattle.windows.specs.Asking.{Looked}
 use Rattle.windows.proofs.look.Given as goal
 
 abbrev pub invariant-loop-i : goal.invariant-loop-i

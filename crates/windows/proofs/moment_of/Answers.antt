@@ -1,7 +1,6 @@
 -- `moment_of` meets its contract.
 use native.Mathlib.Omega.{arith}
-use Rattle.calendar.specs.Inverse.{has}
-use borrow.Author.Rules.{rules}
+use Rattle.calendar.proofs.Inverse.{has}
 use Rattle.windows.proofs.moment_of.Goals as goal
 
 pub overflow_sub-month : goal.overflow_sub-month

@@ -1,7 +1,6 @@
 -- `time_of` meets its contract.
 use mathlib.Core.Path.{refl}
 use Rattle.calendar.specs.Windows.{time_of}
-use borrow.Author.Rules.{rules}
 use Rattle.windows.proofs.time_of.Goals as goal
 
 pub returns : goal.returns

@@ -2,7 +2,6 @@
 use mathlib.Core.Path.{sym, ◌∙◌}
 use Rattle.block.specs.Blocks.{lists}
 use Rattle.word_block.specs.BlockChecks.{fitted-ready, fitted-gives, not-placed, not_set, not-records}
-use borrow.Author.Rules.{rules}
 use Rattle.word_block.proofs.feed_block_in_words.Goals as goal
 
 joined : {A B C : Type 0} → record { value : A; reader_after : B; controls_after : C } → A × (B × C)

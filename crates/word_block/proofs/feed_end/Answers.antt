@@ -6,10 +6,9 @@ use lib.ListN.{get_or}
 use native.Mathlib.Omega.{arith}
 use Rattle.timecode.specs.Frames.{read_of}
 use Rattle.stream.specs.Feeding.{row_with}
-use Rattle.stream.specs.Tapes.{tape-frame}
+use Rattle.stream.proofs.Tapes.{tape-frame}
 use Rattle.word_feed.specs.FrameEnds.{row_of_words, whole_register, ends_with}
 use Rattle.word_feed.specs.InPlace.{format_in}
-use borrow.Author.Rules.{rules}
 use Rattle.word_block.proofs.feed_end.Goals as goal
 
 both : {A B : Type 0} → A × B → record { value : A; reader_after : B }

@@ -1,13 +1,11 @@
 -- `feed_strides` meets its contract: i symbols are fed to the words.
-use borrow.Author.Rules.{rules}
 use borrow.Author.Tests.{lt-ltb, le-ltb}
 use native.Mathlib.Omega.{arith}
 use Prim.Native.Nat.{◌-◌}
 use mathlib.Core.Path.{refl, sym, ◌∙◌}
 use lib.ListN.{length}
-use Rattle.block.specs.Blocks.{lists}
 use Rattle.word_block.specs.Standing.{standing-long}
-use Rattle.word_block.specs.WordBlocks.{FedIn, in_start, in-inside, in-before-run, in-run, in-outside, in-still, in_frame, in-quiet, in-report, in_kept, in-fits, in_end, in-unknown, in-full}
+use Rattle.word_block.specs.WordBlocks.{in_start, in-inside, in-before-run, in-run, in-outside, in-still, in_frame, in-quiet, in-report, in_kept, in-fits, in_end, in-unknown, in-full}
 use Rattle.word_block.proofs.feed_strides.Goals as goal
 
 both : {A B C : Type 0} → A × (B × C) → record { value : A; reader_after : B; controls_after : C }

@@ -1,7 +1,6 @@
 -- `row_in_block` meets its contract: in X by the newest word, else by the symbols.
 use mathlib.Core.Path.{sym, ◌∙◌}
-use Rattle.stream.specs.Tapes.{tape-x, tape-known}
-use borrow.Author.Rules.{rules}
+use Rattle.stream.proofs.Tapes.{tape-x, tape-known}
 use Rattle.word_block.proofs.row_in_block.Goals as goal
 
 pub row_with_tape-requires : goal.row_with_tape-requires

@@ -3,7 +3,6 @@ use mathlib.Core.Path.{refl}
 use borrow.Author.Tests.{le-leb, lt-leb}
 use Rattle.word_feed.specs.FrameEnds.{end_answer}
 use Rattle.word_feed.specs.InPlace.{ready-place}
-use borrow.Author.Rules.{rules}
 use Rattle.word_feed.proofs.end_frame.Goals as goal
 
 both : {A B : Type 0} → A × B → record { value : A; reader_after : B }

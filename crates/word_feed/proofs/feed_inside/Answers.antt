@@ -1,5 +1,4 @@
 -- `feed_inside` meets its contract: stored by cases, and nothing stored where a frame becomes whole.
-use borrow.Author.Rules.{rules}
 use mathlib.Core.Path.{sym, ◌∙◌}
 use native.Mathlib.Omega.{arith}
 use Rattle.word_feed.specs.InPlace.{ready-place, above-left, opened, none-under-way, joined, filled, after-whole, becomes-whole}

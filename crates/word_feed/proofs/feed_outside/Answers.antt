@@ -2,7 +2,6 @@
 use mathlib.Core.Path.{◌∙◌}
 use Rattle.word_feed.specs.FrameEnds.{ends_with, refused-left}
 use Rattle.word_feed.specs.InPlace.{ready-place}
-use borrow.Author.Rules.{rules}
 use Rattle.word_feed.proofs.feed_outside.Goals as goal
 
 both : {A B : Type 0} → A × B → record { value : A; reader_after : B }

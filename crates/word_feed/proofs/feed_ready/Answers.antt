@@ -1,9 +1,6 @@
 -- `feed_ready` meets its contract: where no frame becomes whole the answer is Quiet.
-use borrow.Author.Rules.{rules}
 use mathlib.Core.Path.{sym, ◌∙◌}
-use Rattle.word_feed.specs.FrameEnds.{room-left}
 use Rattle.word_feed.specs.InPlace.{inside-quiet}
-use borrow.Author.Rules.{rules}
 use Rattle.word_feed.proofs.feed_ready.Goals as goal
 
 both : {A B : Type 0} → A × B → record { value : A; reader_after : B }

@@ -1,5 +1,4 @@
 -- `feed_words` meets its contract: words that pass are fed as they are, any other by value.
-use borrow.Author.Rules.{rules}
 use mathlib.Core.Path.{sym, ◌∙◌}
 use Rattle.word_feed.specs.InPlace.{ready}
 use Rattle.word_feed.proofs.feed_words.Goals as goal

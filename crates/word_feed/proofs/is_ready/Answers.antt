@@ -1,5 +1,4 @@
 -- `is_ready` meets its contract: test by test.
-use borrow.Author.Rules.{rules}
 use borrow.Author.Tests.{lt-ltb, le-ltb}
 use Rattle.word_feed.specs.InPlace.{is_ready}
 use Rattle.word_feed.proofs.is_ready.Goals as goal

@@ -1,5 +1,4 @@
 -- `known_size` meets its contract: each letter takes the expressions of its row, and any other letter none.
-use borrow.Author.Rules.{rules}
 use mathlib.Core.Path.{refl, sym, ◌∙◌}
 use native.Mathlib.Omega.{arith}
 use borrow.Author.Tests.{le-leb, lt-leb}

@@ -1,12 +1,11 @@
 -- `feed_few` meets its contract: one symbol after another is received, and the words are stored at the end.
-use borrow.Author.Rules.{rules}
-use mathlib.Core.Path.{◌≡◌, refl}
+use mathlib.Core.Path.{refl}
 use native.Mathlib.Omega.{arith}
 use Prim.Native.Nat.{◌-◌}
 use lib.ListN.{get_or}
 use Rattle.openings.specs.Accepted.{accepted-within}
 use Rattle.word_feed.specs.InPlace.{format_in, register_in, ready-place}
-use Rattle.word_stride.specs.FewSymbols.{Received, few-start, few-next, few-in, large}
+use Rattle.word_stride.specs.FewSymbols.{few-start, few-next, few-in, large}
 use Rattle.word_stride.specs.WordRuns.{runs_none, runs-until}
 use Rattle.word_stride.proofs.feed_few.Goals as goal
 

@@ -1,12 +1,8 @@
-use borrow.Author.Rules.{rules}
-use mathlib.Core.Path.{◌≡◌, refl}
-use native.Mathlib.Omega.{arith}
+use mathlib.Core.Path.{◌≡◌}
 use Prim.Native.Nat.{◌-◌}
 use lib.ListN.{get_or}
-use Rattle.openings.specs.Accepted.{accepted-within}
-use Rattle.word_feed.specs.InPlace.{format_in, register_in, ready-place}
-use Rattle.word_stride.specs.FewSymbols.{Received, few-start, few-next, few-in, large}
-use Rattle.word_stride.specs.WordRuns.{runs_none, runs-until}
+use Rattle.word_feed.specs.InPlace.{format_in, register_in}
+use Rattle.word_stride.specs.FewSymbols.{Received}
 use Rattle.word_stride.proofs.feed_few.Given as goal
 
 abbrev pub invariant-loop-i : goal.invariant-loop-i

@@ -5,7 +5,6 @@ use mathlib.Core.Path.{subst}
 use native.Mathlib.Omega.{arith}
 use Rattle.openings.specs.Accepted.{accepted-within, accepted-at}
 use Rattle.word_feed.specs.InPlace.{ready-place}
-use borrow.Author.Rules.{rules}
 use Rattle.word_stride.proofs.feed_many.Goals as goal
 
 pub returns-then-from-to : goal.returns-then-from-to

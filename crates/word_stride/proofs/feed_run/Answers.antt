@@ -1,8 +1,6 @@
 -- `feed_run` meets its contract: few symbols or many, as far as they are accepted.
-use borrow.Author.Rules.{rules}
 use native.Mathlib.Omega.{arith}
 use Rattle.openings.specs.Accepted.{accepted-within}
-use Rattle.word_stride.specs.WordRuns.{runs-until}
 use Rattle.word_stride.proofs.feed_run.Goals as goal
 
 pub overflow_sub-symbols : goal.overflow_sub-symbols

@@ -1,6 +1,5 @@
 -- `fresh` meets its contract.
 use Rattle.stream.specs.Feeding.{made_of}
-use borrow.Author.Rules.{rules}
 use Rattle.stream.proofs.Reader.fresh.Goals as goal
 
 pub returns-then-is_setting : goal.returns-then-is_setting

@@ -1,0 +1,5 @@
+pub mod Adding
+pub mod Inverse
+pub mod Keys
+pub mod Order
+pub mod Rows

@@ -1,0 +1,4 @@
+pub mod FrameEnds
+pub mod Rows
+pub mod Streams
+pub mod Windows

@@ -1,0 +1,5 @@
+pub mod FeedLists
+pub mod Feeding
+pub mod ReaderRows
+pub mod Refinement
+pub mod Tapes
