@@ -1,0 +1,12 @@
+-- `end` meets its contract.
+use native.Mathlib.Omega.{arith}
+use Rattle.listing.specs.Promises.{ending_of}
+use Rattle.listing.proofs.end.Goals as goal
+
+pub returns-then-progress : goal.returns-then-progress
+unfolding ending_of
+returns-then-progress c = (c.requires, omega arith, rw c.if-progress.true)
+
+pub returns : goal.returns
+unfolding ending_of
+returns c = (c.put_counts.ensures.0, c.put_counts.ensures.1, rw c.if-progress.false c.put_counts.ensures.2)
