@@ -30,8 +30,9 @@ def contents(folder, pattern):
 
 
 def is_defined(crate, module, name):
-    """A definition, theorem or record that other files can name, or one that the module passes on."""
-    text = contents(CRATES / crate / "specs", module.replace(".", "/") + ".antt")
+    """A definition or record of specs/, or a theorem there or in proofs/, that other files can name, or one that the module passes on."""
+    files = [contents(CRATES / crate / part, module.replace(".", "/") + ".antt") for part in ("specs", "proofs")]
+    text = "\n".join(files)
     passed_on = {each.strip() for names in re.findall(r"^pub use [^{]*\{([^}]*)\}", text, re.M) for each in names.split(",")}
     return name in passed_on or re.search(rf"^ *(?:abbrev |unfoldable )?pub (?:record |data )?{re.escape(name)}(?=[\s:({{])", text, re.M)
 
@@ -90,7 +91,7 @@ def unknown_in(line):
     cells = line.strip("|").split("|") if line.startswith("|") else []
     unknown = [word for part in cells[1:] or [line] for word in unknown_names(part)]
     for word in re.findall(r"`([\w.]+/[\w./-]+)", line if len(cells) < 2 else "".join(cells[:-1])):
-        if not ((ROOT / word).exists() or (CRATES / "timecode/specs" / word).exists()):
+        if not any((folder / word).exists() for folder in (ROOT, CRATES / "timecode/specs", CRATES / "timecode/proofs")):
             unknown.append(word)
     cited = set()
     for word, there, edits in guards(cells[-1]) if len(cells) > 1 else []:
