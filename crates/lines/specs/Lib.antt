@@ -1,3 +1,4 @@
--- Text is what the contracts say; Filling its laws.
+-- Text is what the contracts say; Filling its laws; Rows worked lines.
 pub mod Text
 pub mod Filling
+pub mod Rows
