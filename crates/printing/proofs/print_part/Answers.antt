@@ -10,13 +10,18 @@ loop-taken-init c = (omega arith, reached-start c.args.progress c.args.bytes.now
 
 pub loop-taken-preserved : goal.loop-taken-preserved
 loop-taken-preserved c =
-    let part : length (rest_of c.args.bytes.now c.loop-taken.taken) ≡ length c.args.bytes.now - c.loop-taken.taken = length_rest c.args.bytes.now c.loop-taken.taken in
-    (omega (arith, c.list-listed.ensures.3),
-    reached-turn c.args.progress c.loop-taken.current _ c.args.bytes.now c.loop-taken.taken c.list-listed.result.taken c.loop-taken.invariant.1 c.list-listed.ensures.1)
+    let part : length (rest_of c.args.bytes.now c.loop-taken.taken) ≡ length c.args.bytes.now - c.loop-taken.taken = length_rest c.args.bytes.now c.loop-taken.taken in (
+      omega (arith, c.list-listed.ensures.3),
+      reached-turn c.args.progress c.loop-taken.current _ c.args.bytes.now c.loop-taken.taken c.list-listed.result.taken c.loop-taken.invariant.1 c.list-listed.ensures.1,
+    )
 
 pub returns-in-loop-taken : goal.returns-in-loop-taken
 returns-in-loop-taken c =
-    let part : length (rest_of c.args.bytes.now c.loop-taken.taken) ≡ length c.args.bytes.now - c.loop-taken.taken = length_rest c.args.bytes.now c.loop-taken.taken in
-    (inr (c.loop-taken.taken + c.list-listed.result.taken, omega (arith, c.list-listed.ensures.3),
-    c.stop.ensures.1 ∙ ap stopped (reached-turn c.args.progress c.loop-taken.current _ c.args.bytes.now c.loop-taken.taken c.list-listed.result.taken c.loop-taken.invariant.1 c.list-listed.ensures.1)),
-    c.stop.ensures.0 ∙ sym (ap (λ (q : Progress). not q.ended) c.stop.ensures.1))
+    let part : length (rest_of c.args.bytes.now c.loop-taken.taken) ≡ length c.args.bytes.now - c.loop-taken.taken = length_rest c.args.bytes.now c.loop-taken.taken in (
+      inr (
+        c.loop-taken.taken + c.list-listed.result.taken,
+        omega (arith, c.list-listed.ensures.3),
+        c.stop.ensures.1 ∙ ap stopped (reached-turn c.args.progress c.loop-taken.current _ c.args.bytes.now c.loop-taken.taken c.list-listed.result.taken c.loop-taken.invariant.1 c.list-listed.ensures.1),
+      ),
+      c.stop.ensures.0 ∙ sym (ap (λ (q : Progress). not q.ended) c.stop.ensures.1),
+    )

@@ -7,6 +7,7 @@ pub loop-left-init : goal.loop-left-init
 loop-left-init g c = (([], reads_nothing _), λ t. ap (λ (p : Progress). p.ended) c.start-progress.ensures)
 
 pub loop-left-preserved : goal.loop-left-preserved
-loop-left-preserved g c =
-    (reads_more _ _ (c.loop-left.invariant.1 c.if-more.true) _ c.loop-left.invariant.0 c.print_read-printed.ensures.0,
-    c.print_read-printed.ensures.1)
+loop-left-preserved g c = (
+  reads_more _ _ (c.loop-left.invariant.1 c.if-more.true) _ c.loop-left.invariant.0 c.print_read-printed.ensures.0,
+  c.print_read-printed.ensures.1,
+)
