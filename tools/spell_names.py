@@ -19,13 +19,16 @@ STRING = re.compile(r'"(?:[^"\\\n]|\\.)*"')
 LITERAL = re.compile(r'''"(?:[^"\\\n]|\\.)*"|b?'(?:[^'\\\n]|\\.)'(?![\w'])''')
 HUMP = re.compile(r"(?<=[a-z0-9])(?=[A-Z])")
 KIT = re.compile(r"use (?:Rattle\.(?:std|core|std_\w+|io|os|libc)|Prim)[\w.]*\.\{([^}]*)\}")
-# Names that would be another's: a lemma that would have its function's name gets _lem, a field that would have a function's name another.
+# Names that would be another's: a lemma that would have its function's name gets _lem, a field that would have a function's name another; and
+# two functions with a dash.
 APART = {
     "next_start": ("generator/specs/", "next_start_lem"),
     "fed_by": ("pulse_feed/specs/PulseFeeds.antt pulse_feed/proofs/", "fed_by_lem"),
     "in-year": ("", "within_year"),
     "new-year": ("", "is_new_year"),
     "leap-day": ("", "is_leap_day"),
+    "with-letter": ("layout/", "with_letter"),
+    "taken-symbols": ("stride/specs/", "taken_symbols"),
 }
 
 

@@ -207,7 +207,7 @@ def move(root,crate):
             if u.startswith("pub use") and not b: continue
             for x in a+b:
                 x=prune(x,gw,gt)
-                if x: us.append(x)
+                if x: us+=(cm if x.startswith("pub ") else [])+[x]
         need=[n for n in dict.fromkeys(own) if n in gw]
         mod_self=path_module(crate,"specs",rel)
         fields=set()

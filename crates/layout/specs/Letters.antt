@@ -9,7 +9,7 @@ use Rattle.timecode.proofs.Laws.Tests.{by-test, clash, and_left, and_right, or-s
 use Rattle.timecode.specs.Layout.{tabulate, seconds, minutes, hours, days, tenths, hundredths_digit, has_seconds, straight_seconds, years, time_fields}
 use Rattle.timecode.specs.declared.Format.{Format}
 use Rattle.layout.specs.Runs.{code_range, code_control, code_fields, code_runs}
-use Rattle.layout.specs.Tables.{starts_of, widths_of, with-letter, full_of, run_starts, run_widths, runs_in, clear_seconds, clear_control, carried_in, has_year, without_year}
+use Rattle.layout.specs.Tables.{starts_of, widths_of, with_letter, full_of, run_starts, run_widths, runs_in, clear_seconds, clear_control, carried_in, has_year, without_year}
 
 -- e is one of the n numbers from a on, of which last is the last
 pub in_row : (n a last : ℕ) → a + n ≡ suc last → (e : ℕ) → member e (tabulate n a (λ (j : ℕ). j)) ≡ (leb a e && leb e last)
@@ -54,16 +54,16 @@ year-known f y =
     (λ n. let b : eqb f.letter B || false ≡ true = rw n at l in by-test (eqb f.letter B) (λ z. rw (eqb-true f.letter B z) all) (λ m. clash b (rw m)))
 
 -- a letter that takes the year has none where its format has none
-pub no_year : (l e : ℕ) → member l (A ∷ B ∷ []) ≡ true → carries_year (with-letter l e) ≡ false → has_year e ≡ false
+pub no_year : (l e : ℕ) → member l (A ∷ B ∷ []) ≡ true → carries_year (with_letter l e) ≡ false → has_year e ≡ false
 unfolding carries_year has_year
 no_year l e y n = by-test (has_year e) (λ h. clash {b = true} refl (rw (h, y) at n)) (λ m. m)
 
 -- and has one where its format has one
-pub year-of : (l e : ℕ) → carries_year (with-letter l e) ≡ true → has_year e ≡ true
+pub year-of : (l e : ℕ) → carries_year (with_letter l e) ≡ true → has_year e ≡ true
 unfolding carries_year has_year
 year-of l e y = and_left (has_year e) (member l (A ∷ B ∷ [])) y
 
-pub other-year : (l e : ℕ) → (l ≡ A → ⊥) → (l ≡ B → ⊥) → carries_year (with-letter l e) ≡ false
+pub other-year : (l e : ℕ) → (l ≡ A → ⊥) → (l ≡ B → ⊥) → carries_year (with_letter l e) ≡ false
 unfolding carries_year
 other-year l e a b = by-test (member e (4 ∷ 5 ∷ 6 ∷ 7 ∷ [])) (λ y. rw (y, ne_eqb l A a, ne_eqb l B b)) (λ n. rw n)
 
@@ -95,7 +95,7 @@ other_row l o =
       ne_eqb X l (λ q. o.not_x (sym q)),
     )
 
-pub other-widths : (l : ℕ) → Other l → widths_of (with-letter l 0) ≡ 0 ∷ 0 ∷ 0 ∷ 0 ∷ 4 ∷ 2 ∷ 4 ∷ 4 ∷ 2 ∷ 0 ∷ 0 ∷ 0 ∷ 0 ∷ 0 ∷ 0 ∷ 0 ∷ 0 ∷ 0 ∷ 0 ∷ 0 ∷ []
+pub other-widths : (l : ℕ) → Other l → widths_of (with_letter l 0) ≡ 0 ∷ 0 ∷ 0 ∷ 0 ∷ 4 ∷ 2 ∷ 4 ∷ 4 ∷ 2 ∷ 0 ∷ 0 ∷ 0 ∷ 0 ∷ 0 ∷ 0 ∷ 0 ∷ 0 ∷ 0 ∷ 0 ∷ 0 ∷ []
 unfolding widths_of code_runs code_fields time_fields seconds minutes hours days tenths hundredths_digit straight_seconds has_seconds carries_seconds code_control code_range carries_control carries_year control_places years row_of is_x
 other-widths l o =
     rw (
@@ -111,7 +111,7 @@ other-widths l o =
 -- ---- what each expression carries, from what its edition's first does
 
 abbrev Carried : ℕ → ℕ → Type 0
-Carried l e = carried_in (without_year e) (widths_of (full_of (with-letter l e))) ≡ widths_of (with-letter l e)
+Carried l e = carried_in (without_year e) (widths_of (full_of (with_letter l e))) ≡ widths_of (with_letter l e)
 
 as-it-is : (e : ℕ) → (e ≡ 4 → ⊥) → (e ≡ 5 → ⊥) → (e ≡ 6 → ⊥) → (e ≡ 7 → ⊥) → without_year e ≡ e
 unfolding without_year has_year
@@ -181,7 +181,7 @@ as-carried n ws all no-seconds no-control neither e =
     (λ a. rw a (by-test (eqb e 1) (λ y. rw y no-seconds) (λ b. rw b (by-test (eqb e 3) (λ y. rw y no-control) (λ c. rw c neither)))))
 
 -- a letter that is none of the seven carries no leap second
-pub other-leap : (l e : ℕ) → Other l → carries_leap (with-letter l e) ≡ false
+pub other-leap : (l e : ℕ) → Other l → carries_leap (with_letter l e) ≡ false
 unfolding carries_leap
 other-leap l e o = rw (ne_eqb l A o.not_a, ne_eqb l B o.not_b, ne_eqb l G o.not_g)
 

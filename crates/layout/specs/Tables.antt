@@ -68,12 +68,12 @@ takes_year l = member l (A ∷ B ∷ [])
 unfoldable pub without_year : ℕ → ℕ
 without_year e = cond (has_year e) (e - 4) e
 
-abbrev pub with-letter : ℕ → ℕ → Format
-with-letter l e = record { letter = l; expression = e }
+abbrev pub with_letter : ℕ → ℕ → Format
+with_letter l e = record { letter = l; expression = e }
 
 -- the expression of a format's edition that carries everything
 abbrev pub full_of : Format → Format
-full_of f = with-letter f.letter (cond (carries_year f) 4 0)
+full_of f = with_letter f.letter (cond (carries_year f) 4 0)
 
 -- the row of a format's edition says what document 01's table and layout say of it, and its runs what each expression carries
 pub record RowFor (f : Format) (r : Row) : Type 0 where

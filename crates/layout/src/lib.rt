@@ -4,7 +4,7 @@
 
 ghost use Rattle.std.specs.Prelude.{◌≡◌, false, cond, ◌&&◌, ℕ, ◌≤◌, ◌<◌, leb};
 ghost use Rattle.timecode.specs.Formats.{known, size, interval, carries_leap, carries_year};
-ghost use Rattle.layout.specs.Tables.{RowFor, RowOf, IsRow, run_starts, full_widths, is_carried, run_widths, runs_in, has_year, takes_year, without_year, with-letter};
+ghost use Rattle.layout.specs.Tables.{RowFor, RowOf, IsRow, run_starts, full_widths, is_carried, run_widths, runs_in, has_year, takes_year, without_year, with_letter};
 
 use timecode::Format;
 
@@ -221,7 +221,7 @@ const OTHER: Row = Row {
 // The row of a letter in one of its editions, without the year or with it, in expression 0 or 4, which carries everything.
 // One test of each letter, so that it is compiled into its callers, which then know what all rows have in common.
 fn row_in(letter: u8, year: bool) -> Row
-    ensures { (e : ℕ) → carries_year (with-letter letter e) ≡ (year && takes_year letter) → RowFor (with-letter letter e) result }
+    ensures { (e : ℕ) → carries_year (with_letter letter e) ≡ (year && takes_year letter) → RowFor (with_letter letter e) result }
 {
     if letter == b'A' {
         if year {

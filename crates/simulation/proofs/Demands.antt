@@ -34,6 +34,7 @@ use Rattle.simulation.proofs.Damages.{length-damaged, damaged-places, damaged-sm
 use Rattle.simulation.proofs.Run.{length_run, run-generator}
 use Rattle.simulation.specs.declared.Counts.{Counts}
 use Rattle.simulation.specs.Simulation.{run_of, replace_at, damaged, are_rising, have_symbols, is_report, first_report, Listener, heard, counts_of, Simulated, Heard, every, have_settings, are_listeners, stepped, simulate_of}
+-- A report is right exactly where a frame of the generator ends with that element and its time is reported.
 pub use Rattle.simulation.proofs.Counting.{ends-exactly-when}
 use Rattle.simulation.specs.Demands.{damages_in, TookPlace, is_heard, counts_in, nobody, no_counts}
 

@@ -277,19 +277,19 @@ module _ (r : Reader) (ss : List ℕ) (from end to n : ℕ) (first received : Re
   abbrev rest : List ℕ
   rest = slice ss (from + 1) stop
 
-  abbrev taken-symbols : List ℕ
-  taken-symbols = get_or ss from 0 ∷ rest
+  abbrev taken_symbols : List ℕ
+  taken_symbols = get_or ss from 0 ∷ rest
 
-  cons : slice ss from stop ≡ taken-symbols
+  cons : slice ss from stop ≡ taken_symbols
   cons = slice-cons ss from stop (omega (arith, run.start)) (omega (arith, run.within))
 
   taken-long : length (slice ss from stop) ≡ stop - from
   taken-long = length-slice ss from stop (omega (arith, run.start)) (omega (arith, run.within))
 
-  all-symbols : AllSymbols taken-symbols
+  all-symbols : AllSymbols taken_symbols
   all-symbols = subst AllSymbols cons (λ j h. rw (slice_at ss from stop j (omega (arith, taken-long))) (below (from + j) (omega (arith, taken-long, run.within))))
 
-  received_is : receive_all f n r.received taken-symbols ≡ received
+  received_is : receive_all f n r.received taken_symbols ≡ received
   unfolding receive_all
   received_is = ap (λ (h : Register). receive_all f n h rest) (sym ef) ∙ run.received_is
 
@@ -299,7 +299,7 @@ module _ (r : Reader) (ss : List ℕ) (from end to n : ℕ) (first received : Re
       let some : from + 1 < stop = let long : suc (length ys) ≡ stop - (from + 1) = ap length e ∙ length-slice ss (from + 1) stop run.start (omega (arith, run.within)) in omega arith in
       rw (← ef) (run.first_not some, u)
 
-  not_whole : NotWholeBefore f (size f) r.received taken-symbols
+  not_whole : NotWholeBefore f (size f) r.received taken_symbols
   not_whole = rw (← en) (not-whole-from rest refl run.not_whole)
 
   -- a frame that began with the first symbol and is whole is the symbols themselves
@@ -307,7 +307,7 @@ module _ (r : Reader) (ss : List ℕ) (from end to n : ℕ) (first received : Re
   frame-way e c =
       let same : after.received ≡ received = ap (λ (q : Reader). q.received) ea in
       let is : received.count ≡ n = sym (ap (λ (h : Register). h.count) same) ∙ c in
-      let shown : ShowsLast received (slice ss from stop) = rw (cons, ← received_is) (last-all f n r.received [] taken-symbols all-symbols (last_none r.received)) in
+      let shown : ShowsLast received (slice ss from stop) = rw (cons, ← received_is) (last-all f n r.received [] taken_symbols all-symbols (last_none r.received)) in
       let none : length (slice ss from stop) - n ≡ 0 = omega (arith, taken-long) in
       rw same (last_frame received (slice ss from stop) n (omega (arith, size-range f)) is (omega (arith, taken-long)) shown ∙ rw none)
 
@@ -315,7 +315,7 @@ module _ (r : Reader) (ss : List ℕ) (from end to n : ℕ) (first received : Re
   advance-way next es =
       let there : from + (stop - from) ≡ stop = omega (arith, run.start) in
       let long : suc (length rest) ≡ stop - from = sym (ap length cons) ∙ taken-long in
-      let whole : reader_after r taken-symbols ≡ when_whole (with_register r ((r.place + (stop - from)) % n) received) = rw (long, ← en, received_is) at (stride-reader r (get_or ss from 0) rest v all-symbols not_whole) in
+      let whole : reader_after r taken_symbols ≡ when_whole (with_register r ((r.place + (stop - from)) % n) received) = rw (long, ← en, received_is) at (stride-reader r (get_or ss from 0) rest v all-symbols not_whole) in
       let is : next ≡ reader_after r (slice ss from stop) = es ∙ ap when_whole ea ∙ rw ep (sym whole) ∙ sym (ap (reader_after r) cons) in
       record {
         some = omega (arith, run.start);

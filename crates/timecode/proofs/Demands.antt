@@ -32,10 +32,16 @@ use Rattle.timecode.specs.declared.Time.{Time}
 use Rattle.timecode.specs.declared.WidthSettings.{WidthSettings}
 use Rattle.timecode.specs.declared.Written.{Written}
 use Rattle.timecode.specs.declared.Written.TheVariants.{Done}
+-- Theorems that stand whole in Laws, passed on.
+-- Two times that follow one are the same, or day 1 and day 366 at midnight, or 23:59:59 or 23:59:60 and midnight in A, B or G.
 pub use Rattle.timecode.proofs.Laws.Stepping.{two-that-follow}
+-- Two that are not the same are written at least seven elements apart, whatever the control words.
 pub use Rattle.timecode.proofs.Laws.Successors.{two-that-follow-are-apart}
+-- Scan answers the lowest place, at least 1 (in X 0) and at least the start, where a mark stands before (in X anything or nothing) and Read accepts; None exactly if there is none.
 pub use Rattle.timecode.proofs.Laws.Scanning.{scan-finds-the-lowest, scan-finds-none}
+-- The classifier: settings 5, 5, 5 give document 01's symbols; no width is in two classes; a symbol below 3 is given exactly where the period and the width are in its class, whatever the order in which they are asked.
 pub use Rattle.timecode.proofs.Laws.Widths.{as_before, classes-never-meet, pulse-in-its-class, symbol-exactly}
+-- The deviation lies within the setting, that of a spoiled element is 0, and 32 bits hold every one.
 pub use Rattle.timecode.proofs.Laws.Widths.{deviation-within, spoiled-without-deviation, deviation-bound}
 use Rattle.timecode.specs.Demands.{Writes}
 
