@@ -265,24 +265,17 @@ def move(root,crate):
             t=read(p); rel=os.path.relpath(p,S); d="" if rel=="Lib.antt" else rel[:-5]+"/"
             new="\n".join(l for l in t.split("\n") if not (re.match(r"(pub )?mod (\w+)$",l) and not os.path.exists(f"{S}/{d}{l.split()[-1]}.antt")))
             if new!=t: write(p,new)
-    # other users
+    # other users, and the crate's own files that did not move
     for p in files(root+"/crates"):
-        if not p.endswith((".antt",)): continue
-        if p.startswith(S+"/") or (p.startswith(base+"/proofs/") and os.path.relpath(p,base+"/proofs") in proofs_mods): continue
+        if not p.endswith(".antt"): continue
+        rel=os.path.relpath(p,S) if p.startswith(S+"/") else None
+        if rel in moved or (p.startswith(base+"/proofs/") and os.path.relpath(p,base+"/proofs") in proofs_mods): continue
         t=read(p); ls=[]
         for l in t.split("\n"):
             a,b=turn_use(l) if re.match(r"(pub )?use Rattle\."+crate+r"\.specs\.",l) else ([l],[])
             ls+=a+b
         n="\n".join(ls)
         if n!=t: write(p,n)
-    for p in files(S):
-        if p.endswith(".antt") and os.path.relpath(p,S) not in moved:
-            t=read(p); ls=[]
-            for l in t.split("\n"):
-                a,b=turn_use(l) if re.match(r"(pub )?use Rattle\."+crate+r"\.specs\.",l) else ([l],[])
-                ls+=a+b
-            n="\n".join(ls)
-            if n!=t: write(p,n)
     print(crate,"moved",sum(len(v) for v in moved.values()),"names of",len(proofs_mods),"files")
 
 main(sys.argv[1:])
