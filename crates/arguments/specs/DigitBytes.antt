@@ -1,29 +1,21 @@
 -- One digit more, at each turn of the loop that reads a number.
-use Rattle.std.specs.Prelude.{◌≡◌, refl, true, false, ◌&&◌, List, [], ◌∷◌, ◌++◌, ℕ, suc, ◌+◌, ◌*◌, ◌-◌, ◌/◌, ◌<◌, ◌≤◌, leb, ltb, get_or, length, take, drop}
-use Rattle.std.proofs.Common.{sym, ap, ◌∙◌, mul-one, mul-le-mul_left, le-div_iff_mul-le, div-lt_iff_lt-mul, add-one, arith, lt-ltb, le-ltb, le-leb, leb-true, leb-false, drop_of_length-le, take-suc, drop-cons}
+use Rattle.std.specs.Prelude.{◌≡◌, refl, Some, None, true, false, ◌&&◌, List, [], ◌∷◌, ◌++◌, ℕ, suc, ◌+◌, ◌*◌, ◌<◌, ◌≤◌, leb, ltb, get_or, length, take, drop}
+use Rattle.std.proofs.Common.{sym, ap, ◌∙◌, mul-one, mul-le-mul_left, add-one, arith, lt-ltb, le-ltb, le-leb, leb-true, leb-false, drop_of_length-le, take-suc, drop-cons}
 use Rattle.std.proofs.lemmas.Bool.{lt-leb}
 use Rattle.std.proofs.Math.Seq.{take-length}
 use Rattle.timecode.proofs.Laws.Tests.{by-test}
 use Rattle.arguments.specs.Numbers.{digit_of, are_digit_bytes, value_from, last, limited, number_of}
-use Rattle.arguments.specs.declared.Number.TheVariants.{Value, Malformed}
 
-pub limited-small : (v : ℕ) → v ≤ last → v ≡ limited v
+limited-small : (v : ℕ) → v ≤ last → v ≡ limited v
 unfolding limited
 limited-small v h = rw (le-leb v last h)
 
-pub limited-large : (v : ℕ) → last < v → last ≡ limited v
+limited-large : (v : ℕ) → last < v → last ≡ limited v
 unfolding limited
 limited-large v h = rw (lt-leb v last h)
 
 limited-most : (v : ℕ) → last ≤ v → last ≡ limited v
 limited-most v h = by-test (leb v last) (λ y. let same : v ≡ last = omega (arith, leb-true v last y) in rw same (limited-small last (omega arith))) (λ n. limited-large v (leb-false v last n))
-
--- the test that keeps the value within 64 bits
-pub digit-fits : (v base d : ℕ) → 2 ≤ base → d < base → base ≤ 16 → v ≤ (last - d) / base → v * base + d ≤ last
-digit-fits v base d a b c h = let m : v * base ≤ last - d = (le-div_iff_mul-le {k = base} {x = v} {y = last - d} (omega arith)).0 h in omega arith
-
-pub digit-over : (v base d : ℕ) → 2 ≤ base → d < base → base ≤ 16 → (last - d) / base < v → last < v * base + d
-digit-over v base d a b c h = let m : last - d < v * base = (div-lt_iff_lt-mul {k = base} {x = last - d} {y = v} (omega arith)).0 h in omega arith
 
 grows : (v base d : ℕ) → 2 ≤ base → v ≤ v * base + d
 grows v base d h = let m : v * 1 ≤ v * base = mul-le-mul_left v (one base h) in omega (arith, mul-one v)
@@ -81,11 +73,11 @@ read-turn base text i value value' d h b r p q v =
       rest = r.rest ∙ digits-next base text i b ∙ rw (← p, lt-ltb d base q, add-one i);
     }
 
-pub read_none : (base : ℕ) (text : List ℕ) → length text ≡ 0 → Malformed ≡ number_of base text
+pub read_none : (base : ℕ) (text : List ℕ) → length text ≡ 0 → None ≡ number_of base text
 unfolding number_of
 read_none base text n = rw n
 
-pub read-other : (base : ℕ) (text : List ℕ) (i value d : ℕ) → i < length text → Read base text i value → d ≡ digit_of (get_or text i 0) → base ≤ d → Malformed ≡ number_of base text
+pub read-other : (base : ℕ) (text : List ℕ) (i value d : ℕ) → i < length text → Read base text i value → d ≡ digit_of (get_or text i 0) → base ≤ d → None ≡ number_of base text
 unfolding number_of
 read-other base text i value d b r p q =
     let no : are_digit_bytes base text ≡ false = r.rest ∙ digits-next base text i b ∙ rw (← p, le-ltb d base q) in
@@ -95,9 +87,9 @@ digits-none : (base : ℕ) → are_digit_bytes base [] ≡ true
 unfolding are_digit_bytes
 digits-none base = refl
 
-pub read_all : (base : ℕ) (text : List ℕ) (i value : ℕ) → 0 < length text → i ≡ length text → Read base text i value → Value value ≡ number_of base text
+pub read_all : (base : ℕ) (text : List ℕ) (i value : ℕ) → 0 < length text → i ≡ length text → Read base text i value → Some value ≡ number_of base text
 unfolding number_of
 read_all base text i value some e r =
     let yes-all : are_digit_bytes base text ≡ true = r.rest ∙ ap (are_digit_bytes base) (drop_of_length-le text {i = i} (omega arith)) ∙ digits-none base in
     let all : take i text ≡ text = ap (λ (k : ℕ). take k text) e ∙ take-length text in
-    rw (yes-all, lt-ltb 0 (length text) some) (ap Value (r.so_far ∙ ap (λ (t : List ℕ). limited (value_from base 0 t)) all))
+    rw (yes-all, lt-ltb 0 (length text) some) (ap Some (r.so_far ∙ ap (λ (t : List ℕ). limited (value_from base 0 t)) all))

@@ -1,7 +1,5 @@
 -- A number as an argument writes it: digits of a base and nothing else, in either case.
-use Rattle.std.specs.Prelude.{Bool, true, cond, ◌&&◌, List, [], ◌∷◌, ℕ, ◌+◌, ◌*◌, ◌-◌, leb, ltb, length}
-use Rattle.arguments.specs.declared.Number.{Number}
-use Rattle.arguments.specs.declared.Number.TheVariants.{Value, Malformed}
+use Rattle.std.specs.Prelude.{Bool, true, cond, Option, Some, None, ◌&&◌, List, [], ◌∷◌, ℕ, ◌+◌, ◌*◌, ◌-◌, leb, ltb, length}
 
 -- `0` to `9`, `A` to `F`, `a` to `f`; 16 for every other character, which is a digit of no base here
 unfoldable pub digit_of : ℕ → ℕ
@@ -31,5 +29,5 @@ last = 18446744073709551615
 unfoldable pub limited : ℕ → ℕ
 limited v = cond (leb v last) v last
 
-unfoldable pub number_of : ℕ → List ℕ → Number
-number_of base text = cond (ltb 0 (length text) && are_digit_bytes base text) (Value (limited (value_from base 0 text))) Malformed
+unfoldable pub number_of : ℕ → List ℕ → Option ℕ
+number_of base text = cond (ltb 0 (length text) && are_digit_bytes base text) (Some (limited (value_from base 0 text))) None

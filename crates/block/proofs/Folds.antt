@@ -1,5 +1,6 @@
 -- A block equals feeding its symbols singly; parts of a block fed one after the other equal the whole; what a refused block leaves; its answers from its records.
-use Rattle.std.specs.Prelude.{◌≡◌, refl, true, List, [], ◌∷◌, ◌++◌, map, ℕ, zero, suc, ◌+◌, ◌-◌, ◌<◌, get_or, length, take, drop}
+use Rattle.timecode.specs.Answers.{accepted}
+use Rattle.std.specs.Prelude.{◌≡◌, refl, true, List, [], ◌∷◌, ◌++◌, map, ℕ, zero, suc, ◌+◌, ◌-◌, ◌<◌, get_or, length, take, drop, Err}
 use Rattle.std.proofs.Common.{sym, ap, ap₂, ◌∙◌, append_assoc, zero-add, suc-add, not-suc-le-zero, arith, leb-true, leb-false, eq-eqb, ne_eqb, ext_get_or, get_or-take, get_or-append-add, get_or-drop, length-take-le}
 use Rattle.std.proofs.lemmas.List.{length-map, take-append-le}
 use Rattle.std.proofs.Math.ListN.{get_or-append, get_or-map}
@@ -18,8 +19,7 @@ use Rattle.stream.specs.Feeding.{is_valid}
 use Rattle.stream.specs.Refinement.{answers, reader_after}
 use Rattle.stream.specs.declared.Reader.{Reader}
 use Rattle.stream.proofs.FeedLists.{feed-answers-append, reader-append, length-feed-answers, answers-take, answers_at, valid-after, has-setting-after, refused-above, quiet-no-refusal, above-refused}
-use Rattle.block.specs.Blocks.{Reported, report_at, Block, with_first, block_in, block_of, Lists, are_records, field_left, index_of, year_of, day_of, hundredths_of, control_of, lists_left, record_at, records_in, answers_from, block_for, block_answer, feed_block_of}
-use Rattle.block.specs.declared.BlockAnswer.{BlockAnswer}
+use Rattle.block.specs.Blocks.{Reported, report_at, Block, with_first, block_in, block_of, Lists, are_records, field_left, index_of, year_of, day_of, hundredths_of, control_of, lists_left, record_at, records_in, answers_from, block_for, block_answer, feed_block_of, block_taken}
 use Rattle.block.specs.declared.Stop.{Stop}
 use Rattle.block.specs.declared.Stop.TheVariants.{AllTaken, UnknownSymbol, NoRoom}
 use Rattle.block.specs.Folds.{reports_in, StopsFor, Takes, StopsBefore, FedSingly, later, followed, reader_followed}
@@ -183,12 +183,12 @@ split-reader r room ss rs = rw (split-block r room ss rs) (by-stop first.stop re
     by-stop UnknownSymbol e = front
     by-stop NoRoom e = front
 
-taken-not-refused : (taken reports : ℕ) (why : Stop) (x : Refusal) → BlockAnswer.Taken taken reports why ≡ BlockAnswer.Refused x → ⊥
+taken-not-refused : (taken reports : ℕ) (why : Stop) (x : Refusal) → block_taken taken reports why ≡ Err x → ⊥
 taken-not-refused taken reports why x h = let n : ◌≡◌ {A = ℕ} 0 1 = cc in omega arith
 
 -- ---- demand 1: a refused block leaves the reader and the five lists as they were
 
-pub refused-block-leaves : (r : Reader) (ss : List ℕ) (l : Lists) (x : Refusal) → (feed_block_of r ss l).answer ≡ BlockAnswer.Refused x → ((feed_block_of r ss l).reader ≡ r) × (lists_left (block_for r ss l) l ≡ l)
+pub refused-block-leaves : (r : Reader) (ss : List ℕ) (l : Lists) (x : Refusal) → (feed_block_of r ss l).answer ≡ Err x → ((feed_block_of r ss l).reader ≡ r) × (lists_left (block_for r ss l) l ≡ l)
 unfolding feed_block_of block_answer block_for field_left reader_after
 refused-block-leaves r ss l x h =
     by-test (is_valid r)

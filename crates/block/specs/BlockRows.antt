@@ -1,6 +1,6 @@
 -- The order of a block's checks, 13, 26, 3, and a block of no symbols.
 use Rattle.std.specs.Prelude.{List, [], ◌∷◌, ℕ}
-use Rattle.timecode.specs.Answers.{Result}
+use Rattle.timecode.specs.Answers.{Outcome}
 use Rattle.timecode.specs.Formats.{H}
 use Rattle.timecode.specs.Frames.{no_time}
 use Rattle.stream.specs.Feeding.{fresh_register}
@@ -18,7 +18,7 @@ unequal = lists (0 ∷ []) [] [] [] []
 abbrev empty : Lists
 empty = lists [] [] [] [] []
 
-abbrev pub results : List Result
+abbrev pub results : List Outcome
 results =
     block_result (block_answer (at 6 60) [] unequal)
     ∷ block_result (block_answer (at 6 0) [] unequal)

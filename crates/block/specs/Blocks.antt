@@ -1,6 +1,8 @@
 -- Document 02, "Whole blocks from the sampler": a block is the list of Feeds of its symbols, up to where it stops.
-use Rattle.std.specs.Prelude.{Bool, cond, ◌&&◌, List, [], ◌∷◌, ◌++◌, map, ℕ, zero, suc, eqb, pos, get_or, length, take, drop}
-use Rattle.timecode.specs.Answers.{Result, success, refusal_result, checks}
+use Rattle.block.specs.declared.Taken.{Taken}
+use Rattle.timecode.specs.declared.Refusal.{Refusal}
+use Rattle.std.specs.Prelude.{Bool, cond, ◌&&◌, List, [], ◌∷◌, ◌++◌, map, ℕ, zero, suc, eqb, pos, get_or, length, take, drop, Result, Ok, Err}
+use Rattle.timecode.specs.Answers.{Outcome, success, refusal_result, checks}
 use Rattle.timecode.specs.Layout.{tabulate}
 use Rattle.timecode.specs.Stream.{is_setting}
 use Rattle.timecode.specs.declared.Answer.{Answer}
@@ -10,7 +12,6 @@ use Rattle.timecode.specs.declared.Time.{Time}
 use Rattle.stream.specs.Feeding.{is_valid}
 use Rattle.stream.specs.Refinement.{answers, reader_after}
 use Rattle.stream.specs.declared.Reader.{Reader}
-use Rattle.block.specs.declared.BlockAnswer.{BlockAnswer}
 use Rattle.block.specs.declared.FedBlock.{FedBlock}
 use Rattle.block.specs.declared.Stop.{Stop}
 use Rattle.block.specs.declared.Stop.TheVariants.{AllTaken, UnknownSymbol, NoRoom}
@@ -112,14 +113,18 @@ answers_from i (suc n) (r ∷ rs) = cond (eqb r.index i) (Report r.time r.contro
 unfoldable pub block_for : Reader → List ℕ → Lists → Block
 block_for r ss l = cond (is_valid r && (is_setting r.setting && are_records l)) (block_of r (room_in l) ss) (stopped AllTaken)
 
-unfoldable pub block_answer : Reader → List ℕ → Lists → BlockAnswer
+-- the answer to a block that is not refused
+abbrev pub block_taken : ℕ → ℕ → Stop → Result Taken Refusal
+block_taken taken reports why = Ok (record { symbols = taken; reports = reports; stop = why })
+
+unfoldable pub block_answer : Reader → List ℕ → Lists → Result Taken Refusal
 block_answer r ss l =
-    checks BlockAnswer.Refused
+    checks Err
     ((InvalidReader, is_valid r)  -- 13
     ∷ (InvalidSetting, is_setting r.setting)  -- 26
     ∷ (WrongLength, are_records l)  -- 3
     ∷ [])
-    (BlockAnswer.Taken (block_of r (room_in l) ss).taken (length (block_of r (room_in l) ss).reports) (block_of r (room_in l) ss).stop)
+    (block_taken (block_of r (room_in l) ss).taken (length (block_of r (room_in l) ss).reports) (block_of r (room_in l) ss).stop)
 
 -- what the answer says: the symbols taken, the reports put in, and why it stopped (0 all taken, 1 before a symbol above 3, 2 no room)
 abbrev pub stop_number : Stop → ℕ
@@ -127,9 +132,9 @@ stop_number AllTaken = 0
 stop_number UnknownSymbol = 1
 stop_number NoRoom = 2
 
-abbrev pub block_result : BlockAnswer → Result
-block_result (BlockAnswer.Taken taken reports why) = success (pos taken ∷ pos reports ∷ pos (stop_number why) ∷ [])
-block_result (BlockAnswer.Refused x) = refusal_result x
+abbrev pub block_result : Result Taken Refusal → Outcome
+block_result (Ok b) = success (pos b.symbols ∷ pos b.reports ∷ pos (stop_number b.stop) ∷ [])
+block_result (Err x) = refusal_result x
 
 -- the reader after the symbols taken, and the answer
 unfoldable pub feed_block_of : Reader → List ℕ → Lists → FedBlock

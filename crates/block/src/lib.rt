@@ -6,7 +6,7 @@ use stream::Reader;
 use timecode::Refusal;
 
 // Why a block stopped: it had no more symbols, or before a symbol above 3, or before a report with no room left for it.
-#[derive(Clone, Copy)]
+#[derive(Clone, Copy, PartialEq, Eq)]
 pub enum Stop {
     AllTaken,
     UnknownSymbol,
@@ -14,19 +14,16 @@ pub enum Stop {
 }
 
 // How many symbols were taken, how many reports were put in, and why it stopped.
-#[derive(Clone, Copy)]
-pub enum BlockAnswer {
-    Taken {
-        symbols: usize,
-        reports: usize,
-        stop: Stop,
-    },
-    Refused(Refusal),
+#[derive(Clone, Copy, PartialEq, Eq)]
+pub struct Taken {
+    pub symbols: usize,
+    pub reports: usize,
+    pub stop: Stop,
 }
 
 // The reader handed back, with the answer.
-#[derive(Clone, Copy)]
+#[derive(Clone, Copy, PartialEq, Eq)]
 pub struct FedBlock {
     pub reader: Reader,
-    pub answer: BlockAnswer,
+    pub answer: Result<Taken, Refusal>,
 }

@@ -1,10 +1,11 @@
 -- A block by its reader's words: the reader that fits its widths comes back from them.
-use Rattle.std.specs.Prelude.{◌≡◌, List, ℕ, take}
+use Rattle.block.specs.declared.Taken.{Taken}
+use Rattle.timecode.specs.declared.Refusal.{Refusal}
+use Rattle.std.specs.Prelude.{◌≡◌, List, ℕ, take, Result}
 use Rattle.std.proofs.Common.{ap, ap₂, ◌∙◌}
 use Rattle.stream.specs.declared.Reader.{Reader}
 use Rattle.block.specs.Blocks.{Lists, block_for, feed_block_of, lists_left}
 use Rattle.block.proofs.Folds.{refused-block-leaves}
-use Rattle.block.specs.declared.BlockAnswer.{BlockAnswer}
 use Rattle.reader_words.specs.WordLaws.{Fits}
 use Rattle.reader_words.proofs.WordLaws.{words_back, after-fits}
 use Rattle.reader_words.specs.Words.{words_for, reader_in}
@@ -16,7 +17,7 @@ module _ (r : Reader) (ss : List ℕ) (l : Lists) (fits : Fits r) where
   unfolding feed_block_of
   fits_after = after-fits r (take (block_for r ss l).taken ss) fits
 
-  pub by-words : {answer : BlockAnswer} {left : List ℕ} {l₁ : Lists} → answer ≡ (feed_block_words (words_for r) ss l).answer → left ≡ block_words_left (feed_block_words (words_for r) ss l) (words_for r) → l₁ ≡ lists_left (block_for (reader_in (words_for r)) ss l) l
+  pub by-words : {answer : Result Taken Refusal} {left : List ℕ} {l₁ : Lists} → answer ≡ (feed_block_words (words_for r) ss l).answer → left ≡ block_words_left (feed_block_words (words_for r) ss l) (words_for r) → l₁ ≡ lists_left (block_for (reader_in (words_for r)) ss l) l
       → (fed_block_with (reader_in left) answer ≡ feed_block_of r ss l) × (l₁ ≡ lists_left (block_for r ss l) l)
   by-words {answer} {left} {l₁} a e q =
       let fed = feed_block_of r ss l in

@@ -6,11 +6,12 @@ ghost use Rattle.std.specs.Prelude.{◌≡◌};
 ghost use Rattle.block.specs.Blocks.{stop_number};
 ghost use Rattle.block_words.specs.BlockWords.{block_result_of};
 
-use block::{BlockAnswer, Stop};
+use block::{Stop, Taken};
 use refusals::number_of;
+use timecode::Refusal;
 
 #[repr(C)]
-#[derive(Clone, Copy)]
+#[derive(Clone, Copy, PartialEq, Eq, Default)]
 pub struct BlockResult {
     pub number: u8,
     pub stop: u8,
@@ -22,32 +23,24 @@ pub struct BlockResult {
 fn stop_number(stop: Stop) -> u8
     ensures { result ≡ stop_number stop }
 {
-    match stop {
-        Stop::AllTaken => 0,
-        Stop::UnknownSymbol => 1,
-        Stop::NoRoom => 2,
-    }
+    stop as u8
 }
 
-pub fn block_result(answer: BlockAnswer) -> BlockResult
-    ensures { result ≡ block_result_of answer }
-{
-    match answer {
-        BlockAnswer::Taken {
-            symbols,
-            reports,
-            stop,
-        } => BlockResult {
-            number: 0,
-            stop: stop_number(stop),
-            taken: symbols,
-            reports: reports,
-        },
-        BlockAnswer::Refused(refusal) => BlockResult {
-            number: number_of(refusal),
-            stop: 0,
-            taken: 0,
-            reports: 0,
-        },
+impl From<Result<Taken, Refusal>> for BlockResult {
+    ghost from_gives = { λ answer r. r ≡ block_result_of answer };
+
+    fn from(answer: Result<Taken, Refusal>) -> BlockResult {
+        match answer {
+            Ok(taken) => BlockResult {
+                number: 0,
+                stop: stop_number(taken.stop),
+                taken: taken.symbols,
+                reports: taken.reports,
+            },
+            Err(refusal) => BlockResult {
+                number: number_of(refusal),
+                ..BlockResult::default()
+            },
+        }
     }
 }

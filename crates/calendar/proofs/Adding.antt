@@ -1,13 +1,12 @@
 -- Windows added one by one to an empty calendar: it holds those that were taken, in their order, and at most 32; a refused one leaves it as it was.
-use Rattle.std.specs.Prelude.{◌≡◌, refl, true, List, [], ◌∷◌, ◌++◌, ℕ, ◌%◌, ◌≤◌, ltb, eqb, length, take}
+use Rattle.timecode.specs.Answers.{done}
+use Rattle.std.specs.Prelude.{◌≡◌, refl, true, List, [], ◌∷◌, ◌++◌, ℕ, ◌%◌, ◌≤◌, ltb, eqb, length, take, Result, Ok, Err}
 use Rattle.std.proofs.Common.{sym, ap, ◌∙◌, append-nil, append_assoc, add-one, arith, leb-true, ltb-true, length-set, take-suc-set, length-take-le}
 use Rattle.std.proofs.lemmas.List.{length-replicate}
 use Rattle.timecode.specs.Formats.{days_in}
-use Rattle.timecode.proofs.Laws.Checks.{done, all-passed}
+use Rattle.timecode.proofs.Laws.Checks.{done-taken, all-passed}
 use Rattle.timecode.proofs.Laws.Tests.{by-test, and_left, and_right}
 use Rattle.timecode.specs.declared.Refusal.{Refusal}
-use Rattle.timecode.specs.declared.Written.{Written}
-use Rattle.timecode.specs.declared.Written.TheVariants.{Done}
 use Rattle.calendar.specs.Dates.{is_year, has_date}
 use Rattle.calendar.proofs.Inverse.{has, number-range}
 use Rattle.calendar.specs.Keys.{Small}
@@ -32,10 +31,10 @@ moment-small d y c h =
       hundredths = omega (arith, leb-true d.hundredths 8640099 c);
     }
 
-pub passes-all : (count : ℕ) (s e : DateTime) → add_answer count s e ≡ Done → Passes count s e
+pub passes-all : (count : ℕ) (s e : DateTime) → add_answer count s e ≡ done → Passes count s e
 unfolding add_answer
 passes-all count s e h =
-    let passed = (all-passed Written.Refused (window_checks count s e) Done Done done h).0 in
+    let passed = (all-passed Err (window_checks count s e) done done done-taken h).0 in
     record {
       start = moment-small s (and_left (is_year s.date.year) (is_year e.date.year) (passed 0)) (and_left (is_hundredth s.hundredths) (is_hundredth e.hundredths) (passed 1)) (and_left (has_date s.date) (has_date e.date) (passed 2));
       end = moment-small e (and_right (is_year s.date.year) (is_year e.date.year) (passed 0)) (and_right (is_hundredth s.hundredths) (is_hundredth e.hundredths) (passed 1)) (and_right (has_date s.date) (has_date e.date) (passed 2));
@@ -55,9 +54,9 @@ windows-last [] (e ∷ es) a b h = absurd (omega arith)
 windows-last (s ∷ ss) [] a b h = absurd (omega arith)
 windows-last (s ∷ ss) (e ∷ es) a b h = ap (λ (ws : List Window). record { start = time_of s; end = time_of e } ∷ ws) (windows-last ss es a b (omega arith))
 
-one-by : (c : Calendar) (s e : DateTime) → Made c → (a : Written) → add_answer c.count s e ≡ a → One c s e
+one-by : (c : Calendar) (s e : DateTime) → Made c → (a : Result Unit Refusal) → add_answer c.count s e ≡ a → One c s e
 unfolding add_of
-one-by c s e m Done h =
+one-by c s e m (Ok u) h =
     let p = passes-all c.count s e h in
     let room = p.room in
     let start = key_of (moment_of s) in
@@ -70,7 +69,7 @@ one-by c s e m Done h =
       made = rw h (record { few = omega arith; starts = length-set c.starts c.count start ∙ m.starts; ends = length-set c.ends c.count end ∙ m.ends });
       windows = rw (h, add-one c.count, first, second) (rw (key_back (moment_of s) p.start, key_back (moment_of e) p.end) at last);
     }
-one-by c s e m (Written.Refused r) h = record { made = rw h (record { few = m.few; starts = m.starts; ends = m.ends }); windows = rw h (sym (append-nil (windows_of c))) }
+one-by c s e m (Err r) h = record { made = rw h (record { few = m.few; starts = m.starts; ends = m.ends }); windows = rw h (sym (append-nil (windows_of c))) }
 
 -- ---- all of them
 
@@ -97,9 +96,9 @@ made-by-adding bs =
     let c = added empty_calendar bs in
     (all.1, omega (arith, no_more (take c.count c.starts) (take c.count c.ends), length-take-le c.count c.starts (omega (arith, all.0.few, all.0.starts)), all.0.few))
 
-one-ends : (count : ℕ) (s e : DateTime) (a : Written) (ws : List Window) → add_answer count s e ≡ a → EachEnds ws → EachEnds (taken_by a (window_of s e) ++ ws)
-one-ends count s e Done ws h rest = ((passes-all count s e h).order, rest)
-one-ends count s e (Written.Refused x) ws h rest = rest
+one-ends : (count : ℕ) (s e : DateTime) (a : Result Unit Refusal) (ws : List Window) → add_answer count s e ≡ a → EachEnds ws → EachEnds (taken_by a (window_of s e) ++ ws)
+one-ends count s e (Ok u) ws h rest = ((passes-all count s e h).order, rest)
+one-ends count s e (Err x) ws h rest = rest
 
 each-taken : (c : Calendar) (bs : List Booking) → EachEnds (taken c bs)
 unfolding taken
@@ -110,10 +109,10 @@ pub each-ends-after : (bs : List Booking) → EachEnds (windows_of (added empty_
 each-ends-after bs = rw (made-by-adding bs).0 (each-taken empty_calendar bs)
 
 -- A refused add leaves the calendar as it was.
-pub refused-stays : (c : Calendar) (s e : DateTime) (r : Refusal) → (add_of c s e).answer ≡ Written.Refused r → (add_of c s e).calendar ≡ c
+pub refused-stays : (c : Calendar) (s e : DateTime) (r : Refusal) → (add_of c s e).answer ≡ Err r → (add_of c s e).calendar ≡ c
 unfolding add_of
 refused-stays c s e r h = by_answer (add_answer c.count s e) refl
   where
-    by_answer : (a : Written) → add_answer c.count s e ≡ a → (add_of c s e).calendar ≡ c
-    by_answer Done is = absurd (done r (sym (rw is at h)))
-    by_answer (Written.Refused x) is = rw is
+    by_answer : (a : Result Unit Refusal) → add_answer c.count s e ≡ a → (add_of c s e).calendar ≡ c
+    by_answer (Ok u) is = absurd (done-taken r (sym (rw is at h)))
+    by_answer (Err x) is = rw is

@@ -1,18 +1,15 @@
 -- Month and day from day of year, and back: each undoes the other, by induction over the lengths of the months.
-use Rattle.std.specs.Prelude.{◌≡◌, refl, true, ◌&&◌, List, [], ◌∷◌, ℕ, zero, suc, ◌+◌, ◌-◌, ◌%◌, ◌<◌, ◌≤◌, leb, eqb, get_or, length}
+use Rattle.std.specs.Prelude.{◌≡◌, refl, true, ◌&&◌, List, [], ◌∷◌, ℕ, zero, suc, ◌+◌, ◌-◌, ◌%◌, ◌<◌, ◌≤◌, leb, eqb, get_or, length, Result, Ok, Err}
 use Rattle.std.proofs.Common.{ap, ◌∙◌, subst, arith, leb-true, leb-false, le-leb}
 use Rattle.std.proofs.lemmas.Bool.{lt-leb}
 use Rattle.timecode.specs.Formats.{days_in}
 use Rattle.timecode.specs.Laws.Checks.{Taken}
 use Rattle.timecode.proofs.Laws.Checks.{all-passed}
 use Rattle.timecode.proofs.Laws.Tests.{by-test, and_left, and_right}
+use Rattle.timecode.specs.declared.Refusal.{Refusal}
 use Rattle.timecode.specs.declared.Refusal.TheVariants.{InvalidYear, InvalidDate}
 use Rattle.calendar.specs.Dates.{is_year, is_leap, month_lengths, place_in, day_in, has_day, has_date, date_at, date_of, day_number, day_of}
-use Rattle.calendar.specs.declared.Counted.{Counted}
-use Rattle.calendar.specs.declared.Counted.TheVariants.{Day}
 use Rattle.calendar.specs.declared.Date.{Date}
-use Rattle.calendar.specs.declared.Dated.{Dated}
-use Rattle.calendar.specs.declared.Dated.TheVariants.{On}
 use Rattle.calendar.specs.declared.Place.{Place}
 use Rattle.calendar.specs.Inverse.{sum, Placed, Numbered, Has}
 
@@ -82,10 +79,10 @@ place-range year day h =
 no-path : ◌≡◌ {A = ℕ} 0 1 → ⊥
 no-path z = omega arith
 
-dated : (x : Date) → Taken Dated.Refused (On x)
+dated : (x : Date) → Taken Err (Ok x)
 dated x r h = no-path cc
 
-counted : (n : ℕ) → Taken Counted.Refused (Day n)
+counted : (n : ℕ) → Taken Err (Ok n)
 counted n r h = no-path cc
 
 pub has : (d : Date) → has_date d ≡ true → Has d
@@ -110,33 +107,33 @@ number-range d h =
 
 -- ---- both ways
 
-date-placed : (year day : ℕ) (p : Place) → is_year year ≡ true → Placed (month_lengths year) day p → day_of (date_at year p) ≡ Day day
+date-placed : (year day : ℕ) (p : Place) → is_year year ≡ true → Placed (month_lengths year) day p → day_of (date_at year p) ≡ Ok day
 unfolding day_of
 date-placed year day p y s =
     let same : 1 + p.months - 1 ≡ p.months = omega arith in
     let d = date_at year p in
     let h : Has (date_at year p) = record { month = omega arith; last_month = omega (arith, s.month, twelve year); day = s.first; last_day = rw same s.last } in
-    rw (y, has-date (date_at year p) h, same) (ap Day s.back)
+    rw (y, has-date (date_at year p) h, same) (ap Ok s.back)
 
 -- month and day from day of year, and back
-pub date-and-back : (year day : ℕ) (d : Date) → date_of year day ≡ On d → day_of d ≡ Day day
+pub date-and-back : (year day : ℕ) (d : Date) → date_of year day ≡ Ok d → day_of d ≡ Ok day
 unfolding date_of has_day
 date-and-back year day d h =
     let p = place_in (month_lengths year) day in
-    let all = all-passed Dated.Refused ((InvalidYear, is_year year) ∷ (InvalidDate, has_day year day) ∷ []) (On (date_at year p)) (On d) (dated d) h in
+    let all = all-passed Err ((InvalidYear, is_year year) ∷ (InvalidDate, has_day year day) ∷ []) (Ok (date_at year p)) (Ok d) (dated d) h in
     let low = leb-true 1 day (and_left (leb 1 day) (leb day (days_in year)) (all.0 1)) in
     let high = leb-true day (days_in year) (and_right (leb 1 day) (leb day (days_in year)) (all.0 1)) in
     let same : date_at year p ≡ d = on (date_at year p) d all.1 in
-    subst (λ (x : Date). day_of x ≡ Day day) same (date-placed year day p (all.0 0) (placed (month_lengths year) day low (omega (arith, year-sum year))))
+    subst (λ (x : Date). day_of x ≡ Ok day) same (date-placed year day p (all.0 0) (placed (month_lengths year) day low (omega (arith, year-sum year))))
   where
-    on : (a b : Date) → On a ≡ On b → a ≡ b
+    on : (a b : Date) → ◌≡◌ {A = Result Date Refusal} (Ok a) (Ok b) → a ≡ b
     on a b e = cc
 
 -- day of year from month and day, and back
-pub day-and-back : (d : Date) (day : ℕ) → day_of d ≡ Day day → date_of d.year day ≡ On d
+pub day-and-back : (d : Date) (day : ℕ) → day_of d ≡ Ok day → date_of d.year day ≡ Ok d
 unfolding day_of date_of has_day
 day-and-back d day h =
-    let all = all-passed Counted.Refused ((InvalidYear, is_year d.year) ∷ (InvalidDate, has_date d) ∷ []) (Day (day_number d)) (Day day) (counted day) h in
+    let all = all-passed Err ((InvalidYear, is_year d.year) ∷ (InvalidDate, has_date d) ∷ []) (Ok (day_number d)) (Ok day) (counted day) h in
     let e : day_number d ≡ day = one (day_number d) day all.1 in
     let g = has d (all.0 1) in
     let r = number-range d g in
@@ -144,5 +141,5 @@ day-and-back d day h =
     let month : 1 + (d.month - 1) ≡ d.month = omega (arith, g.month) in
     rw (← e, all.0 0, le-leb 1 (day_number d) r.0, le-leb (day_number d) (days_in d.year) r.1, n.place, month)
   where
-    one : (a b : ℕ) → Day a ≡ Day b → a ≡ b
+    one : (a b : ℕ) → ◌≡◌ {A = Result ℕ Refusal} (Ok a) (Ok b) → a ≡ b
     one a b e = cc

@@ -1,15 +1,13 @@
 -- The order of moments, which windows hold a time, and that what is found next is the first start or end after it.
-use Rattle.std.specs.Prelude.{◌≡◌, refl, Bool, true, false, List, [], ◌∷◌, ◌↔◌, ℕ, zero, suc, ◌+◌, ◌*◌, ◌/◌, ◌%◌, ◌^◌, ◌<◌, eqb, get_or, length}
+use Rattle.std.specs.Prelude.{◌≡◌, refl, Bool, true, false, List, [], ◌∷◌, ◌↔◌, ℕ, zero, suc, ◌+◌, ◌*◌, ◌/◌, ◌%◌, ◌^◌, ◌<◌, eqb, get_or, length, Option, None, Some}
 use Rattle.std.proofs.Common.{sym, ap, ◌∙◌, subst, true≢false, inl, inr, arith, ltb-true, ltb-false, lt-ltb, le-ltb, eqb-true, eq-eqb, ne_eqb}
 use Rattle.std.proofs.Math.Nat.{two-pow-succ}
 use Rattle.std.proofs.lemmas.Bool.{eqb-false}
 use Rattle.timecode.proofs.Laws.Tests.{by-test, clash}
 use Rattle.timecode.specs.declared.Time.{Time}
 use Rattle.calendar.specs.Moments.{earlier, holds, mask_of, first_of, nearer, next_of}
-use Rattle.calendar.specs.declared.Following.{Following}
-use Rattle.calendar.specs.declared.Following.TheVariants.{At}
 use Rattle.calendar.specs.declared.Window.{Window}
-use Rattle.calendar.specs.Order.{Earlier, bit_at, bit, Every, Some, First, Answers, by-year, by-day, by-hundredth}
+use Rattle.calendar.specs.Order.{Earlier, bit_at, bit, Every, Any, First, Answers, by-year, by-day, by-hundredth}
 
 -- ---- by year, day, then hundredth
 
@@ -102,13 +100,13 @@ every_map : (P Q : Time → Type 0) → ((e : Time) → P e → Q e) → (es : L
 every_map P Q f [] h = tt
 every_map P Q f (e ∷ es) h = (f e h.0, every_map P Q f es h.1)
 
-skipped : (t e : Time) (es : List Time) (f : Following) → earlier t e ≡ false → Answers t es f → Answers t (e ∷ es) f
-skipped t e es (At m) n a = record { member = inr a.member; after = a.after; least = (λ y. clash y n, a.least) }
-skipped t e es Following.None n a = (n, a)
+skipped : (t e : Time) (es : List Time) (f : Option Time) → earlier t e ≡ false → Answers t es f → Answers t (e ∷ es) f
+skipped t e es (Some m) n a = record { member = inr a.member; after = a.after; least = (λ y. clash y n, a.least) }
+skipped t e es None n a = (n, a)
 
-nearest : (t e : Time) (es : List Time) (f : Following) → earlier t e ≡ true → Answers t es f → Answers t (e ∷ es) (first_of e f)
-nearest t e es Following.None y a = record { member = inl refl; after = y; least = (λ h. not_itself e, every_map (λ x. earlier t x ≡ false) (λ x. earlier t x ≡ true → earlier x e ≡ false) (λ x n h. clash h n) es a) }
-nearest t e es (At m) y a =
+nearest : (t e : Time) (es : List Time) (f : Option Time) → earlier t e ≡ true → Answers t es f → Answers t (e ∷ es) (first_of e f)
+nearest t e es None y a = record { member = inl refl; after = y; least = (λ h. not_itself e, every_map (λ x. earlier t x ≡ false) (λ x. earlier t x ≡ true → earlier x e ≡ false) (λ x n h. clash h n) es a) }
+nearest t e es (Some m) y a =
     by-test (earlier e m)
     (λ s. rw s (record {
       member = inl refl;
@@ -126,11 +124,11 @@ next-answers t (e ∷ es) =
     (λ n. rw n (skipped t e es (next_of t es) n (next-answers t es)))
 
 -- the moment found is the first start or end after the time
-pub first_found : (t : Time) (es : List Time) (m : Time) → next_of t es ≡ At m → First t es m
+pub first_found : (t : Time) (es : List Time) (m : Time) → next_of t es ≡ Some m → First t es m
 first_found t es m e = subst (Answers t es) e (next-answers t es)
 
 -- and there is no other first one
-at-member : (P : Time → Type 0) (es : List Time) (m : Time) → Every P es → Some (λ e. e ≡ m) es → P m
+at-member : (P : Time → Type 0) (es : List Time) (m : Time) → Every P es → Any (λ e. e ≡ m) es → P m
 at-member P [] m h s = absurd s
 at-member P (e ∷ es) m h (inl is) = subst P is h.0
 at-member P (e ∷ es) m h (inr s) = at-member P es m h.1 s
@@ -147,14 +145,14 @@ one-first t es m n a b =
 some-later : (t : Time) (es : List Time) (m : Time) → Every (λ e. earlier t e ≡ false) es → First t es m → ⊥
 some-later t es m none f = go es none f.member
   where
-    go : (xs : List Time) → Every (λ e. earlier t e ≡ false) xs → Some (λ e. e ≡ m) xs → ⊥
+    go : (xs : List Time) → Every (λ e. earlier t e ≡ false) xs → Any (λ e. e ≡ m) xs → ⊥
     go [] n s = s
     go (x ∷ xs) n (inl e) = true≢false (sym f.after ∙ ap (earlier t) (sym e) ∙ n.0)
     go (x ∷ xs) n (inr s) = go xs n.1 s
 
-pub none-exactly : (t : Time) (es : List Time) → (next_of t es ≡ Following.None) ↔ Every (λ e. earlier t e ≡ false) es
+pub none-exactly : (t : Time) (es : List Time) → (next_of t es ≡ None) ↔ Every (λ e. earlier t e ≡ false) es
 none-exactly t es = (λ e. subst (Answers t es) e (next-answers t es), λ none. go (next_of t es) (next-answers t es) none)
   where
-    go : (f : Following) → Answers t es f → Every (λ e. earlier t e ≡ false) es → f ≡ Following.None
-    go (At m) a none = absurd (some-later t es m none a)
-    go Following.None a none = refl
+    go : (f : Option Time) → Answers t es f → Every (λ e. earlier t e ≡ false) es → f ≡ None
+    go (Some m) a none = absurd (some-later t es m none a)
+    go None a none = refl

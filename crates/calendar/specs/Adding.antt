@@ -1,7 +1,6 @@
 -- Windows added one by one to an empty calendar: it holds those that were taken, in their order, and at most 32; a refused one leaves it as it was.
-use Rattle.std.specs.Prelude.{◌≡◌, true, List, [], ◌∷◌, ◌++◌, ℕ, ◌<◌, ◌≤◌, length}
-use Rattle.timecode.specs.declared.Written.{Written}
-use Rattle.timecode.specs.declared.Written.TheVariants.{Done}
+use Rattle.timecode.specs.declared.Refusal.{Refusal}
+use Rattle.std.specs.Prelude.{◌≡◌, true, List, [], ◌∷◌, ◌++◌, ℕ, ◌<◌, ◌≤◌, length, Result, Ok, Err}
 use Rattle.calendar.specs.Keys.{Small}
 use Rattle.calendar.specs.Moments.{earlier}
 use Rattle.calendar.specs.Windows.{windows_of, moment_of, window_of, add_answer, add_of}
@@ -18,9 +17,9 @@ unfoldable pub added : Calendar → List Booking → Calendar
 added c [] = c
 added c (b ∷ bs) = added (add_of c b.from b.to).calendar bs
 
-abbrev pub taken_by : Written → Window → List Window
-taken_by Done w = w ∷ []
-taken_by (Written.Refused r) w = []
+abbrev pub taken_by : Result Unit Refusal → Window → List Window
+taken_by (Ok u) w = w ∷ []
+taken_by (Err r) w = []
 
 -- the windows that were taken
 unfoldable pub taken : Calendar → List Booking → List Window

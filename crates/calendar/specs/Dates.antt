@@ -1,13 +1,10 @@
 -- Document 02, "Test windows by date": month and day from day of year, and back.
-use Rattle.std.specs.Prelude.{Bool, cond, ◌&&◌, List, [], ◌∷◌, ℕ, zero, suc, ◌+◌, ◌-◌, leb, eqb, pos, get_or}
-use Rattle.timecode.specs.Answers.{Result, success, refusal_result, checks}
+use Rattle.timecode.specs.declared.Refusal.{Refusal}
+use Rattle.std.specs.Prelude.{Bool, cond, ◌&&◌, List, [], ◌∷◌, ℕ, zero, suc, ◌+◌, ◌-◌, leb, eqb, pos, get_or, Result, Ok, Err}
+use Rattle.timecode.specs.Answers.{Outcome, success, refusal_result, checks}
 use Rattle.timecode.specs.Formats.{days_in, last_year}
 use Rattle.timecode.specs.declared.Refusal.TheVariants.{InvalidYear, InvalidDate}
-use Rattle.calendar.specs.declared.Counted.{Counted}
-use Rattle.calendar.specs.declared.Counted.TheVariants.{Day}
 use Rattle.calendar.specs.declared.Date.{Date}
-use Rattle.calendar.specs.declared.Dated.{Dated}
-use Rattle.calendar.specs.declared.Dated.TheVariants.{On}
 use Rattle.calendar.specs.declared.Place.{Place}
 
 -- number 17
@@ -44,31 +41,31 @@ has_date d = leb 1 d.month && (leb d.month 12 && (leb 1 d.day && leb d.day (get_
 abbrev pub date_at : ℕ → Place → Date
 date_at year p = record { year = year; month = 1 + p.months; day = p.day }
 
-unfoldable pub date_of : ℕ → ℕ → Dated
+unfoldable pub date_of : ℕ → ℕ → Result Date Refusal
 date_of year day =
-    checks Dated.Refused
+    checks Err
     ((InvalidYear, is_year year)  -- 17
     ∷ (InvalidDate, has_day year day)  -- 22
     ∷ [])
-    (On (date_at year (place_in (month_lengths year) day)))
+    (Ok (date_at year (place_in (month_lengths year) day)))
 
 abbrev pub day_number : Date → ℕ
 day_number d = day_in (month_lengths d.year) (d.month - 1) d.day
 
-unfoldable pub day_of : Date → Counted
+unfoldable pub day_of : Date → Result ℕ Refusal
 day_of d =
-    checks Counted.Refused
+    checks Err
     ((InvalidYear, is_year d.year)  -- 17
     ∷ (InvalidDate, has_date d)  -- 22
     ∷ [])
-    (Day (day_number d))
+    (Ok (day_number d))
 
 -- ---- what the answers say
 
-abbrev pub dated_result : Dated → Result
-dated_result (On d) = success (pos d.year ∷ pos d.month ∷ pos d.day ∷ [])
-dated_result (Dated.Refused x) = refusal_result x
+abbrev pub dated_result : Result Date Refusal → Outcome
+dated_result (Ok d) = success (pos d.year ∷ pos d.month ∷ pos d.day ∷ [])
+dated_result (Err x) = refusal_result x
 
-abbrev pub counted_result : Counted → Result
-counted_result (Day d) = success (pos d ∷ [])
-counted_result (Counted.Refused x) = refusal_result x
+abbrev pub counted_result : Result ℕ Refusal → Outcome
+counted_result (Ok d) = success (pos d ∷ [])
+counted_result (Err x) = refusal_result x

@@ -1,13 +1,12 @@
 -- Document 02, "Test windows by date": moments in their order, windows, which of them hold a time, and what follows it.
-use Rattle.std.specs.Prelude.{Bool, cond, not, ◌&&◌, List, [], ◌∷◌, ℕ, ◌+◌, ◌*◌, leb, ltb, eqb, pos}
-use Rattle.timecode.specs.Answers.{Result, success, refusal_result, time_values, checks}
+use Rattle.calendar.specs.declared.Asked.{Asked}
+use Rattle.timecode.specs.declared.Refusal.{Refusal}
+use Rattle.std.specs.Prelude.{Bool, cond, not, ◌&&◌, List, [], ◌∷◌, ℕ, ◌+◌, ◌*◌, leb, ltb, eqb, ℤ, pos, Result, Ok, Err, Option, Some, None}
+use Rattle.timecode.specs.Answers.{Outcome, success, refusal_result, time_values, checks}
 use Rattle.timecode.specs.Formats.{last_hundredth}
 use Rattle.timecode.specs.declared.Refusal.TheVariants.{InvalidTime, InvalidYear, InvalidDate}
 use Rattle.timecode.specs.declared.Time.{Time}
 use Rattle.calendar.specs.Dates.{is_year, has_day}
-use Rattle.calendar.specs.declared.Asked.{Asked}
-use Rattle.calendar.specs.declared.Following.{Following}
-use Rattle.calendar.specs.declared.Following.TheVariants.{At}
 use Rattle.calendar.specs.declared.Window.{Window}
 
 -- moments are ordered by year, day, then hundredth
@@ -34,35 +33,42 @@ edges_of [] = []
 edges_of (w ∷ ws) = w.start ∷ w.end ∷ edges_of ws
 
 -- the earlier of a moment and what was found
-abbrev pub first_of : Time → Following → Following
-first_of e (At m) = cond (earlier e m) (At e) (At m)
-first_of e Following.None = At e
+abbrev pub first_of : Time → Option Time → Option Time
+first_of e (Some m) = cond (earlier e m) (Some e) (Some m)
+first_of e None = Some e
 
 -- a moment counts only after the time
-unfoldable pub nearer : Time → Time → Following → Following
+unfoldable pub nearer : Time → Time → Option Time → Option Time
 nearer t e found = cond (earlier t e) (first_of e found) found
 
-unfoldable pub next_of : Time → List Time → Following
-next_of t [] = Following.None
+unfoldable pub next_of : Time → List Time → Option Time
+next_of t [] = None
 next_of t (e ∷ es) = nearer t e (next_of t es)
 
 -- number 2
 abbrev pub is_hundredth : ℕ → Bool
 is_hundredth c = leb c last_hundredth
 
+-- the answer of a calendar that is asked
+abbrev pub asked : ℕ → Option Time → Result Asked Refusal
+asked mask next = Ok (record { mask = mask; next = next })
+
 -- what windows answer a time
-unfoldable pub ask_of : List Window → Time → Asked
+unfoldable pub ask_of : List Window → Time → Result Asked Refusal
 ask_of ws t =
-    checks Asked.Refused
+    checks Err
     ((InvalidYear, is_year t.year)  -- 17
     ∷ (InvalidTime, is_hundredth t.hundredths)  -- 2
     ∷ (InvalidDate, has_day t.year t.day)  -- 22
     ∷ [])
-    (Asked.Windows (mask_of ws t) (next_of t (edges_of ws)))
+    (asked (mask_of ws t) (next_of t (edges_of ws)))
 
 -- ---- what the answer says: the mask, and the moment of the next start or end where there is one
 
-abbrev pub asked_result : Asked → Result
-asked_result (Asked.Windows mask (At t)) = success (pos mask ∷ time_values t [])
-asked_result (Asked.Windows mask Following.None) = success (pos mask ∷ [])
-asked_result (Asked.Refused x) = refusal_result x
+abbrev pub next_values : Option Time → List ℤ
+next_values (Some t) = time_values t []
+next_values None = []
+
+abbrev pub asked_result : Result Asked Refusal → Outcome
+asked_result (Ok a) = success (pos a.mask ∷ next_values a.next)
+asked_result (Err x) = refusal_result x

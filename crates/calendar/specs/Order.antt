@@ -1,9 +1,7 @@
 -- The order of moments, which windows hold a time, and that what is found next is the first start or end after it.
-use Rattle.std.specs.Prelude.{◌≡◌, Bool, true, false, cond, List, [], ◌∷◌, ◌⊎◌, ℕ, zero, suc, ◌/◌, ◌%◌, ◌<◌}
+use Rattle.std.specs.Prelude.{◌≡◌, Bool, true, false, cond, List, [], ◌∷◌, ◌⊎◌, ℕ, zero, suc, ◌/◌, ◌%◌, ◌<◌, Option, Some, None}
 use Rattle.timecode.specs.declared.Time.{Time}
 use Rattle.calendar.specs.Moments.{earlier}
-use Rattle.calendar.specs.declared.Following.{Following}
-use Rattle.calendar.specs.declared.Following.TheVariants.{At}
 
 -- ---- by year, day, then hundredth
 
@@ -23,16 +21,16 @@ abbrev pub Every : (Time → Type 0) → List Time → Type 0
 Every P [] = Unit
 Every P (e ∷ es) = P e × Every P es
 
-abbrev pub Some : (Time → Type 0) → List Time → Type 0
-Some P [] = ⊥
-Some P (e ∷ es) = P e ⊎ Some P es
+abbrev pub Any : (Time → Type 0) → List Time → Type 0
+Any P [] = ⊥
+Any P (e ∷ es) = P e ⊎ Any P es
 
 -- the first of the moments that come after t
 pub record First (t : Time) (es : List Time) (m : Time) : Type 0 where
-  pub member : Some (λ e. e ≡ m) es
+  pub member : Any (λ e. e ≡ m) es
   pub after : earlier t m ≡ true
   pub least : Every (λ e. earlier t e ≡ true → earlier e m ≡ false) es
 
-abbrev pub Answers : Time → List Time → Following → Type 0
-Answers t es (At m) = First t es m
-Answers t es Following.None = Every (λ e. earlier t e ≡ false) es
+abbrev pub Answers : Time → List Time → Option Time → Type 0
+Answers t es (Some m) = First t es m
+Answers t es None = Every (λ e. earlier t e ≡ false) es

@@ -1,17 +1,15 @@
 -- Document 02, "Test windows by date": a calendar, which keeps each moment as one number, and adding a window to it.
-use Rattle.std.specs.Prelude.{◌&&◌, List, [], ◌∷◌, ℕ, ◌+◌, ◌*◌, ◌/◌, ◌%◌, ltb, take, set, replicate}
-use Rattle.timecode.specs.Answers.{Check, checks}
+use Rattle.calendar.specs.declared.WindowKeys.{WindowKeys}
+use Rattle.timecode.specs.declared.Refusal.{Refusal}
+use Rattle.std.specs.Prelude.{◌&&◌, List, [], ◌∷◌, ℕ, ◌+◌, ◌*◌, ◌/◌, ◌%◌, ltb, take, set, replicate, Result, Ok, Err}
+use Rattle.timecode.specs.Answers.{Check, checks, done}
 use Rattle.timecode.specs.declared.Refusal.TheVariants.{InvalidTime, InvalidYear, InvalidWindow, InvalidDate}
 use Rattle.timecode.specs.declared.Time.{Time}
-use Rattle.timecode.specs.declared.Written.{Written}
-use Rattle.timecode.specs.declared.Written.TheVariants.{Done}
 use Rattle.calendar.specs.Dates.{is_year, has_date, day_number}
 use Rattle.calendar.specs.Moments.{earlier, is_hundredth}
 use Rattle.calendar.specs.declared.Added.{Added}
 use Rattle.calendar.specs.declared.Calendar.{Calendar}
 use Rattle.calendar.specs.declared.DateTime.{DateTime}
-use Rattle.calendar.specs.declared.Keyed.{Keyed}
-use Rattle.calendar.specs.declared.Keyed.TheVariants.{Keys}
 use Rattle.calendar.specs.declared.Window.{Window}
 
 -- ---- a moment as one number, its key
@@ -54,21 +52,24 @@ window_checks count s e =
     ∷ (InvalidWindow, ltb count 32 && earlier (moment_of s) (moment_of e))  -- 21
     ∷ []
 
-unfoldable pub add_answer : ℕ → DateTime → DateTime → Written
-add_answer count s e = checks Written.Refused (window_checks count s e) Done
+unfoldable pub add_answer : ℕ → DateTime → DateTime → Result Unit Refusal
+add_answer count s e = checks Err (window_checks count s e) done
 
 abbrev pub with_window : Calendar → Window → Calendar
 with_window c w = record { count = c.count + 1; starts = set c.starts c.count (key_of w.start); ends = set c.ends c.count (key_of w.end) }
 
 -- a refusal hands back the calendar as it was
-abbrev pub add_by : Written → Calendar → Window → Added
-add_by Done c w = record { calendar = with_window c w; answer = Done }
-add_by (Written.Refused r) c w = record { calendar = c; answer = Written.Refused r }
+abbrev pub add_by : Result Unit Refusal → Calendar → Window → Added
+add_by (Ok u) c w = record { calendar = with_window c w; answer = done }
+add_by (Err r) c w = record { calendar = c; answer = Err r }
 
 unfoldable pub add_of : Calendar → DateTime → DateTime → Added
 add_of c s e = add_by (add_answer c.count s e) c (window_of s e)
 
+abbrev pub keys : ℕ → ℕ → Result WindowKeys Refusal
+keys start end = Ok (record { start = start; end = end })
+
 -- the two keys of a window that is taken, or the refusal
-abbrev pub keyed_by : Written → Window → Keyed
-keyed_by Done w = Keys (key_of w.start) (key_of w.end)
-keyed_by (Written.Refused r) w = Keyed.Refused r
+abbrev pub keyed_by : Result Unit Refusal → Window → Result WindowKeys Refusal
+keyed_by (Ok u) w = keys (key_of w.start) (key_of w.end)
+keyed_by (Err r) w = Err r

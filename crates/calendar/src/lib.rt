@@ -2,11 +2,11 @@
 // Dates, moments, windows and a calendar's answers are defined, and their theorems stand, in specs/.
 #![tactic(auto)]
 
-use timecode::{Refusal, Time, Written};
+use timecode::{Refusal, Time};
 
 // A day by its month: the year after 2000, the month from 1 and the day of the month from 1.
 #[repr(C)]
-#[derive(Clone, Copy)]
+#[derive(Clone, Copy, PartialEq, Eq, Default)]
 pub struct Date {
     pub year: u8,
     pub month: u8,
@@ -15,35 +15,21 @@ pub struct Date {
 
 // A date and hundredths of a second since its midnight.
 #[repr(C)]
-#[derive(Clone, Copy)]
+#[derive(Clone, Copy, PartialEq, Eq)]
 pub struct DateTime {
     pub date: Date,
     pub hundredths: u32,
 }
 
 // Whole months of a year, and a day of the next.
-#[derive(Clone, Copy)]
+#[derive(Clone, Copy, PartialEq, Eq)]
 pub struct Place {
     pub months: usize,
     pub day: u16,
 }
 
-// Month and day from day of year.
-#[derive(Clone, Copy)]
-pub enum Dated {
-    On(Date),
-    Refused(Refusal),
-}
-
-// Day of year from month and day.
-#[derive(Clone, Copy)]
-pub enum Counted {
-    Day(u16),
-    Refused(Refusal),
-}
-
 // From a start, which belongs to it, to an end, which does not.
-#[derive(Clone, Copy)]
+#[derive(Clone, Copy, PartialEq, Eq)]
 pub struct Window {
     pub start: Time,
     pub end: Time,
@@ -52,7 +38,7 @@ pub struct Window {
 // The windows added, the first of them at 0, each moment as one number, its key: the arrays are lent to one loop that compares
 // whole moments. Behind the count they hold what they did.
 #[repr(C)]
-#[derive(Clone, Copy)]
+#[derive(Clone, Copy, PartialEq, Eq)]
 pub struct Calendar {
     pub count: usize,
     pub starts: [u64; 32],
@@ -66,30 +52,23 @@ impl Calendar {
     pub const KEY_LIMIT: u64 = 72_057_594_037_927_936;
 }
 
-// A window to be added: its start's key and its end's, or why it is not taken.
-#[derive(Clone, Copy)]
-pub enum Keyed {
-    Keys { start: u64, end: u64 },
-    Refused(Refusal),
+// A window by its keys: its start's and its end's.
+#[derive(Clone, Copy, PartialEq, Eq)]
+pub struct WindowKeys {
+    pub start: u64,
+    pub end: u64,
 }
 
 // Adding: the calendar handed back, and whether the window was taken.
-#[derive(Clone, Copy)]
+#[derive(Clone, Copy, PartialEq, Eq)]
 pub struct Added {
     pub calendar: Calendar,
-    pub answer: Written,
+    pub answer: Result<(), Refusal>,
 }
 
-// The next start or end after a time.
-#[derive(Clone, Copy)]
-pub enum Following {
-    At(Time),
-    None,
-}
-
-// Which windows hold a time, bit 0 the first added, and what follows it.
-#[derive(Clone, Copy)]
-pub enum Asked {
-    Windows { mask: u32, next: Following },
-    Refused(Refusal),
+// Which windows hold a time, bit 0 the first added, and the next start or end after it.
+#[derive(Clone, Copy, PartialEq, Eq)]
+pub struct Asked {
+    pub mask: u32,
+    pub next: Option<Time>,
 }

@@ -1,61 +1,59 @@
 -- Each struct's number and fields are those of its answer's result; the calendar refuses with no index, so the structs leave out no value.
-use Rattle.std.specs.Prelude.{◌≡◌, refl, ◌&&◌, List, [], ◌∷◌, ℕ, ltb, pos}
+use Rattle.calendar.specs.declared.Asked.{Asked}
+use Rattle.timecode.specs.declared.Refusal.{Refusal}
+use Rattle.std.specs.Prelude.{◌≡◌, refl, ◌&&◌, List, [], ◌∷◌, ℕ, ltb, pos, Result, Ok, Err, Option, Some, None}
 use Rattle.timecode.specs.Answers.{time_values, written_result}
 use Rattle.timecode.proofs.Laws.Tests.{by-test}
 use Rattle.timecode.specs.declared.Time.{Time}
 use Rattle.calendar.specs.Dates.{is_year, has_day, has_date, date_of, day_of, dated_result, counted_result}
-use Rattle.calendar.specs.Moments.{earlier, is_hundredth, mask_of, edges_of, next_of, ask_of, asked_result}
+use Rattle.calendar.specs.Moments.{earlier, is_hundredth, mask_of, edges_of, next_of, ask_of, asked_result, asked}
 use Rattle.calendar.specs.Windows.{moment_of, add_answer}
-use Rattle.calendar.specs.declared.Asked.{Asked}
-use Rattle.calendar.specs.declared.Counted.{Counted}
-use Rattle.calendar.specs.declared.Counted.TheVariants.{Day}
 use Rattle.calendar.specs.declared.Date.{Date}
-use Rattle.calendar.specs.declared.Dated.{Dated}
-use Rattle.calendar.specs.declared.Dated.TheVariants.{On}
 use Rattle.calendar.specs.declared.DateTime.{DateTime}
-use Rattle.calendar.specs.declared.Following.{Following}
-use Rattle.calendar.specs.declared.Following.TheVariants.{At}
 use Rattle.calendar.specs.declared.Window.{Window}
 use Rattle.ffi.specs.Fields.{values_in, time_zeros}
 use Rattle.ffi.proofs.Fields.{refusal-numbered}
 use Rattle.ffi.specs.Indexes.{refused_values}
-use Rattle.calendar_words.specs.CalendarStructs.{date_result_of, day_result_of, ask_result_of}
+use Rattle.calendar_words.specs.CalendarStructs.{date_result_of, day_result_of, windows_result, ask_result_of}
 
-pub date-number : (a : Dated) → (date_result_of a).number ≡ (dated_result a).number
-date-number (On d) = refl
-date-number (Dated.Refused x) = refl
+pub date-number : (a : Result Date Refusal) → (date_result_of a).number ≡ (dated_result a).number
+date-number (Ok d) = refl
+date-number (Err x) = refl
 
-pub date-values : (a : Dated) → pos (date_result_of a).date.year ∷ pos (date_result_of a).date.month ∷ pos (date_result_of a).date.day ∷ [] ≡ values_in (dated_result a) (pos 0 ∷ pos 0 ∷ pos 0 ∷ [])
-date-values (On d) = refl
-date-values (Dated.Refused x) = rw (refusal-numbered x)
+pub date-values : (a : Result Date Refusal) → pos (date_result_of a).date.year ∷ pos (date_result_of a).date.month ∷ pos (date_result_of a).date.day ∷ [] ≡ values_in (dated_result a) (pos 0 ∷ pos 0 ∷ pos 0 ∷ [])
+date-values (Ok d) = refl
+date-values (Err x) = rw (refusal-numbered x)
 
-pub day-number : (a : Counted) → (day_result_of a).number ≡ (counted_result a).number
-day-number (Day d) = refl
-day-number (Counted.Refused x) = refl
+pub day-number : (a : Result ℕ Refusal) → (day_result_of a).number ≡ (counted_result a).number
+day-number (Ok d) = refl
+day-number (Err x) = refl
 
-pub day-values : (a : Counted) → pos (day_result_of a).day ∷ [] ≡ values_in (counted_result a) (pos 0 ∷ [])
-day-values (Day d) = refl
-day-values (Counted.Refused x) = rw (refusal-numbered x)
+pub day-values : (a : Result ℕ Refusal) → pos (day_result_of a).day ∷ [] ≡ values_in (counted_result a) (pos 0 ∷ [])
+day-values (Ok d) = refl
+day-values (Err x) = rw (refusal-numbered x)
 
-pub ask-number : (a : Asked) → (ask_result_of a).number ≡ (asked_result a).number
-ask-number (Asked.Windows mask (At t)) = refl
-ask-number (Asked.Windows mask Following.None) = refl
-ask-number (Asked.Refused x) = refl
+windows-number : (mask : ℕ) (next : Option Time) → (windows_result mask next).number ≡ 0
+windows-number mask (Some t) = refl
+windows-number mask None = refl
+
+pub ask-number : (a : Result Asked Refusal) → (ask_result_of a).number ≡ (asked_result a).number
+ask-number (Ok a) = windows-number a.mask a.next
+ask-number (Err x) = refl
 
 -- the mask, and with follows the moment of the next start or end
-pub ask-values : (mask : ℕ) (t : Time) → pos (ask_result_of (Asked.Windows mask (At t))).mask ∷ time_values (ask_result_of (Asked.Windows mask (At t))).next [] ≡ (asked_result (Asked.Windows mask (At t))).values
+pub ask-values : (mask : ℕ) (t : Time) → pos (ask_result_of (asked mask (Some t))).mask ∷ time_values (ask_result_of (asked mask (Some t))).next [] ≡ (asked_result (asked mask (Some t))).values
 ask-values mask t = refl
 
-pub ask-values-none : (mask : ℕ) → pos (ask_result_of (Asked.Windows mask Following.None)).mask ∷ [] ≡ (asked_result (Asked.Windows mask Following.None)).values
+pub ask-values-none : (mask : ℕ) → pos (ask_result_of (asked mask None)).mask ∷ [] ≡ (asked_result (asked mask None)).values
 ask-values-none mask = refl
 
-abbrev pub flag : Following → ℕ
-flag (At t) = 1
-flag Following.None = 0
+abbrev pub flag : Option Time → ℕ
+flag (Some t) = 1
+flag None = 0
 
-pub ask-follows : (mask : ℕ) (f : Following) → (ask_result_of (Asked.Windows mask f)).follows ≡ flag f
-ask-follows mask (At t) = refl
-ask-follows mask Following.None = refl
+pub ask-follows : (mask : ℕ) (f : Option Time) → (ask_result_of (asked mask f)).follows ≡ flag f
+ask-follows mask (Some t) = refl
+ask-follows mask None = refl
 
 pub date-no-index : (year day : ℕ) → refused_values (dated_result (date_of year day)) ≡ []
 unfolding date_of

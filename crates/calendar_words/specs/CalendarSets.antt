@@ -1,16 +1,13 @@
 -- A calendar's words after adding: the words of the calendar that adding gives.
-use Rattle.std.specs.Prelude.{◌≡◌, List, [], ◌∷◌, ◌++◌, ℕ, zero, suc, ◌+◌, ◌<◌, get_or, length, take, drop, set}
+use Rattle.std.specs.Prelude.{◌≡◌, List, [], ◌∷◌, ◌++◌, ℕ, zero, suc, ◌+◌, ◌<◌, get_or, length, take, drop, set, Err}
 use Rattle.std.proofs.Math.Path.{refl, sym, ap}
 use Rattle.std.proofs.Common.{◌∙◌, arith, length-drop, length-set, take-append-drop, take_all, length-take-le}
 use Rattle.timecode.specs.Answers.{refusal_number}
 use Rattle.timecode.specs.declared.Refusal.{Refusal}
-use Rattle.timecode.specs.declared.Written.{Written}
 use Rattle.calendar.proofs.Adding.{refused-stays}
-use Rattle.calendar.specs.Windows.{window_of, add_answer, add_of, keyed_by}
+use Rattle.calendar.specs.Windows.{window_of, add_answer, add_of, keyed_by, keys}
 use Rattle.calendar.specs.declared.Added.{Added}
 use Rattle.calendar.specs.declared.DateTime.{DateTime}
-use Rattle.calendar.specs.declared.Keyed.{Keyed}
-use Rattle.calendar.specs.declared.Keyed.TheVariants.{Keys}
 use Rattle.ffi.specs.Structs.{write_result_of}
 use Rattle.ffi.specs.declared.WriteResult.{WriteResult}
 use Rattle.windows.specs.Ways.{booked, add-taken, add-refused}
@@ -59,18 +56,18 @@ words-added (w ∷ rest) n start end h room =
 -- ---- the two ways out of adding
 
 module _ (words : List ℕ) (s e : DateTime) (long : length words ≡ 65) where
-  pub taken : (start end : ℕ) → Keys start end ≡ keyed_by (add_answer (get_or words 0 0) s e) (window_of s e) → (◌≡◌ {A = WriteResult} (record { number = 0 }) (write_result_of (add_of (calendar_in words) s e).answer)) × (set (set (set words (1 + get_or words 0 0) start) (33 + get_or words 0 0) end) 0 (get_or words 0 0 + 1) ≡ words_of (add_of (calendar_in words) s e).calendar)
+  pub taken : (start end : ℕ) → keys start end ≡ keyed_by (add_answer (get_or words 0 0) s e) (window_of s e) → (◌≡◌ {A = WriteResult} (record { number = 0 }) (write_result_of (add_of (calendar_in words) s e).answer)) × (set (set (set words (1 + get_or words 0 0) start) (33 + get_or words 0 0) end) 0 (get_or words 0 0 + 1) ≡ words_of (add_of (calendar_in words) s e).calendar)
   unfolding calendar_in words_of
   taken start end h =
       let added = add-taken (calendar_in words) _ s e start end h refl in
       (ap (λ (a : Added). write_result_of a.answer) added, words-added words (get_or words 0 0) start end long (booked (get_or words 0 0) s e start end h).room ∙ ap (λ (a : Added). words_of a.calendar) added)
 
-  pub refused : (x : Refusal) → Keyed.Refused x ≡ keyed_by (add_answer (get_or words 0 0) s e) (window_of s e) → (◌≡◌ {A = WriteResult} (record { number = refusal_number x }) (write_result_of (add_of (calendar_in words) s e).answer)) × (words ≡ words_of (add_of (calendar_in words) s e).calendar)
+  pub refused : (x : Refusal) → Err x ≡ keyed_by (add_answer (get_or words 0 0) s e) (window_of s e) → (◌≡◌ {A = WriteResult} (record { number = refusal_number x }) (write_result_of (add_of (calendar_in words) s e).answer)) × (words ≡ words_of (add_of (calendar_in words) s e).calendar)
   unfolding calendar_in
   refused x h =
       let added = add-refused (calendar_in words) s e x h in
       (ap (λ (a : Added). write_result_of a.answer) added, sym (words_back words long) ∙ ap (λ (a : Added). words_of a.calendar) added)
 
 -- A refused add leaves the caller's words.
-pub refused-add-leaves : (words : List ℕ) (s e : DateTime) (x : Refusal) → length words ≡ 65 → (add_of (calendar_in words) s e).answer ≡ Written.Refused x → words_of (add_of (calendar_in words) s e).calendar ≡ words
+pub refused-add-leaves : (words : List ℕ) (s e : DateTime) (x : Refusal) → length words ≡ 65 → (add_of (calendar_in words) s e).answer ≡ Err x → words_of (add_of (calendar_in words) s e).calendar ≡ words
 refused-add-leaves words s e x long h = ap words_of (refused-stays (calendar_in words) s e x h) ∙ words_back words long

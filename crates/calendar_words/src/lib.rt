@@ -7,23 +7,23 @@ ghost use Rattle.calendar.specs.Dates.{date_of, day_of};
 ghost use Rattle.calendar.specs.Moments.{ask_of};
 ghost use Rattle.calendar.specs.Windows.{windows_of, add_of, empty_calendar};
 ghost use Rattle.ffi.specs.Structs.{write_result_of};
-ghost use Rattle.calendar_words.specs.CalendarStructs.{calendar_in, words_of, date_result_of, day_result_of, ask_result_of};
+ghost use Rattle.calendar_words.specs.CalendarStructs.{calendar_in, words_of, date_result_of, day_result_of, ask_result_of, windows_result};
 
-use calendar::{Asked, Counted, Date, DateTime, Dated, Following, Keyed};
-use ffi::{WriteResult, zero_time};
+use calendar::{Asked, Date, DateTime, WindowKeys};
+use ffi::WriteResult;
 use refusals::number_of;
-use timecode::Time;
+use timecode::{Refusal, Time};
 use windows::{ask_keys, book};
 
 #[repr(C)]
-#[derive(Clone, Copy)]
+#[derive(Clone, Copy, PartialEq, Eq, Default)]
 pub struct DateResult {
     pub number: u8,
     pub date: Date,
 }
 
 #[repr(C)]
-#[derive(Clone, Copy)]
+#[derive(Clone, Copy, PartialEq, Eq, Default)]
 pub struct DayResult {
     pub number: u8,
     pub day: u16,
@@ -31,7 +31,7 @@ pub struct DayResult {
 
 // follows: 1 where a start or end follows the time, 0 where none does.
 #[repr(C)]
-#[derive(Clone, Copy)]
+#[derive(Clone, Copy, PartialEq, Eq, Default)]
 pub struct AskResult {
     pub number: u8,
     pub follows: u8,
@@ -39,73 +39,62 @@ pub struct AskResult {
     pub next: Time,
 }
 
-pub fn date_result(dated: Dated) -> DateResult
-    ensures { result ≡ date_result_of dated }
-{
-    match dated {
-        Dated::On(date) => DateResult {
-            number: 0,
-            date: date,
-        },
-        Dated::Refused(refusal) => {
-            let date = Date {
-                year: 0,
-                month: 0,
-                day: 0,
-            };
-            DateResult {
+impl From<Result<Date, Refusal>> for DateResult {
+    ghost from_gives = { λ dated r. r ≡ date_result_of dated };
+
+    fn from(dated: Result<Date, Refusal>) -> DateResult {
+        match dated {
+            Ok(date) => DateResult { number: 0, date },
+            Err(refusal) => DateResult {
                 number: number_of(refusal),
-                date: date,
-            }
+                ..DateResult::default()
+            },
         }
     }
 }
 
-pub fn day_result(counted: Counted) -> DayResult
-    ensures { result ≡ day_result_of counted }
-{
-    match counted {
-        Counted::Day(day) => DayResult {
-            number: 0,
-            day: day,
-        },
-        Counted::Refused(refusal) => DayResult {
-            number: number_of(refusal),
-            day: 0,
-        },
+impl From<Result<u16, Refusal>> for DayResult {
+    ghost from_gives = { λ counted r. r ≡ day_result_of counted };
+
+    fn from(counted: Result<u16, Refusal>) -> DayResult {
+        match counted {
+            Ok(day) => DayResult { number: 0, day },
+            Err(refusal) => DayResult {
+                number: number_of(refusal),
+                day: 0,
+            },
+        }
     }
 }
 
-fn following_result(mask: u32, following: Following) -> AskResult
-    ensures { result ≡ ask_result_of (Asked.Windows mask following) }
+fn windows_result(mask: u32, next: Option<Time>) -> AskResult
+    ensures { result ≡ windows_result mask next }
 {
-    match following {
-        Following::At(time) => AskResult {
+    match next {
+        Some(time) => AskResult {
             number: 0,
             follows: 1,
-            mask: mask,
+            mask,
             next: time,
         },
-        Following::None => AskResult {
-            number: 0,
-            follows: 0,
-            mask: mask,
-            next: zero_time(),
+        None => AskResult {
+            mask,
+            ..AskResult::default()
         },
     }
 }
 
-fn ask_result(asked: Asked) -> AskResult
-    ensures { result ≡ ask_result_of asked }
-{
-    match asked {
-        Asked::Windows { mask, next } => following_result(mask, next),
-        Asked::Refused(refusal) => AskResult {
-            number: number_of(refusal),
-            follows: 0,
-            mask: 0,
-            next: zero_time(),
-        },
+impl From<Result<Asked, Refusal>> for AskResult {
+    ghost from_gives = { λ answer r. r ≡ ask_result_of answer };
+
+    fn from(answer: Result<Asked, Refusal>) -> AskResult {
+        match answer {
+            Ok(Asked { mask, next }) => windows_result(mask, next),
+            Err(refusal) => AskResult {
+                number: number_of(refusal),
+                ..AskResult::default()
+            },
+        }
     }
 }
 
@@ -136,11 +125,11 @@ fn add_words(words: &mut [u64], start: DateTime, end: DateTime) -> WriteResult
     let count = words[0] as usize;
     let keyed = book(count, start, end);
     match keyed {
-        Keyed::Keys { start, end } => {
+        Ok(WindowKeys { start, end }) => {
             put_keys(words, count, start, end);
             WriteResult { number: 0 }
         }
-        Keyed::Refused(refusal) => WriteResult {
+        Err(refusal) => WriteResult {
             number: number_of(refusal),
         },
     }
@@ -154,7 +143,7 @@ pub fn add_to(calendar: &mut [u64; 65], start: DateTime, end: DateTime) -> Write
     add_words(calendar, start, end)
 }
 
-fn ask_words(words: &[u64], time: Time) -> Asked
+fn ask_words(words: &[u64], time: Time) -> Result<Asked, Refusal>
     requires { length words.now ≡ 65 }
     ensures { result ≡ ask_of (windows_of (calendar_in words.now)) time }
 {
@@ -167,5 +156,5 @@ fn ask_words(words: &[u64], time: Time) -> Asked
 pub fn ask_in(calendar: &[u64; 65], time: Time) -> AskResult
     ensures { result ≡ ask_result_of (ask_of (windows_of (calendar_in calendar.now)) time) }
 {
-    ask_result(ask_words(calendar, time))
+    AskResult::from(ask_words(calendar, time))
 }

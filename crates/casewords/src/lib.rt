@@ -2,92 +2,53 @@
 // A word that is no number, or is not there, is 0.
 #![tactic(auto)]
 
-ghost use Rattle.std.specs.Prelude.{◌≤◌, length};
+ghost use Rattle.std.specs.Prelude.{◌≤◌};
 
-use arguments::{Number, decimal_in, hexadecimal_in};
+use arguments::{decimal_in, hexadecimal_in};
+use arrayvec::ArrayVec;
 use timecode::{Format, Time};
 
-// The byte at that place; a space past the line's end.
-fn byte_at(line: &[u8], at: usize) -> u8 {
-    if at < line.len() {
-        return line[at];
-    }
-    b' '
+// Elements or bytes, as many as there is room for.
+pub type Elements = ArrayVec<u8, 1024>;
+
+// The word of that number, from 0; empty, where the line has fewer.
+pub fn word_in(line: &[u8], word: usize) -> &[u8] {
+    line.split(|byte| *byte == b' ').nth(word).unwrap_or(&[])
 }
 
-// Where the word of that number begins, from 0; the line's end, where it has fewer words.
-fn start_of(line: &[u8], word: usize) -> usize {
-    let mut left = word;
-    let mut i = 0;
-    while i < line.len() {
-        if left == 0 {
-            return i;
-        }
-        if line[i] == b' ' {
-            left -= 1;
-        }
-        i += 1;
-    }
-    i
+// The line from that word on; empty, where the line has fewer.
+fn from_word(line: &[u8], word: usize) -> &[u8] {
+    line.splitn(word.saturating_add(1), |byte| *byte == b' ')
+        .nth(word)
+        .unwrap_or(&[])
 }
 
-pub fn is_named(line: &[u8], name: &[u8]) -> bool {
-    let mut i = 0;
-    while i < name.len() {
-        if byte_at(line, i) != name[i] {
-            return false;
-        }
-        i += 1;
-    }
-    byte_at(line, i) == b' '
-}
-
-// Where the word that begins there ends.
-fn end_of(line: &[u8], start: usize) -> usize {
-    let mut i = start;
-    while i < line.len() {
-        if line[i] == b' ' {
-            return i;
-        }
-        i += 1;
-    }
-    i
-}
-
-// 0 for what is no number.
-fn value_of(number: Number) -> u64 {
-    match number {
-        Number::Value(value) => value,
-        Number::Malformed => 0,
-    }
-}
-
-// The number that a word is in base 10 or 16; 0 where there is no such word.
-pub fn number(line: &[u8], word: usize, base: u64) -> u64 {
-    let start = start_of(line, word);
-    let end = end_of(line, start);
-    if start <= end {
-        if end <= line.len() {
-            if base == 16 {
-                return value_of(hexadecimal_in(&line[start..end]));
-            }
-            return value_of(decimal_in(&line[start..end]));
-        }
-    }
-    0
+pub fn hexadecimal(line: &[u8], word: usize) -> u64 {
+    hexadecimal_in(word_in(line, word)).unwrap_or(0)
 }
 
 pub fn decimal(line: &[u8], word: usize) -> u64 {
-    number(line, word, 10)
+    decimal_in(word_in(line, word)).unwrap_or(0)
+}
+
+// The lowest 8, 16 or 32 bits of a decimal number.
+pub fn byte_in(line: &[u8], word: usize) -> u8 {
+    (decimal(line, word) % 256) as u8
+}
+
+pub fn u16_in(line: &[u8], word: usize) -> u16 {
+    (decimal(line, word) % 65_536) as u16
+}
+
+pub fn u32_in(line: &[u8], word: usize) -> u32 {
+    (decimal(line, word) % 4_294_967_296) as u32
 }
 
 // Words 1 and 2 of a call with a format.
 pub fn format_in(line: &[u8]) -> Format {
-    let letter = byte_at(line, start_of(line, 1));
-    let expression = (decimal(line, 2) % 256) as u8;
     Format {
-        letter: letter,
-        expression: expression,
+        letter: word_in(line, 1).first().copied().unwrap_or(b' '),
+        expression: byte_in(line, 2),
     }
 }
 
@@ -95,13 +56,10 @@ pub fn format_in(line: &[u8]) -> Format {
 pub fn time_in(line: &[u8], word: usize) -> Time
     requires { word ≤ 8 }
 {
-    let year = (decimal(line, word) % 256) as u8;
-    let day = (decimal(line, word + 1) % 65_536) as u16;
-    let hundredths = (decimal(line, word + 2) % 4_294_967_296) as u32;
     Time {
-        year: year,
-        day: day,
-        hundredths: hundredths,
+        year: byte_in(line, word),
+        day: u16_in(line, word + 1),
+        hundredths: u32_in(line, word + 2),
     }
 }
 
@@ -116,122 +74,102 @@ fn symbol(character: u8) -> u8 {
     }
 }
 
-fn put_element(frame: &mut [u8; 1024], at: usize, element: u8) -> usize {
-    if at < 1024 {
-        frame[at] = element;
-        return at + 1;
-    }
-    at
+// The byte that two digits are.
+fn byte_of(digits: &[u8]) -> u8 {
+    (hexadecimal_in(digits).unwrap_or(0) % 256) as u8
 }
 
-// A word's elements, as many as there is room for; the answer is their number.
-pub fn elements_in(line: &[u8], word: usize, frame: &mut [u8; 1024]) -> usize {
-    let mut n = 0;
-    let mut i = start_of(line, word);
-    while i < line.len() {
-        // `(empty)` has none
-        if line[i] == b' ' || line[i] == b'(' {
-            return n;
-        }
-        if line[i] == b'?' {
-            if line.len() - i < 3 {
-                return n;
+// A word's elements. A `?` takes two characters behind it, also past the word's end.
+pub fn elements_in(line: &[u8], word: usize) -> Elements {
+    let mut elements = ArrayVec::new();
+    let mut rest = from_word(line, word);
+    while let Some((first, tail)) = rest.split_first() {
+        match *first {
+            // `(empty)` has none
+            b' ' | b'(' => break,
+            b'?' => {
+                let Some((digits, tail)) = tail.split_at_checked(2) else {
+                    break;
+                };
+                let _ = elements.try_push(byte_of(digits));
+                rest = tail;
             }
-            let byte = value_of(hexadecimal_in(&line[i + 1..i + 3]));
-            n = put_element(frame, n, (byte % 256) as u8);
-            i += 3;
-        } else {
-            n = put_element(frame, n, symbol(line[i]));
-            i += 1;
+            character => {
+                let _ = elements.try_push(symbol(character));
+                rest = tail;
+            }
         }
     }
-    n
+    elements
 }
 
-// A word's bytes, two hexadecimal digits each, as many as there is room for; the answer is their number.
-pub fn bytes_in(line: &[u8], word: usize, bytes: &mut [u8; 1024]) -> usize {
-    let mut n = 0;
-    let mut i = start_of(line, word);
-    while i < line.len() {
+// A word's bytes, two hexadecimal digits each.
+pub fn bytes_in(line: &[u8], word: usize) -> Elements {
+    let mut bytes = ArrayVec::new();
+    for digits in from_word(line, word).chunks_exact(2) {
         // `(empty)` has none
-        if line[i] == b' ' || line[i] == b'(' {
-            return n;
+        if let [b' ' | b'(', ..] = digits {
+            break;
         }
-        if line.len() - i < 2 {
-            return n;
-        }
-        let byte = value_of(hexadecimal_in(&line[i..i + 2]));
-        n = put_element(bytes, n, (byte % 256) as u8);
-        i += 2;
+        let _ = bytes.try_push(byte_of(digits));
     }
-    n
+    bytes
 }
 
-// Where the digits that begin there end.
-fn digits_end(line: &[u8], start: usize) -> usize
-    requires { start ≤ length line.now }
-    ensures { (start ≤ result) × (result ≤ length line.now) }
-{
-    let mut i = start;
-    while i < line.len() {
-        if line[i] < b'0' || b'9' < line[i] {
-            return i;
-        }
-        i += 1;
-    }
-    i
+// Listeners and their damages, as many as there is room for: the settings, where each listener's damages end, and each damage's number and symbol.
+#[derive(Drop)]
+pub struct Listeners {
+    pub settings: ArrayVec<u8, 1024>,
+    pub ends: ArrayVec<usize, 1024>,
+    pub numbers: ArrayVec<u64, 1024>,
+    pub symbols: ArrayVec<u8, 1024>,
 }
 
-fn put_number(numbers: &mut [u64; 1024], at: usize, number: u64) {
-    if at < 1024 {
-        numbers[at] = number;
-    }
-}
-
-// The end of the last of so many listeners.
-fn put_end(ends: &mut [usize; 1024], listeners: usize, end: usize) {
-    if 0 < listeners {
-        if listeners <= 1024 {
-            ends[listeners - 1] = end;
+impl Listeners {
+    fn none() -> Listeners {
+        Listeners {
+            settings: ArrayVec::new(),
+            ends: ArrayVec::new(),
+            numbers: ArrayVec::new(),
+            symbols: ArrayVec::new(),
         }
     }
-}
 
-// How many listeners a word has, and how many damages they have together.
-#[derive(Clone, Copy)]
-pub struct Listed {
-    pub listeners: usize,
-    pub damages: usize,
-}
+    fn add_listener(&mut self, setting: u8) {
+        let _ = self.settings.try_push(setting);
+        let _ = self.ends.try_push(self.symbols.len());
+    }
 
-// A word's listeners, such as `2:88/0,188/1;3:`, as many as there is room for: each setting before a colon, each damage's number before a slash, and its symbol behind.
-pub fn listeners_in(
-    line: &[u8],
-    word: usize,
-    settings: &mut [u8; 1024],
-    ends: &mut [usize; 1024],
-    numbers: &mut [u64; 1024],
-    symbols: &mut [u8; 1024],
-) -> Listed {
-    let mut listeners = 0;
-    let mut damages = 0;
-    let mut i = start_of(line, word);
-    while i < line.len() {
-        let end = digits_end(line, i);
-        let value = value_of(decimal_in(&line[i..end]));
-        let mark = byte_at(line, end);
-        if mark == b':' {
-            listeners = put_element(settings, listeners, (value % 256) as u8);
-        } else if mark == b'/' {
-            put_number(numbers, damages, value);
-        } else if i < end {
-            damages = put_element(symbols, damages, (value % 256) as u8);
+    // Adds a damage of the newest listener, or of the first where none is there yet.
+    fn add_damage(&mut self, number: u64, symbol: u8) {
+        let _ = self.numbers.try_push(number);
+        let _ = self.symbols.try_push(symbol);
+        let end = self.symbols.len();
+        if let Some(last) = self.ends.last_mut() {
+            *last = end;
         }
-        put_end(ends, listeners, damages);
-        i = end + 1;
     }
-    Listed {
-        listeners: listeners,
-        damages: damages,
+}
+
+// A word's listeners, such as `2:88/0,188/1;3:`: each setting before a colon, each damage's number before a slash, and its symbol behind.
+pub fn listeners_in(line: &[u8], word: usize) -> Listeners {
+    let mut listeners = Listeners::none();
+    let mut number = 0;
+    for part in from_word(line, word).split_inclusive(|byte| !byte.is_ascii_digit()) {
+        let (digits, mark) = match part {
+            [digits @ .., mark] if !mark.is_ascii_digit() => (digits, *mark),
+            _ => (part, b' '),
+        };
+        let value = decimal_in(digits).unwrap_or(0);
+        match mark {
+            b':' => listeners.add_listener((value % 256) as u8),
+            b'/' => number = value,
+            _ if digits.is_empty() => {}
+            _ => {
+                listeners.add_damage(number, (value % 256) as u8);
+                number = 0;
+            }
+        }
     }
+    listeners
 }

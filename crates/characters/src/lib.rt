@@ -10,16 +10,11 @@ use timecode::{MARK, SPOILED};
 // what a byte that is skipped is decoded to, before it is left out
 const SKIPPED: u8 = 5;
 
+#[tactic(auto, unfolding(crate::specs::ByteSymbols::is_skipped))]
 fn is_skipped(byte: u8) -> bool
     ensures { result ≡ is_skipped byte }
 {
-    if byte == b' ' {
-        return true;
-    }
-    if byte == b'\r' {
-        return true;
-    }
-    byte == b'\n'
+    byte == b' ' || byte == b'\r' || byte == b'\n'
 }
 
 // A character that stands for no symbol gives 4, which Feed refuses. The digits are most of a recording, so they come first.
@@ -27,34 +22,26 @@ fn symbol_of_byte(byte: u8) -> u8
     ensures { result ≡ symbol_of_byte byte }
 {
     if byte / 2 == b'0' / 2 {
-        return byte % 2;
+        byte % 2
+    } else if byte == b'P' {
+        MARK
+    } else if byte == b'-' {
+        SPOILED
+    } else {
+        4
     }
-    if byte == b'P' {
-        return MARK;
-    }
-    if byte == b'-' {
-        return SPOILED;
-    }
-    4
 }
 
 // 5, which stands for no symbol, where the byte is skipped.
+#[tactic(auto, unfolding(crate::specs::Decoding::symbol_or_skipped))]
 fn symbol_or_skipped(byte: u8) -> u8
     ensures { result ≡ symbol_or_skipped byte }
 {
     if is_skipped(byte) {
-        return SKIPPED;
+        SKIPPED
+    } else {
+        symbol_of_byte(byte)
     }
-    symbol_of_byte(byte)
-}
-
-fn larger(first: u8, second: u8) -> u8
-    ensures { (first ≤ result) × (second ≤ result) }
-{
-    if first < second {
-        return second;
-    }
-    first
 }
 
 // Puts the symbol of each byte, or 5, at the byte's index; the greatest of them tells whether a byte is skipped. A loop without an early return
@@ -64,24 +51,20 @@ fn put_each(bytes: &[u8], symbols: &mut [u8]) -> u8
     ensures { EachPut bytes.now (length symbols.old) (length bytes.now) result symbols.new }
 {
     let mut most = 0;
-    let mut i = 0;
-    while i < bytes.len() {
-        let symbol = symbol_or_skipped(bytes[i]);
+    for (i, byte) in bytes.iter().enumerate() {
+        let symbol = symbol_or_skipped(*byte);
         symbols[i] = symbol;
-        most = larger(most, symbol);
-        i += 1;
+        most = most.max(symbol);
     }
     most
 }
 
 // How many symbols it is: none, if it stands for a byte that is skipped.
+#[tactic(auto, unfolding(crate::specs::Decoding::symbols_in))]
 fn symbols_in(symbol: u8) -> usize
     ensures { result ≡ symbols_in symbol }
 {
-    if symbol == SKIPPED {
-        return 0;
-    }
-    1
+    if symbol == SKIPPED { 0 } else { 1 }
 }
 
 // The first n without those of skipped bytes, in the first places.
@@ -90,12 +73,10 @@ fn close_up(symbols: &mut [u8], n: usize) -> usize
     ensures { (result ≡ length (kept_of (take n symbols.old))) × (take result symbols.new ≡ kept_of (take n symbols.old)) × (length symbols.new ≡ length symbols.old) }
 {
     let mut count = 0;
-    let mut i = 0;
-    while i < n {
+    for i in 0..n {
         let symbol = symbols[i];
         symbols[count] = symbol;
         count += symbols_in(symbol);
-        i += 1;
     }
     count
 }
@@ -107,7 +88,8 @@ pub fn decode(bytes: &[u8], symbols: &mut [u8]) -> usize
 {
     let most = put_each(bytes, symbols);
     if most < SKIPPED {
-        return bytes.len();
+        bytes.len()
+    } else {
+        close_up(symbols, bytes.len())
     }
-    close_up(symbols, bytes.len())
 }

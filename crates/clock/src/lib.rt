@@ -1,20 +1,19 @@
 // Times: whether one lies on a format, Step, step back, next after, and Difference.
 #![tactic(auto)]
 
-ghost use Rattle.std.specs.Prelude.{◌≡◌, true, cond, ◌&&◌, ℕ, ◌+◌, ◌*◌, ◌%◌, ◌<◌, ◌≤◌, ltb, eqb, pos, ◌-ℤ◌};
+ghost use Rattle.std.specs.Prelude.{◌≡◌, true, cond, ◌&&◌, ℕ, Ok, Err, ◌+◌, ◌*◌, ◌%◌, ◌<◌, ◌≤◌, ltb, eqb, pos, ◌-ℤ◌};
 ghost use Rattle.timecode.specs.Answers.{check};
 ghost use Rattle.timecode.specs.Calls.{difference_of};
 ghost use Rattle.timecode.specs.Formats.{known, day_length, in_range, year_carried, on_format, second_carried};
 ghost use Rattle.timecode.specs.Frames.{in_year, kinds, day_end, on_day, following, check_step, step_of, same_time, steps_to, any, next_after, preceding, step_back_of};
 ghost use Rattle.timecode.specs.declared.Refusal.TheVariants.{InvalidYearLength, InvalidKind};
-ghost use Rattle.timecode.specs.declared.Stepped.TheVariants.{To, Refused};
 
 use dates::{
     day_after, day_before, is_x, last_day_in, length_in, turn_day, year_carried, year_of_day_after,
     year_of_time_before,
 };
 use layout::{carries_leap, carries_year, frame_interval, is_known};
-use timecode::{Format, Refusal, Stepped, Subtracted, Time};
+use timecode::{Format, Refusal, Time};
 
 // The day is at most the last one, and both day and hundredths are in range.
 fn in_range(last: u16, time: Time) -> bool
@@ -151,60 +150,54 @@ fn earlier(format: Format, time: Time, length: u16, kind: u8) -> Time
 }
 
 // The time itself, where the year's length and the day's kind are right for it.
-fn check_day(format: Format, time: Time, length: u16, kind: u8) -> Stepped
-    ensures { result ≡ check Refused InvalidYearLength (in_year time length) (check Refused InvalidKind (on_day format time kind) (To time)) }
+fn check_day(format: Format, time: Time, length: u16, kind: u8) -> Result<Time, Refusal>
+    ensures { result ≡ check Err InvalidYearLength (in_year time length) (check Err InvalidKind (on_day format time kind) (Ok time)) }
 {
     if !in_year(time, length) {
-        return Stepped::Refused(Refusal::InvalidYearLength);
+        return Err(Refusal::InvalidYearLength);
     }
     if !on_day(format, time, kind) {
-        return Stepped::Refused(Refusal::InvalidKind);
+        return Err(Refusal::InvalidKind);
     }
-    Stepped::To(time)
+    Ok(time)
 }
 
 // The checks of both steps, in a year of that length: the time itself, where it passes them.
-fn check_step(format: Format, time: Time, length: u16, kind: u8) -> Stepped
-    ensures { result ≡ check_step format time length kind (To time) }
+fn check_step(format: Format, time: Time, length: u16, kind: u8) -> Result<Time, Refusal>
+    ensures { result ≡ check_step format time length kind (Ok time) }
 {
     if !is_known(format) {
-        return Stepped::Refused(Refusal::UnknownFormat);
+        return Err(Refusal::UnknownFormat);
     }
     if !year_on_format(format, time) {
-        return Stepped::Refused(Refusal::InvalidYear);
+        return Err(Refusal::InvalidYear);
     }
     if !on_format(format, time) {
-        return Stepped::Refused(Refusal::InvalidTime);
+        return Err(Refusal::InvalidTime);
     }
     if !second_carried(format, time) {
-        return Stepped::Refused(Refusal::SecondNotCarried);
+        return Err(Refusal::SecondNotCarried);
     }
     check_day(format, time, length, kind)
 }
 
 // The kind is that of the given time's day. Where the format carries the year, the length is its own and not the given one.
-pub fn step(format: Format, time: Time, given: u16, kind: u8) -> Stepped
+pub fn step(format: Format, time: Time, given: u16, kind: u8) -> Result<Time, Refusal>
     ensures { result ≡ step_of format time given kind }
 {
     let length = length_in(carries_year(format), time.year, given);
-    let checked = check_step(format, time, length, kind);
-    match checked {
-        Stepped::To(_) => Stepped::To(later(format, time, length, kind)),
-        Stepped::Refused(refusal) => Stepped::Refused(refusal),
-    }
+    check_step(format, time, length, kind)?;
+    Ok(later(format, time, length, kind))
 }
 
 // The year and the kind are those of the time before; the checks look at the time that is given.
-pub fn step_back(format: Format, time: Time, given: u16, kind: u8) -> Stepped
+pub fn step_back(format: Format, time: Time, given: u16, kind: u8) -> Result<Time, Refusal>
     ensures { result ≡ step_back_of format time given kind }
 {
     let carried = carries_year(format);
     let length = length_in(carried, year_of_time_before(carried, time), given);
-    let checked = check_step(format, time, length, kind);
-    match checked {
-        Stepped::To(_) => Stepped::To(earlier(format, time, length, kind)),
-        Stepped::Refused(refusal) => Stepped::Refused(refusal),
-    }
+    check_step(format, time, length, kind)?;
+    Ok(earlier(format, time, length, kind))
 }
 
 fn same_time(first: Time, second: Time) -> bool
@@ -219,12 +212,12 @@ fn same_time(first: Time, second: Time) -> bool
     first.hundredths == second.hundredths
 }
 
-fn leads_to(stepped: Stepped, time: Time) -> bool
+fn leads_to(stepped: Result<Time, Refusal>, time: Time) -> bool
     ensures { result ≡ steps_to stepped time }
 {
     match stepped {
-        Stepped::To(next) => same_time(next, time),
-        Stepped::Refused(_) => false,
+        Ok(next) => same_time(next, time),
+        Err(_) => false,
     }
 }
 
@@ -270,13 +263,13 @@ fn minus(first: u64, second: u64) -> i64
 }
 
 // The first time less the second, within one year, in signed hundredths. It passes over the years.
-pub fn difference(first: Time, second: Time) -> Subtracted
+pub fn difference(first: Time, second: Time) -> Result<i64, Refusal>
     ensures { result ≡ difference_of first second }
 {
     if in_range(Time::LAST_DAY, first) {
         if in_range(Time::LAST_DAY, second) {
-            return Subtracted::Hundredths(minus(total(first), total(second)));
+            return Ok(minus(total(first), total(second)));
         }
     }
-    Subtracted::Refused(Refusal::InvalidTime)
+    Err(Refusal::InvalidTime)
 }

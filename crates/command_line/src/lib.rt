@@ -1,95 +1,53 @@
-// The arguments of timewrite and timetry: a format, and numbers.
+// The arguments of timewrite, timetry and timepulse: a format, and numbers. Each is none where there is no such argument, or it is malformed.
 // Nothing beneath says which arguments a program was given, so no contract here can.
 #![tactic(auto)]
 
-use arguments::{Number, decimal_in, hexadecimal_in};
-use program_io::argument;
+use arguments::{decimal_in, hexadecimal_in};
+use program_io::argument_as;
 use timecode::Format;
 
-#[derive(Clone, Copy)]
-pub enum Named {
-    Known(Format),
-    Malformed,
-}
-
-fn is_letter(byte: u8) -> bool {
-    if byte < b'A' {
-        return false;
-    }
-    if byte <= b'Z' {
-        return true;
-    }
-    if byte < b'a' {
-        return false;
-    }
-    byte <= b'z'
-}
-
-fn format_in(text: &[u8]) -> Named {
-    if text.len() == 2 {
-        if is_letter(text[0]) {
-            if let Number::Value(expression) = decimal_in(&text[1..2]) {
-                return Named::Known(Format {
-                    letter: text[0],
-                    expression: (expression % 10) as u8,
-                });
-            }
-        }
-    }
-    Named::Malformed
-}
-
-// A letter and an expression.
-pub fn format_argument(rt: &HostRuntime, i: usize) -> Named {
-    let mut text = [0u8; 4096];
-    match argument(rt, i, &mut text) {
-        Some(bytes) => format_in(bytes),
-        None => Named::Malformed,
+// A letter and a digit, which is the expression.
+fn format_in(text: &[u8]) -> Option<Format> {
+    match text {
+        [letter @ (b'A'..=b'Z' | b'a'..=b'z'), digit @ b'0'..=b'9'] => Some(Format {
+            letter: *letter,
+            expression: *digit - b'0',
+        }),
+        _ => None,
     }
 }
 
-pub fn number_argument(rt: &HostRuntime, i: usize) -> Number {
-    let mut text = [0u8; 4096];
-    match argument(rt, i, &mut text) {
-        Some(bytes) => decimal_in(bytes),
-        None => Number::Malformed,
-    }
+pub fn format_argument(rt: &HostRuntime, i: usize) -> Option<Format> {
+    argument_as(rt, i, format_in)
 }
 
-pub fn hexadecimal_argument(rt: &HostRuntime, i: usize) -> Number {
-    let mut text = [0u8; 4096];
-    match argument(rt, i, &mut text) {
-        Some(bytes) => hexadecimal_in(bytes),
-        None => Number::Malformed,
-    }
+pub fn number_argument(rt: &HostRuntime, i: usize) -> Option<u64> {
+    argument_as(rt, i, decimal_in)
+}
+
+pub fn hexadecimal_argument(rt: &HostRuntime, i: usize) -> Option<u64> {
+    argument_as(rt, i, hexadecimal_in)
 }
 
 // A number, or 0 where there are not that many arguments.
-pub fn number_or_0(rt: &HostRuntime, count: usize, i: usize) -> Number {
+pub fn number_or_0(rt: &HostRuntime, count: usize, i: usize) -> Option<u64> {
     if count <= i {
-        return Number::Value(0);
+        Some(0)
+    } else {
+        number_argument(rt, i)
     }
-    number_argument(rt, i)
 }
 
 // A number past the end of its type becomes the type's last, which is no kind, no year, no day, no year length and no time either.
+// The library has no trait for a type's last number, so there is one function for each type.
 pub fn limited_8(number: u64) -> u8 {
-    if number <= 255 {
-        return (number % 256) as u8;
-    }
-    255
+    u8::try_from(number).unwrap_or(u8::MAX)
 }
 
 pub fn limited_16(number: u64) -> u16 {
-    if number <= 65_535 {
-        return (number % 65_536) as u16;
-    }
-    65_535
+    u16::try_from(number).unwrap_or(u16::MAX)
 }
 
 pub fn limited_32(number: u64) -> u32 {
-    if number <= 4_294_967_295 {
-        return (number % 4_294_967_296) as u32;
-    }
-    4_294_967_295
+    u32::try_from(number).unwrap_or(u32::MAX)
 }

@@ -1,5 +1,6 @@
 -- What document 02 asks of encoding and decoding, for every M: each undoes the other, and a symbol below 3 stands exactly where its cycles are.
-use Rattle.std.specs.Prelude.{◌≡◌, refl, true, false, not, ◌||◌, List, [], ◌∷◌, ◌↔◌, ℕ, zero, suc, ◌+◌, ◌*◌, ◌<◌, ◌≤◌, leb, length, take, drop, get_or}
+use Rattle.timecode.specs.Answers.{done, accepted}
+use Rattle.std.specs.Prelude.{◌≡◌, refl, true, false, not, ◌||◌, List, [], ◌∷◌, ◌↔◌, ℕ, zero, suc, ◌+◌, ◌*◌, ◌<◌, ◌≤◌, leb, length, take, drop, get_or, Err}
 use Rattle.std.proofs.Common.{sym, ap, ◌∙◌, zero-mul, suc-mul, not-suc-le-zero, arith, leb-true, le-leb, length-drop, take-append-drop, drop-drop}
 use Rattle.timecode.specs.Formats.{is_x, member, A, B, G, known, table, look_up, row_of, size}
 use Rattle.timecode.specs.Frames.{written, write_of, write_leaves, read_of}
@@ -11,11 +12,8 @@ use Rattle.timecode.proofs.Laws.Tests.{by-test, and_left, or-other, below-every}
 use Rattle.timecode.proofs.Laws.Writing.{length-written, written-is-accepted, taken, leaves}
 use Rattle.timecode.specs.Layout.{Run, runs, in_run, is_mark, filler, symbol_at}
 use Rattle.timecode.specs.declared.Format.{Format}
-use Rattle.timecode.specs.declared.Reading.TheVariants.{Accepted}
 use Rattle.timecode.specs.declared.Refusal.{Refusal}
 use Rattle.timecode.specs.declared.Time.{Time}
-use Rattle.timecode.specs.declared.Written.{Written}
-use Rattle.timecode.specs.declared.Written.TheVariants.{Done}
 use Rattle.cycles.specs.Checks.{Checked}
 use Rattle.cycles.proofs.Checks.{checks-pass, encoded, decoded}
 use Rattle.cycles.specs.Cycles.{is_modulated, is_cycle_count, is_proper, element, cycles_of, unspoiled, encode_of, encode_leaves, same, symbol_in, cycles_at, symbols_in, first_improper, decode_of, decode_leaves}
@@ -24,25 +22,25 @@ use Rattle.cycles.proofs.Frames.{element-decoded, length-cycles, symbol-at, leng
 
 -- ---- a refused call leaves the lent memory
 
-pub refused-encode-leaves : (f : Format) (M : ℕ) (frame lent : List ℕ) (r : Refusal) → encode_of f M frame lent ≡ Written.Refused r → encode_leaves f M frame lent ≡ lent
+pub refused-encode-leaves : (f : Format) (M : ℕ) (frame lent : List ℕ) (r : Refusal) → encode_of f M frame lent ≡ Err r → encode_leaves f M frame lent ≡ lent
 unfolding encode_leaves
 refused-encode-leaves f M frame lent r h = rw h
 
-pub refused-decode-leaves : (f : Format) (M : ℕ) (cycles lent : List ℕ) (r : Refusal) → decode_of f M cycles lent ≡ Written.Refused r → decode_leaves f M cycles lent ≡ lent
+pub refused-decode-leaves : (f : Format) (M : ℕ) (cycles lent : List ℕ) (r : Refusal) → decode_of f M cycles lent ≡ Err r → decode_leaves f M cycles lent ≡ lent
 unfolding decode_leaves
 refused-decode-leaves f M cycles lent r h = rw h
 
 -- ---- decoding an encoded frame returns it: for every format and every M, whatever the lent memory held
 
-pub encode-then-decode : (f : Format) (M : ℕ) (frame cycles symbols : List ℕ) → encode_of f M frame cycles ≡ Done → length symbols ≡ size f
-    → (decode_of f M (encode_leaves f M frame cycles) symbols ≡ Done) × (decode_leaves f M (encode_leaves f M frame cycles) symbols ≡ frame)
+pub encode-then-decode : (f : Format) (M : ℕ) (frame cycles symbols : List ℕ) → encode_of f M frame cycles ≡ done → length symbols ≡ size f
+    → (decode_of f M (encode_leaves f M frame cycles) symbols ≡ done) × (decode_leaves f M (encode_leaves f M frame cycles) symbols ≡ frame)
 unfolding encode_leaves decode_leaves decode_of
 encode-then-decode f M frame cycles symbols h l =
     let e = encoded f M frame cycles h in
     let n : length (cycles_of M frame) ≡ size f * M = length-cycles M frame ∙ ap (λ (k : ℕ). k * M) e.0.elements in
     let c : Checked f M (length symbols) (length (cycles_of M frame)) = record { format = e.0.format; count = e.0.count; elements = l; all = n } in
     let proper : leb (length (cycles_of M frame)) (first_improper (cycles_of M frame)) ≡ true = le-leb (length (cycles_of M frame)) (first_improper (cycles_of M frame)) (let w = first-cycles M frame in omega arith) in
-    let q : decode_of f M (cycles_of M frame) symbols ≡ Done = checks-pass f M (length symbols) (length (cycles_of M frame)) _ c ∙ rw proper in
+    let q : decode_of f M (cycles_of M frame) symbols ≡ done = checks-pass f M (length symbols) (length (cycles_of M frame)) _ c ∙ rw proper in
     rw h (q, rw (q, ← e.0.elements) (symbols-of-cycles M frame e.0.count e.1))
 
 -- ---- what a decoded symbol says
@@ -102,15 +100,15 @@ cycles-of-symbols M n cs l u =
     let k : i < n = rw m at h in
     cycles-of-symbol M (cycles_at M cs i) (get_or (symbols_in M n cs) i 0) (unspoiled-at (symbols_in M n cs) i u h) (sym (symbol-at M n cs i k)))
 
-pub decode-then-encode : (f : Format) (M : ℕ) (cycles symbols lent : List ℕ) → decode_of f M cycles symbols ≡ Done → unspoiled (decode_leaves f M cycles symbols) ≡ true → length lent ≡ size f * M
-    → (encode_of f M (decode_leaves f M cycles symbols) lent ≡ Done) × (encode_leaves f M (decode_leaves f M cycles symbols) lent ≡ cycles)
+pub decode-then-encode : (f : Format) (M : ℕ) (cycles symbols lent : List ℕ) → decode_of f M cycles symbols ≡ done → unspoiled (decode_leaves f M cycles symbols) ≡ true → length lent ≡ size f * M
+    → (encode_of f M (decode_leaves f M cycles symbols) lent ≡ done) × (encode_leaves f M (decode_leaves f M cycles symbols) lent ≡ cycles)
 unfolding encode_leaves decode_leaves encode_of
 decode-then-encode f M cycles symbols lent h u l =
     let d = decoded f M cycles symbols h in
     let ss = symbols_in M (size f) cycles in
     let v : unspoiled ss ≡ true = rw h at u in
     let c : Checked f M (length ss) (length lent) = record { format = d.0.format; count = d.0.count; elements = length_symbols M (size f) cycles; all = l } in
-    let q : encode_of f M ss lent ≡ Done = checks-pass f M (length ss) (length lent) _ c ∙ rw v in
+    let q : encode_of f M ss lent ≡ done = checks-pass f M (length ss) (length lent) _ c ∙ rw v in
     rw h (q, rw q (cycles-of-symbols M (size f) cycles d.0.all v))
 
 -- ---- number 25's index: the first cycle that is neither high nor low
@@ -164,16 +162,16 @@ written-unspoiled f t w m =
     rw e (symbol-unspoiled f (runs f) _ i m h))
 
 pub written-then-read : (f : Format) (M : ℕ) (t : Time) (w : ℕ) (lent cycles symbols : List ℕ) → is_modulated f ≡ true → is_cycle_count M ≡ true
-    → write_of f t w lent ≡ Done → length cycles ≡ size f * M → length symbols ≡ size f
-    → (encode_of f M (write_leaves f t w lent) cycles ≡ Done)
-    × ((decode_of f M (encode_leaves f M (write_leaves f t w lent) cycles) symbols ≡ Done)
-    × (read_of f (decode_leaves f M (encode_leaves f M (write_leaves f t w lent) cycles) symbols) ≡ Accepted t w))
+    → write_of f t w lent ≡ done → length cycles ≡ size f * M → length symbols ≡ size f
+    → (encode_of f M (write_leaves f t w lent) cycles ≡ done)
+    × ((decode_of f M (encode_leaves f M (write_leaves f t w lent) cycles) symbols ≡ done)
+    × (read_of f (decode_leaves f M (encode_leaves f M (write_leaves f t w lent) cycles) symbols) ≡ accepted t w))
 unfolding encode_of
 written-then-read f M t w lent cycles symbols m c h l n =
     let frame = leaves f t w lent h in
     let long : length (write_leaves f t w lent) ≡ size f = ap length frame ∙ length-written f t w in
     let checks : Checked f M (length (write_leaves f t w lent)) (length cycles) = record { format = m; count = c; elements = long; all = l } in
     let clean : unspoiled (write_leaves f t w lent) ≡ true = ap unspoiled frame ∙ written-unspoiled f t w m in
-    let q : encode_of f M (write_leaves f t w lent) cycles ≡ Done = checks-pass f M (length (write_leaves f t w lent)) (length cycles) _ checks ∙ rw clean in
+    let q : encode_of f M (write_leaves f t w lent) cycles ≡ done = checks-pass f M (length (write_leaves f t w lent)) (length cycles) _ checks ∙ rw clean in
     let back = encode-then-decode f M (write_leaves f t w lent) cycles symbols q n in
     (q, (back.0, ap (read_of f) (back.1 ∙ frame) ∙ written-is-accepted f t w (taken f t w lent h).0))

@@ -1,14 +1,13 @@
 -- Document 02, "Modified Manchester input": a frame as clock cycles, and clock cycles as a frame.
-use Rattle.std.specs.Prelude.{Bool, true, false, cond, ◌&&◌, ◌||◌, List, [], ◌∷◌, ◌++◌, ℕ, suc, ◌*◌, ◌-◌, ◌/◌, ◌%◌, leb, eqb, length, take, drop, replicate}
-use Rattle.timecode.specs.Answers.{check, Check, checks}
+use Rattle.timecode.specs.declared.Refusal.{Refusal}
+use Rattle.std.specs.Prelude.{Bool, true, false, cond, ◌&&◌, ◌||◌, List, [], ◌∷◌, ◌++◌, ℕ, suc, ◌*◌, ◌-◌, ◌/◌, ◌%◌, leb, eqb, length, take, drop, replicate, Result, Err}
+use Rattle.timecode.specs.Answers.{check, Check, checks, done}
 use Rattle.timecode.specs.Calls.{within}
 use Rattle.timecode.specs.Formats.{member, A, B, G, known, size}
 use Rattle.timecode.specs.Frames.{left}
 use Rattle.timecode.specs.Layout.{tabulate}
 use Rattle.timecode.specs.declared.Format.{Format}
 use Rattle.timecode.specs.declared.Refusal.TheVariants.{UnknownFormat, WrongLength, UnknownSymbol, InvalidCycleCount, UnknownCycle}
-use Rattle.timecode.specs.declared.Written.{Written}
-use Rattle.timecode.specs.declared.Written.TheVariants.{Done}
 
 -- ---- what both calls ask
 
@@ -28,8 +27,8 @@ cycle_checks f M symbols cycles =
     ∷ (WrongLength, eqb symbols (size f) && eqb cycles (size f * M))  -- 3
     ∷ []
 
-unfoldable pub check_frame : Format → ℕ → ℕ → ℕ → Written → Written
-check_frame f M symbols cycles answer = checks Written.Refused (cycle_checks f M symbols cycles) answer
+unfoldable pub check_frame : Format → ℕ → ℕ → ℕ → Result Unit Refusal → Result Unit Refusal
+check_frame f M symbols cycles answer = checks Err (cycle_checks f M symbols cycles) answer
 
 -- ---- an element
 
@@ -60,8 +59,8 @@ unfoldable pub unspoiled : List ℕ → Bool
 unspoiled [] = true
 unspoiled (s ∷ ss) = leb s 2 && unspoiled ss
 
-unfoldable pub encode_of : Format → ℕ → List ℕ → List ℕ → Written
-encode_of f M frame lent = check_frame f M (length frame) (length lent) (check Written.Refused UnknownSymbol (unspoiled frame) Done)  -- 4
+unfoldable pub encode_of : Format → ℕ → List ℕ → List ℕ → Result Unit Refusal
+encode_of f M frame lent = check_frame f M (length frame) (length lent) (check Err UnknownSymbol (unspoiled frame) done)  -- 4
 
 -- the lent cycles afterwards
 unfoldable pub encode_leaves : Format → ℕ → List ℕ → List ℕ → List ℕ
@@ -98,8 +97,8 @@ unfoldable pub first_improper : List ℕ → ℕ
 first_improper [] = 0
 first_improper (c ∷ cs) = cond (is_proper c) (suc (first_improper cs)) 0
 
-unfoldable pub decode_of : Format → ℕ → List ℕ → List ℕ → Written
-decode_of f M cycles lent = check_frame f M (length lent) (length cycles) (check Written.Refused (UnknownCycle (first_improper cycles)) (leb (length cycles) (first_improper cycles)) Done)  -- 25
+unfoldable pub decode_of : Format → ℕ → List ℕ → List ℕ → Result Unit Refusal
+decode_of f M cycles lent = check_frame f M (length lent) (length cycles) (check Err (UnknownCycle (first_improper cycles)) (leb (length cycles) (first_improper cycles)) done)  -- 25
 
 -- the lent frame afterwards
 unfoldable pub decode_leaves : Format → ℕ → List ℕ → List ℕ → List ℕ

@@ -1,161 +1,131 @@
-// Damages of a run: an element's number, from 1, and the symbol that is received in its place, in two lent lists.
+// Damages of a run: an element's number, from 1, and the symbol that is received in its place.
 // They come from a text with a line for each, or are scattered over the run by a seed.
 #![tactic(auto)]
 
-ghost use Rattle.std.specs.Prelude.{◌+◌, ◌≤◌, length, ◌≡◌};
+ghost use Rattle.std.specs.Prelude.{◌≡◌, ◌≤◌, length};
 ghost use Rattle.characters.specs.ByteSymbols.{symbol_of_byte};
 
-use arguments::{Number, decimal_in};
+use arguments::decimal_in;
 use timecode::{MARK, ONE, SPOILED, ZERO};
 
-// The lent lists' length.
-pub const MOST: usize = 16_384;
+// How many damages a run has at most.
+const MOST: usize = 16_384;
 
 // 2^33: what a random number is divided by, since its high bits are the better ones.
 const HIGH: u64 = 8_589_934_592;
 
-// How many damages the lists begin with, and whether these are all.
-#[derive(Clone, Copy)]
-pub struct Listed {
-    pub count: usize,
-    pub all: bool,
+// Numbers and symbols stand in two lists, since a simulation takes them so.
+#[derive(Drop)]
+pub struct Damages {
+    numbers: [u64; MOST],
+    symbols: [u8; MOST],
+    count: usize,
+    ghost within: { count ≤ 16384 },
 }
 
-#[derive(Clone, Copy)]
-enum Damage {
-    At(u64, u8),
-    Malformed,
+impl Damages {
+    fn none() -> Self {
+        Damages {
+            numbers: [0; MOST],
+            symbols: [0; MOST],
+            count: 0,
+        }
+    }
+
+    // Nothing where the lists are full.
+    fn add(&mut self, number: u64, symbol: u8) -> Option<()> {
+        if self.count == MOST {
+            return None;
+        }
+        self.numbers[self.count] = number;
+        self.symbols[self.count] = symbol;
+        self.count += 1;
+        Some(())
+    }
+
+    pub fn numbers(&self) -> &[u64]
+        ensures { length result.now ≤ 16384 }
+    {
+        &self.numbers[..self.count]
+    }
+
+    pub fn symbols(&self) -> &[u8]
+        ensures { length result.now ≤ 16384 }
+    {
+        &self.symbols[..self.count]
+    }
 }
 
 // The symbol of a character of a recording. Any other character gives 4, which is no symbol.
+#[tactic(auto, using(std::proofs::lemmas::Bool::Decides::nat_tests), unfolding(characters::specs::ByteSymbols::symbol_of_byte))]
 fn symbol_of(byte: u8) -> u8
     ensures { result ≡ symbol_of_byte byte }
 {
-    if byte == b'0' {
-        return ZERO;
-    }
-    if byte == b'1' {
-        return ONE;
-    }
-    if byte == b'P' {
-        return MARK;
-    }
-    if byte == b'-' {
-        return SPOILED;
-    }
-    4
-}
-
-fn list_of(count: usize, all: bool) -> Listed
-    ensures { result.count ≡ count }
-{
-    Listed {
-        count: count,
-        all: all,
+    match byte {
+        b'0' => ZERO,
+        b'1' => ONE,
+        b'P' => MARK,
+        b'-' => SPOILED,
+        _ => 4,
     }
 }
 
 // A number, a space and a character.
-fn damage_in(line: &[u8]) -> Damage {
-    let n = line.len();
-    if n < 3 {
-        return Damage::Malformed;
-    }
-    let space = n - 2;
-    if line[space] != b' ' {
-        return Damage::Malformed;
-    }
-    let symbol = symbol_of(line[n - 1]);
-    let number = decimal_in(&line[0..space]);
-    match number {
-        Number::Value(value) => Damage::At(value, symbol),
-        Number::Malformed => Damage::Malformed,
+fn damage_in(line: &[u8]) -> Option<(u64, u8)> {
+    match line {
+        [number @ .., b' ', symbol] => Some((decimal_in(number)?, symbol_of(*symbol))),
+        _ => None,
     }
 }
 
-// Where the line that begins there ends.
-fn line_end(text: &[u8], from: usize) -> usize
-    requires { from ≤ length text.now }
-    ensures { (from ≤ result) × (result ≤ length text.now) }
-{
-    let mut at = from;
-    while at < text.len() {
-        if text[at] == b'\n' {
-            return at;
-        }
-        at += 1;
+// The damages of a text; nothing where a line is malformed or there are too many.
+pub fn damages_in(text: &[u8]) -> Option<Damages> {
+    let mut damages = Damages::none();
+    for line in text.split_inclusive(|byte| *byte == b'\n') {
+        let (number, symbol) = damage_in(line.strip_suffix(b"\n").unwrap_or(line))?;
+        damages.add(number, symbol)?;
     }
-    at
+    Some(damages)
 }
 
-// The damages of a text; not all of them where a line is malformed or the lists are full.
-pub fn damages_in(text: &[u8], numbers: &mut [u64; 16384], symbols: &mut [u8; 16384]) -> Listed
-    ensures { result.count ≤ 16384 }
-{
-    let mut count = 0;
-    let mut at = 0;
-    while at < text.len() {
-        let end = line_end(text, at);
-        let damage = damage_in(&text[at..end]);
-        let Damage::At(number, symbol) = damage else {
-            return list_of(count, false);
+// Random numbers that follow from a seed.
+#[derive(Drop)]
+struct Random {
+    last: u64,
+}
+
+impl Random {
+    // The start is not 0, and far from those of the next seeds.
+    fn from_seed(seed: u64) -> Self {
+        let mut random = Random {
+            last: seed % 4_294_967_296 * 2 + 1,
         };
-        if count == MOST {
-            return list_of(count, false);
+        for _ in 0..64 {
+            random.draw();
         }
-        numbers[count] = number;
-        symbols[count] = symbol;
-        count += 1;
-        at = end + 1;
+        random
     }
-    list_of(count, true)
-}
 
-fn next_random(x: u64) -> u64 {
-    let y = x ^ (x << 13);
-    let z = y ^ (y >> 7);
-    z ^ (z << 17)
-}
-
-// A start that is not 0, far from those of the next seeds.
-fn first_random(seed: u64) -> u64 {
-    let mut x = seed % 4_294_967_296 * 2 + 1;
-    let mut i = 0u64;
-    while i < 64 {
-        x = next_random(x);
-        i += 1;
+    fn draw(&mut self) -> u64 {
+        self.last ^= self.last << 13;
+        self.last ^= self.last >> 7;
+        self.last ^= self.last << 17;
+        self.last / HIGH
     }
-    x
 }
 
-// Random symbols, each of the four as often, in the place of about one element in `times`; not all of them where the lists are full.
-pub fn scattered(
-    elements: u64,
-    times: u64,
-    seed: u64,
-    numbers: &mut [u64; 16384],
-    symbols: &mut [u8; 16384],
-) -> Listed
-    ensures { result.count ≤ 16384 }
-{
+// Random symbols, each of the four as often, in the place of about one element in `times`; nothing where there are too many, or `times` is 0.
+pub fn scattered(elements: u64, times: u64, seed: u64) -> Option<Damages> {
     if times == 0 {
-        return list_of(0, false);
+        return None;
     }
-    let mut x = first_random(seed);
-    let mut count = 0;
-    let mut number = 0;
-    while number < elements {
-        number += 1;
-        x = next_random(x);
-        if x / HIGH % times == 0 {
-            if count == MOST {
-                return list_of(count, false);
-            }
-            x = next_random(x);
-            numbers[count] = number;
-            symbols[count] = (x / HIGH % 4) as u8;
-            count += 1;
+    let mut random = Random::from_seed(seed);
+    let mut damages = Damages::none();
+    for number in 1..=elements {
+        if random.draw() % times == 0 {
+            let symbol = (random.draw() % 4) as u8;
+            damages.add(number, symbol)?;
         }
     }
-    list_of(count, true)
+    Some(damages)
 }

@@ -1,17 +1,17 @@
 -- What the digits of a frame say, by their place in the list of runs, and that this is what Read says of the frame.
-use Rattle.std.specs.Prelude.{◌≡◌, Bool, true, false, cond, ◌&&◌, List, [], ◌∷◌, ◌++◌, ℕ, zero, suc, ◌+◌, ◌*◌, ◌-◌, ◌/◌, ◌^◌, ◌<◌, ◌≤◌, leb, eqb, get_or}
+use Rattle.timecode.specs.declared.Refusal.{Refusal}
+use Rattle.timecode.specs.declared.Reading.{Reading}
+use Rattle.std.specs.Prelude.{◌≡◌, Bool, true, false, cond, ◌&&◌, List, [], ◌∷◌, ◌++◌, ℕ, zero, suc, ◌+◌, ◌*◌, ◌-◌, ◌/◌, ◌^◌, ◌<◌, ◌≤◌, leb, eqb, get_or, Result, Err}
 use Rattle.std.proofs.Math.Path.{refl, ap}
 use Rattle.std.proofs.Common.{sym, ◌∙◌, add-zero, add-suc, suc-add, not-suc-le-zero, add-one, leb-true}
 use native.Mathlib.Omega.{arith}
-use Rattle.timecode.specs.Answers.{checks}
+use Rattle.timecode.specs.Answers.{checks, accepted}
 use Rattle.timecode.specs.Formats.{is_x, carries_leap, carries_year, last_day, days_in, last_day_in}
 use Rattle.timecode.specs.Frames.{are_digits, last_second, day_in, is_time, time_in, seconds_agree, digit_checks}
 use Rattle.timecode.proofs.Laws.Tests.{by-test, and_left, and_right}
 use Rattle.timecode.proofs.Laws.Times.{days-range}
 use Rattle.timecode.specs.Layout.{Run, seconds, minutes, hours, days, tenths, hundredths_digit, has_seconds, straight_seconds, control, years, time_fields, flatten, digit_in, number_in, decode}
 use Rattle.timecode.specs.declared.Format.{Format}
-use Rattle.timecode.specs.declared.Reading.{Reading}
-use Rattle.timecode.specs.declared.Reading.TheVariants.{Accepted}
 use Rattle.timecode.specs.declared.Refusal.TheVariants.{InvalidDigit, SecondsDiffer}
 use Rattle.timecode.specs.declared.Time.{Time}
 use Rattle.layout.specs.Tables.{widths_of}
@@ -51,13 +51,13 @@ agree_of ws ds = cond (eqb (get_or ws 11 0) 0) true (eqb (get_or ds 11 0 + 512 *
 unfoldable pub control_from : List ℕ → List ℕ → ℕ
 control_from ws ds = get_or ds 13 0 + 2 ^ get_or ws 13 0 * (get_or ds 14 0 + 2 ^ get_or ws 14 0 * (get_or ds 15 0 + 2 ^ get_or ws 15 0 * (get_or ds 16 0 + 2 ^ get_or ws 16 0 * get_or ds 17 0)))
 
-unfoldable pub meaning_of : Bool → Bool → List ℕ → List ℕ → Reading
+unfoldable pub meaning_of : Bool → Bool → List ℕ → List ℕ → Result Reading Refusal
 meaning_of leap year ws ds =
-    checks Reading.Refused
+    checks Err
     ((InvalidDigit, is_time_of leap year ds)  -- 7
     ∷ (SecondsDiffer, agree_of ws ds)  -- 8
     ∷ [])
-    (Accepted (time_from ds) (control_from ws ds))
+    (accepted (time_from ds) (control_from ws ds))
 
 -- ---- a frame's digits say what the frame says
 
@@ -146,7 +146,7 @@ module _ (f : Format) (frame : List ℕ) where
   unfolding agree_of seconds_agree
   agree-is x = by-test (has_seconds f) (λ y. rw (straight-width f, y, straight-is y, time_is x)) (λ m. rw (straight-width f, m))
 
-  pub meaning-is : is_x f ≡ false → meaning_of (carries_leap f) (carries_year f) (widths_of f) ds ≡ checks Reading.Refused (digit_checks f frame) (Accepted (time_in f frame) (number_in frame (control f)))
+  pub meaning-is : is_x f ≡ false → meaning_of (carries_leap f) (carries_year f) (widths_of f) ds ≡ checks Err (digit_checks f frame) (accepted (time_in f frame) (number_in frame (control f)))
   unfolding meaning_of
   meaning-is x = rw (is-time-is x, agree-is x, time_is x, control_is)
 

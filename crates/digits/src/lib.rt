@@ -239,7 +239,7 @@ fn control_in(widths: &[u8], digits: &[u64]) -> u64
 }
 
 // What digits say that come from a frame in which nothing offends.
-pub fn meaning(leap: bool, year: bool, widths: &[u8], digits: &[u64]) -> Reading
+pub fn meaning(leap: bool, year: bool, widths: &[u8], digits: &[u64]) -> Result<Reading, Refusal>
     requires { Widths widths.now × Digits digits.now }
     ensures { result ≡ meaning_of leap year widths.now digits.now }
 {
@@ -247,9 +247,9 @@ pub fn meaning(leap: bool, year: bool, widths: &[u8], digits: &[u64]) -> Reading
         let time = time_in(digits);
         if seconds_agree(widths, digits, time) {
             let control = control_in(widths, digits);
-            return Reading::Accepted { time, control };
+            return Ok(Reading { time, control });
         }
-        return Reading::Refused(Refusal::SecondsDiffer);
+        return Err(Refusal::SecondsDiffer);
     }
-    Reading::Refused(Refusal::InvalidDigit)
+    Err(Refusal::InvalidDigit)
 }

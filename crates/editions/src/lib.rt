@@ -2,17 +2,16 @@
 // Each call equals its definition for every input.
 #![tactic(auto)]
 
-ghost use Rattle.std.specs.Prelude.{◌≡◌, true, ◌&&◌, ◌*◌, ◌/◌, ◌≤◌, eqb, length};
-ghost use Rattle.timecode.specs.Editions.{with_year, without_year, time_in_year, nine_bits, is_earlier, check_forward, forward_of, forward_leaves, backward_of, backward_leaves};
+ghost use Rattle.std.specs.Prelude.{◌≡◌, true, Ok, ◌&&◌, ◌*◌, ◌/◌, ◌≤◌, eqb, length};
+ghost use Rattle.timecode.specs.Editions.{with_year, without_year, time_in_year, nine_bits, is_earlier, check_forward, forwarded, forward_of, forward_leaves, backwarded, backward_of, backward_leaves};
 ghost use Rattle.timecode.specs.Formats.{size, carries_year};
 ghost use Rattle.timecode.specs.Frames.{Valid, written, left};
-ghost use Rattle.timecode.specs.declared.Reading.TheVariants.{Accepted};
-ghost use Rattle.timecode.specs.declared.Written.TheVariants.{Done};
+ghost use Rattle.timecode.specs.Answers.{done};
 
 use dates::last_day_in;
 use frame::{read, write};
 use layout::{carries_year, frame_size};
-use timecode::{Format, Reading, Refusal, Time, Written};
+use timecode::{Format, Reading, Refusal, Time};
 
 // Control bits 1 to 9 stand where the year does: the later ones are above them in the word of the edition without it.
 const NINE_BITS: u64 = 512;
@@ -72,81 +71,72 @@ fn both_fit(format: Format, first: usize, second: usize) -> bool
 }
 
 // The forward converter's own checks.
-fn check_forward(year: u8, time: Time, control: u64) -> Written
-    ensures { result ≡ check_forward year (Accepted time control) }
+fn check_forward(year: u8, reading: Reading) -> Result<(), Refusal>
+    ensures { result ≡ check_forward year (Ok reading) }
 {
     if Time::LAST_YEAR < year {
-        return Written::Refused(Refusal::InvalidYear);
+        return Err(Refusal::InvalidYear);
     }
-    if last_day_in(true, year) < time.day {
-        return Written::Refused(Refusal::InvalidTime);
+    if last_day_in(true, year) < reading.time.day {
+        return Err(Refusal::InvalidTime);
     }
-    if control % NINE_BITS != 0 {
-        return Written::Refused(Refusal::YearPlaceTaken);
+    if reading.control % NINE_BITS != 0 {
+        return Err(Refusal::YearPlaceTaken);
     }
-    Written::Done
+    Ok(())
 }
 
 // Writes what was read with the year, where its checks let it.
-fn put_forward(format: Format, time: Time, control: u64, year: u8, lent: &mut [u8]) -> Written
-    requires { (is_earlier format ≡ true) × Valid format time control × (length lent.old ≡ size format) }
-    ensures { (result ≡ check_forward year (Accepted time control)) × (lent.new ≡ left (check_forward year (Accepted time control)) (written (with_year format) (time_in_year time year) (control / nine_bits)) lent.old) }
+fn put_forward(format: Format, reading: Reading, year: u8, lent: &mut [u8]) -> Result<(), Refusal>
+    requires { (is_earlier format ≡ true) × Valid format reading.time reading.control × (length lent.old ≡ size format) }
+    ensures { (result ≡ check_forward year (Ok reading)) × (lent.new ≡ left (check_forward year (Ok reading)) (forwarded format year (Ok reading) lent.old) lent.old) }
 {
-    let checked = check_forward(year, time, control);
-    match checked {
-        Written::Done => write(
-            with_year(format),
-            time_in_year(time, year),
-            control / NINE_BITS,
-            lent,
-        ),
-        Written::Refused(refusal) => Written::Refused(refusal),
-    }
+    check_forward(year, reading)?;
+    write(
+        with_year(format),
+        time_in_year(reading.time, year),
+        reading.control / NINE_BITS,
+        lent,
+    )
 }
 
 // A frame without the year as one with it; the later control bits stay in place, and where it refuses, the lent frame stays.
-pub fn forward(format: Format, frame: &[u8], year: u8, lent: &mut [u8]) -> Written
+pub fn forward(format: Format, frame: &[u8], year: u8, lent: &mut [u8]) -> Result<(), Refusal>
     ensures { (result ≡ forward_of format frame.now year lent.old) × (lent.new ≡ forward_leaves format frame.now year lent.old) }
 {
     if !is_earlier(format) {
-        return Written::Refused(Refusal::UnknownFormat);
+        return Err(Refusal::UnknownFormat);
     }
     if !both_fit(format, frame.len(), lent.len()) {
-        return Written::Refused(Refusal::WrongLength);
+        return Err(Refusal::WrongLength);
     }
-    let reading = read(format, frame);
-    match reading {
-        Reading::Accepted { time, control } => put_forward(format, time, control, year, lent),
-        Reading::Refused(refusal) => Written::Refused(refusal),
-    }
+    let reading = read(format, frame)?;
+    put_forward(format, reading, year, lent)
 }
 
 // Writes what was read without the year.
-fn put_backward(format: Format, time: Time, control: u64, lent: &mut [u8]) -> Written
-    requires { (carries_year format ≡ true) × Valid format time control × (length lent.old ≡ size format) }
-    ensures { (result ≡ Done) × (lent.new ≡ written (without_year format) (time_in_year time 0) (control * nine_bits)) }
+fn put_backward(format: Format, reading: Reading, lent: &mut [u8]) -> Result<(), Refusal>
+    requires { (carries_year format ≡ true) × Valid format reading.time reading.control × (length lent.old ≡ size format) }
+    ensures { (result ≡ done) × (lent.new ≡ backwarded format (Ok reading) lent.old) }
 {
     write(
         without_year(format),
-        time_in_year(time, 0),
-        control * NINE_BITS,
+        time_in_year(reading.time, 0),
+        reading.control * NINE_BITS,
         lent,
     )
 }
 
 // A frame with the year as one without it, 50 to 58 zero; where it refuses, the lent frame stays.
-pub fn backward(format: Format, frame: &[u8], lent: &mut [u8]) -> Written
+pub fn backward(format: Format, frame: &[u8], lent: &mut [u8]) -> Result<(), Refusal>
     ensures { (result ≡ backward_of format frame.now lent.old) × (lent.new ≡ backward_leaves format frame.now lent.old) }
 {
     if !carries_year(format) {
-        return Written::Refused(Refusal::UnknownFormat);
+        return Err(Refusal::UnknownFormat);
     }
     if !both_fit(format, frame.len(), lent.len()) {
-        return Written::Refused(Refusal::WrongLength);
+        return Err(Refusal::WrongLength);
     }
-    let reading = read(format, frame);
-    match reading {
-        Reading::Accepted { time, control } => put_backward(format, time, control, lent),
-        Reading::Refused(refusal) => Written::Refused(refusal),
-    }
+    let reading = read(format, frame)?;
+    put_backward(format, reading, lent)
 }

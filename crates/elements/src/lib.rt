@@ -89,10 +89,8 @@ fn put_ten(fours: &[u32], marks: &[u8], frame: &mut [u8], k: usize, x: u64)
     ensures { frame.new ≡ ten frame.old k x }
 {
     let at = 10 * k;
-    let mut j = 0;
-    while j < 8 {
+    for j in 0..8 {
         frame[at + j] = element(fours, x, j);
-        j += 1;
     }
     frame[at + 8] = (x / 256 % 2) as u8;
     frame[to_usize(marks[k + 1])] = MARK;
@@ -108,10 +106,8 @@ pub fn put_tens(marks: &[u8], frame: &mut [u8], from: usize, to: usize, bits: u6
     ensures { frame.new ≡ tens frame.old from to bits }
 {
     let fours = FOURS;
-    let mut k = from;
-    while k < to {
+    for k in from..to {
         put_ten(&fours, marks, frame, k, bits >> (10 * (k - from)));
-        k += 1;
     }
 }
 

@@ -1,22 +1,14 @@
 -- Each struct's number and fields are those of its answer's result; no refusal has the number 0, so that the number tells them apart.
-use Rattle.std.specs.Prelude.{◌≡◌, refl, false, [], ◌∷◌, eqb, pos, get_or}
+use Rattle.timecode.specs.declared.Time.{Time}
+use Rattle.timecode.specs.declared.Pulse.{Pulse}
+use Rattle.timecode.specs.declared.Found.{Found}
+use Rattle.timecode.specs.declared.Reading.{Reading}
+use Rattle.std.specs.Prelude.{◌≡◌, refl, false, [], ◌∷◌, eqb, pos, get_or, Result, Ok, Err, Option, Some, None, ℤ}
 use Rattle.timecode.specs.Answers.{refusal_number, refusal_result, time_values, written_result, reading_result, stepped_result, subtracted_result, classified_result, scanned_result, answer_result}
 use Rattle.timecode.specs.declared.Answer.{Answer}
 use Rattle.timecode.specs.declared.Answer.TheVariants.{Quiet, Report}
-use Rattle.timecode.specs.declared.Classified.{Classified}
-use Rattle.timecode.specs.declared.Classified.TheVariants.{Symbol}
-use Rattle.timecode.specs.declared.Reading.{Reading}
-use Rattle.timecode.specs.declared.Reading.TheVariants.{Accepted}
 use Rattle.timecode.specs.declared.Refusal.{Refusal}
 use Rattle.timecode.specs.declared.Refusal.TheVariants.{UnknownFormat, InvalidTime, WrongLength, UnknownSymbol, MisplacedMark, InvalidElement, InvalidDigit, SecondsDiffer, ControlTooLong, InvalidInterval, InvalidYearLength, StartPastEnd, InvalidReader, SecondNotCarried, InvalidKind, InvalidWidthSetting, InvalidYear, YearPlaceTaken, RecordCutShort, InvalidRecord, InvalidWindow, InvalidDate, InvalidForecast, InvalidCycleCount, UnknownCycle, InvalidSetting, InvalidListener}
-use Rattle.timecode.specs.declared.Scanned.{Scanned}
-use Rattle.timecode.specs.declared.Scanned.TheVariants.{Found, None}
-use Rattle.timecode.specs.declared.Stepped.{Stepped}
-use Rattle.timecode.specs.declared.Stepped.TheVariants.{To}
-use Rattle.timecode.specs.declared.Subtracted.{Subtracted}
-use Rattle.timecode.specs.declared.Subtracted.TheVariants.{Hundredths}
-use Rattle.timecode.specs.declared.Written.{Written}
-use Rattle.timecode.specs.declared.Written.TheVariants.{Done}
 use Rattle.ffi.specs.Structs.{refusal_index, write_result_of, convert_result_of, read_result_of, step_result_of, difference_result_of, classify_result_of, scan_result_of, feed_result_of}
 use Rattle.ffi.specs.Fields.{values_in, flag_in, index_in, time_zeros}
 
@@ -82,68 +74,68 @@ index-value InvalidListener = refl
 
 -- ---- the values of the structs, in the order of the results' values
 
-pub write-number : (a : Written) → (write_result_of a).number ≡ (written_result a).number
-write-number Done = refl
-write-number (Written.Refused x) = refl
+pub write-number : (a : Result Unit Refusal) → (write_result_of a).number ≡ (written_result a).number
+write-number (Ok u) = refl
+write-number (Err x) = refl
 
-pub convert_number : (a : Written) → (convert_result_of a).number ≡ (written_result a).number
-convert_number Done = refl
-convert_number (Written.Refused x) = refl
+pub convert_number : (a : Result Unit Refusal) → (convert_result_of a).number ≡ (written_result a).number
+convert_number (Ok u) = refl
+convert_number (Err x) = refl
 
-pub convert-index : (a : Written) → pos (convert_result_of a).index ≡ index_in (written_result a)
-convert-index Done = refl
-convert-index (Written.Refused x) = rw (refusal-numbered x) (index-value x)
+pub convert-index : (a : Result Unit Refusal) → pos (convert_result_of a).index ≡ index_in (written_result a)
+convert-index (Ok u) = refl
+convert-index (Err x) = rw (refusal-numbered x) (index-value x)
 
-pub read_number : (a : Reading) → (read_result_of a).number ≡ (reading_result a).number
-read_number (Accepted t w) = refl
-read_number (Reading.Refused x) = refl
+pub read_number : (a : Result Reading Refusal) → (read_result_of a).number ≡ (reading_result a).number
+read_number (Ok read) = refl
+read_number (Err x) = refl
 
-pub read-index : (a : Reading) → pos (read_result_of a).index ≡ index_in (reading_result a)
-read-index (Accepted t w) = refl
-read-index (Reading.Refused x) = rw (refusal-numbered x) (index-value x)
+pub read-index : (a : Result Reading Refusal) → pos (read_result_of a).index ≡ index_in (reading_result a)
+read-index (Ok read) = refl
+read-index (Err x) = rw (refusal-numbered x) (index-value x)
 
-pub read-values : (a : Reading) → time_values (read_result_of a).time (pos (read_result_of a).control ∷ []) ≡ values_in (reading_result a) (time_zeros (pos 0 ∷ []))
-read-values (Accepted t w) = refl
-read-values (Reading.Refused x) = rw (refusal-numbered x)
+pub read-values : (a : Result Reading Refusal) → time_values (read_result_of a).time (pos (read_result_of a).control ∷ []) ≡ values_in (reading_result a) (time_zeros (pos 0 ∷ []))
+read-values (Ok read) = refl
+read-values (Err x) = rw (refusal-numbered x)
 
-pub step-number : (a : Stepped) → (step_result_of a).number ≡ (stepped_result a).number
-step-number (To t) = refl
-step-number (Stepped.Refused x) = refl
+pub step-number : (a : Result Time Refusal) → (step_result_of a).number ≡ (stepped_result a).number
+step-number (Ok t) = refl
+step-number (Err x) = refl
 
-pub step-values : (a : Stepped) → time_values (step_result_of a).time [] ≡ values_in (stepped_result a) (time_zeros [])
-step-values (To t) = refl
-step-values (Stepped.Refused x) = rw (refusal-numbered x)
+pub step-values : (a : Result Time Refusal) → time_values (step_result_of a).time [] ≡ values_in (stepped_result a) (time_zeros [])
+step-values (Ok t) = refl
+step-values (Err x) = rw (refusal-numbered x)
 
-pub difference-number : (a : Subtracted) → (difference_result_of a).number ≡ (subtracted_result a).number
-difference-number (Hundredths d) = refl
-difference-number (Subtracted.Refused x) = refl
+pub difference-number : (a : Result ℤ Refusal) → (difference_result_of a).number ≡ (subtracted_result a).number
+difference-number (Ok d) = refl
+difference-number (Err x) = refl
 
-pub difference-values : (a : Subtracted) → (difference_result_of a).hundredths ∷ [] ≡ values_in (subtracted_result a) (pos 0 ∷ [])
-difference-values (Hundredths d) = refl
-difference-values (Subtracted.Refused x) = rw (refusal-numbered x)
+pub difference-values : (a : Result ℤ Refusal) → (difference_result_of a).hundredths ∷ [] ≡ values_in (subtracted_result a) (pos 0 ∷ [])
+difference-values (Ok d) = refl
+difference-values (Err x) = rw (refusal-numbered x)
 
-pub classify-number : (a : Classified) → (classify_result_of a).number ≡ (classified_result a).number
-classify-number (Symbol s d) = refl
-classify-number (Classified.Refused x) = refl
+pub classify-number : (a : Result Pulse Refusal) → (classify_result_of a).number ≡ (classified_result a).number
+classify-number (Ok pulse) = refl
+classify-number (Err x) = refl
 
-pub classify-values : (a : Classified) → pos (classify_result_of a).symbol ∷ (classify_result_of a).deviation ∷ [] ≡ values_in (classified_result a) (pos 0 ∷ pos 0 ∷ [])
-classify-values (Symbol s d) = refl
-classify-values (Classified.Refused x) = rw (refusal-numbered x)
+pub classify-values : (a : Result Pulse Refusal) → pos (classify_result_of a).symbol ∷ (classify_result_of a).deviation ∷ [] ≡ values_in (classified_result a) (pos 0 ∷ pos 0 ∷ [])
+classify-values (Ok pulse) = refl
+classify-values (Err x) = rw (refusal-numbered x)
 
-pub scan-number : (a : Scanned) → (scan_result_of a).number ≡ (scanned_result a).number
-scan-number (Found i t w) = refl
-scan-number None = refl
-scan-number (Scanned.Refused x) = refl
+pub scan-number : (a : Result (Option Found) Refusal) → (scan_result_of a).number ≡ (scanned_result a).number
+scan-number (Ok (Some found)) = refl
+scan-number (Ok None) = refl
+scan-number (Err x) = refl
 
-pub scan-found : (a : Scanned) → (scan_result_of a).found ≡ flag_in (scanned_result a)
-scan-found (Found i t w) = refl
-scan-found None = refl
-scan-found (Scanned.Refused x) = rw (refusal-numbered x)
+pub scan-found : (a : Result (Option Found) Refusal) → (scan_result_of a).found ≡ flag_in (scanned_result a)
+scan-found (Ok (Some found)) = refl
+scan-found (Ok None) = refl
+scan-found (Err x) = rw (refusal-numbered x)
 
-pub scan-values : (a : Scanned) → pos (scan_result_of a).start ∷ time_values (scan_result_of a).time (pos (scan_result_of a).control ∷ []) ≡ values_in (scanned_result a) (pos 0 ∷ time_zeros (pos 0 ∷ []))
-scan-values (Found i t w) = refl
-scan-values None = refl
-scan-values (Scanned.Refused x) = rw (refusal-numbered x)
+pub scan-values : (a : Result (Option Found) Refusal) → pos (scan_result_of a).start ∷ time_values (scan_result_of a).time (pos (scan_result_of a).control ∷ []) ≡ values_in (scanned_result a) (pos 0 ∷ time_zeros (pos 0 ∷ []))
+scan-values (Ok (Some found)) = refl
+scan-values (Ok None) = refl
+scan-values (Err x) = rw (refusal-numbered x)
 
 pub feed-number : (a : Answer) → (feed_result_of a).number ≡ (answer_result a).number
 feed-number Quiet = refl

@@ -1,5 +1,8 @@
 -- Read, the converters and decoding alone refuse with 5, 6 or 25: a struct without an index leaves out no value of a refusal.
-use Rattle.std.specs.Prelude.{◌≡◌, refl, Bool, true, false, ◌&&◌, List, [], ℕ, zero, suc, ◌+◌, ◌*◌, ◌-◌, leb, eqb, ℤ, length}
+use Rattle.timecode.specs.declared.Refusal.{Refusal}
+use Rattle.timecode.specs.declared.Found.{Found}
+use Rattle.timecode.specs.declared.Reading.{Reading}
+use Rattle.std.specs.Prelude.{◌≡◌, refl, Bool, true, false, ◌&&◌, List, [], ℕ, zero, suc, ◌+◌, ◌*◌, ◌-◌, leb, eqb, ℤ, length, Result, Ok, Err, Option}
 use Rattle.cycles.specs.Cycles.{is_modulated, is_cycle_count, check_frame, unspoiled, encode_of}
 use Rattle.timecode.specs.Answers.{written_result, stepped_result, subtracted_result, classified_result, scanned_result}
 use Rattle.timecode.specs.Calls.{is_interval, are_width_settings, classify_of, classify_list_of, difference_of, found, lead_at, lowest_of, scan_of, part_at, first_place}
@@ -7,9 +10,6 @@ use Rattle.timecode.specs.Formats.{known, size, last_day, year_carried, in_range
 use Rattle.timecode.specs.Frames.{length_in, in_year, year_of_time_before, on_day, control_fits, step_of, step_back_of, write_of, read_of}
 use Rattle.timecode.proofs.Laws.Tests.{by-test}
 use Rattle.timecode.specs.declared.Format.{Format}
-use Rattle.timecode.specs.declared.Reading.{Reading}
-use Rattle.timecode.specs.declared.Reading.TheVariants.{Accepted}
-use Rattle.timecode.specs.declared.Scanned.{Scanned}
 use Rattle.timecode.specs.declared.Time.{Time}
 use Rattle.timecode.specs.declared.WidthSettings.{WidthSettings}
 use Rattle.ffi.specs.Indexes.{refused_values}
@@ -49,11 +49,11 @@ pub encode-no-index : (f : Format) (M : ℕ) (frame lent : List ℕ) → refused
 unfolding encode_of check_frame
 encode-no-index f M frame lent = by-test (is_modulated f) (λ a. rw a (by-test (is_cycle_count M) (λ b. rw b (by-test (eqb (length frame) (size f) && eqb (length lent) (size f * M)) (λ d. rw d (by-test (unspoiled frame) (λ e. rw e) (λ e. rw e))) (λ d. rw d))) (λ b. rw b))) (λ a. rw a)
 
-found-no-index : (b : Bool) (r : Reading) (a : ℕ) (after : Scanned) → refused_values (scanned_result after) ≡ [] → refused_values (scanned_result (found b r a after)) ≡ []
-found-no-index true (Accepted t w) a after h = refl
-found-no-index true (Reading.Refused x) a after h = h
-found-no-index false (Accepted t w) a after h = h
-found-no-index false (Reading.Refused x) a after h = h
+found-no-index : (b : Bool) (r : Result Reading Refusal) (a : ℕ) (after : Result (Option Found) Refusal) → refused_values (scanned_result after) ≡ [] → refused_values (scanned_result (found b r a after)) ≡ []
+found-no-index true (Ok read) a after h = refl
+found-no-index true (Err x) a after h = h
+found-no-index false (Ok read) a after h = h
+found-no-index false (Err x) a after h = h
 
 lowest-no-index : (f : Format) (recording : List ℕ) (k a : ℕ) → refused_values (scanned_result (lowest_of f recording k a)) ≡ []
 unfolding lowest_of

@@ -1,11 +1,11 @@
 -- Each struct's number and fields are those of its answer's result; no refusal has the number 0, so that the number tells them apart.
 use Rattle.std.specs.Prelude.{cond, List, [], ◌∷◌, ℕ, eqb, ℤ, pos, get_or}
-use Rattle.timecode.specs.Answers.{Result}
+use Rattle.timecode.specs.Answers.{Outcome}
 
 -- ---- a result's parts, with 0 for what it has not
 
 -- the first for a result that is a success, the second for a refusal
-abbrev pub unless_refused : {Any : Type 0} → Result → Any → Any → Any
+abbrev pub unless_refused : {Any : Type 0} → Outcome → Any → Any → Any
 unless_refused s success refused = cond (eqb s.number 0) success refused
 
 -- the values, or where there are none the zeros
@@ -19,14 +19,14 @@ flag_of [] = 0
 flag_of (v ∷ vs) = 1
 
 -- the values of a success; where a call is refused or its answer has none, the zeros
-abbrev pub values_in : Result → List ℤ → List ℤ
+abbrev pub values_in : Outcome → List ℤ → List ℤ
 values_in s zeros = unless_refused s (or_zeros s.values zeros) zeros
 
-abbrev pub flag_in : Result → ℕ
+abbrev pub flag_in : Outcome → ℕ
 flag_in s = unless_refused s (flag_of s.values) 0
 
 -- the index of a refusal, which 5, 6 and 25 alone have
-abbrev pub index_in : Result → ℤ
+abbrev pub index_in : Outcome → ℤ
 index_in s = unless_refused s (pos 0) (get_or s.values 0 (pos 0))
 
 -- those of a time, each zero

@@ -3,30 +3,28 @@
 #![tactic(auto)]
 
 ghost use Rattle.std.specs.Prelude.{◌≡◌};
-ghost use Rattle.timecode.specs.Frames.{no_time};
 ghost use Rattle.ffi.specs.Structs.{refusal_index, write_result_of, convert_result_of, read_result_of, step_result_of, difference_result_of, classify_result_of, scan_result_of, feed_result_of, with_deviation, forecast_result_of};
 
-use forecasts::Forecast;
 use refusals::number_of;
-use timecode::{Answer, Classified, Reading, Refusal, Scanned, Stepped, Subtracted, Time, Written};
+use timecode::{Answer, Found, Pulse, Reading, Refusal, Time};
 
 // Write, the classifier over lists, a fresh reader, and encoding: whether the lent memory was written.
 #[repr(C)]
-#[derive(Clone, Copy)]
+#[derive(Clone, Copy, PartialEq, Eq, Default)]
 pub struct WriteResult {
     pub number: u8,
 }
 
 // The converters between the editions, which refuse as Read does, and decoding: with 5, 6 and 25 goes the index.
 #[repr(C)]
-#[derive(Clone, Copy)]
+#[derive(Clone, Copy, PartialEq, Eq, Default)]
 pub struct ConvertResult {
     pub number: u8,
     pub index: usize,
 }
 
 #[repr(C)]
-#[derive(Clone, Copy)]
+#[derive(Clone, Copy, PartialEq, Eq, Default)]
 pub struct ReadResult {
     pub number: u8,
     pub index: usize,
@@ -35,21 +33,21 @@ pub struct ReadResult {
 }
 
 #[repr(C)]
-#[derive(Clone, Copy)]
+#[derive(Clone, Copy, PartialEq, Eq, Default)]
 pub struct StepResult {
     pub number: u8,
     pub time: Time,
 }
 
 #[repr(C)]
-#[derive(Clone, Copy)]
+#[derive(Clone, Copy, PartialEq, Eq, Default)]
 pub struct DifferenceResult {
     pub number: u8,
     pub hundredths: i64,
 }
 
 #[repr(C)]
-#[derive(Clone, Copy)]
+#[derive(Clone, Copy, PartialEq, Eq, Default)]
 pub struct ClassifyResult {
     pub number: u8,
     pub symbol: u8,
@@ -57,7 +55,7 @@ pub struct ClassifyResult {
 }
 
 #[repr(C)]
-#[derive(Clone, Copy)]
+#[derive(Clone, Copy, PartialEq, Eq, Default)]
 pub struct ScanResult {
     pub number: u8,
     pub found: u8,
@@ -67,7 +65,7 @@ pub struct ScanResult {
 }
 
 #[repr(C)]
-#[derive(Clone, Copy)]
+#[derive(Clone, Copy, PartialEq, Eq, Default)]
 pub struct FeedResult {
     pub number: u8,
     pub reported: u8,
@@ -77,7 +75,7 @@ pub struct FeedResult {
 
 // A pulse classified and fed: what the Feed brought, and the pulse's deviation.
 #[repr(C)]
-#[derive(Clone, Copy)]
+#[derive(Clone, Copy, PartialEq, Eq, Default)]
 pub struct FeedPulseResult {
     pub number: u8,
     pub reported: u8,
@@ -88,20 +86,10 @@ pub struct FeedPulseResult {
 
 // The hold-over forecast.
 #[repr(C)]
-#[derive(Clone, Copy)]
+#[derive(Clone, Copy, Default)]
 pub struct ForecastResult {
     pub number: u8,
     pub error: f64,
-}
-
-pub fn zero_time() -> Time
-    ensures { result ≡ no_time }
-{
-    Time {
-        year: 0,
-        day: 0,
-        hundredths: 0,
-    }
 }
 
 // The index of a refusal that has one, with 5, 6 and 25.
@@ -109,209 +97,175 @@ pub fn index_of(refusal: Refusal) -> usize
     ensures { result ≡ refusal_index refusal }
 {
     match refusal {
-        Refusal::UnknownFormat => 0,
-        Refusal::InvalidTime => 0,
-        Refusal::WrongLength => 0,
-        Refusal::UnknownSymbol => 0,
-        Refusal::MisplacedMark(mark) => mark,
-        Refusal::InvalidElement(element) => element,
-        Refusal::InvalidDigit => 0,
-        Refusal::SecondsDiffer => 0,
-        Refusal::ControlTooLong => 0,
-        Refusal::InvalidInterval => 0,
-        Refusal::InvalidYearLength => 0,
-        Refusal::StartPastEnd => 0,
-        Refusal::InvalidReader => 0,
-        Refusal::SecondNotCarried => 0,
-        Refusal::InvalidKind => 0,
-        Refusal::InvalidWidthSetting => 0,
-        Refusal::InvalidYear => 0,
-        Refusal::YearPlaceTaken => 0,
-        Refusal::RecordCutShort => 0,
-        Refusal::InvalidRecord => 0,
-        Refusal::InvalidWindow => 0,
-        Refusal::InvalidDate => 0,
-        Refusal::InvalidForecast => 0,
-        Refusal::InvalidCycleCount => 0,
-        Refusal::UnknownCycle(cycle) => cycle,
-        Refusal::InvalidSetting => 0,
-        Refusal::InvalidListener => 0,
+        Refusal::MisplacedMark(index) => index,
+        Refusal::InvalidElement(index) => index,
+        Refusal::UnknownCycle(index) => index,
+        _ => 0,
     }
 }
 
-pub fn write_result(written: Written) -> WriteResult
-    ensures { result ≡ write_result_of written }
-{
-    match written {
-        Written::Done => WriteResult { number: 0 },
-        Written::Refused(refusal) => WriteResult {
-            number: number_of(refusal),
-        },
+impl From<Result<(), Refusal>> for WriteResult {
+    ghost from_gives = { λ written r. r ≡ write_result_of written };
+
+    fn from(written: Result<(), Refusal>) -> WriteResult {
+        match written {
+            Ok(()) => WriteResult { number: 0 },
+            Err(refusal) => WriteResult {
+                number: number_of(refusal),
+            },
+        }
     }
 }
 
-pub fn convert_result(written: Written) -> ConvertResult
-    ensures { result ≡ convert_result_of written }
-{
-    match written {
-        Written::Done => ConvertResult {
-            number: 0,
-            index: 0,
-        },
-        Written::Refused(refusal) => ConvertResult {
-            number: number_of(refusal),
-            index: index_of(refusal),
-        },
+impl From<Result<(), Refusal>> for ConvertResult {
+    ghost from_gives = { λ written r. r ≡ convert_result_of written };
+
+    fn from(written: Result<(), Refusal>) -> ConvertResult {
+        match written {
+            Ok(()) => ConvertResult::default(),
+            Err(refusal) => ConvertResult {
+                number: number_of(refusal),
+                index: index_of(refusal),
+            },
+        }
     }
 }
 
-pub fn read_result(reading: Reading) -> ReadResult
-    ensures { result ≡ read_result_of reading }
-{
-    match reading {
-        Reading::Accepted { time, control } => ReadResult {
-            number: 0,
-            index: 0,
-            time: time,
-            control: control,
-        },
-        Reading::Refused(refusal) => ReadResult {
-            number: number_of(refusal),
-            index: index_of(refusal),
-            time: zero_time(),
-            control: 0,
-        },
+impl From<Result<Reading, Refusal>> for ReadResult {
+    ghost from_gives = { λ reading r. r ≡ read_result_of reading };
+
+    fn from(reading: Result<Reading, Refusal>) -> ReadResult {
+        match reading {
+            Ok(reading) => ReadResult {
+                number: 0,
+                index: 0,
+                time: reading.time,
+                control: reading.control,
+            },
+            Err(refusal) => ReadResult {
+                number: number_of(refusal),
+                index: index_of(refusal),
+                ..ReadResult::default()
+            },
+        }
     }
 }
 
-pub fn step_result(stepped: Stepped) -> StepResult
-    ensures { result ≡ step_result_of stepped }
-{
-    match stepped {
-        Stepped::To(time) => StepResult {
-            number: 0,
-            time: time,
-        },
-        Stepped::Refused(refusal) => StepResult {
-            number: number_of(refusal),
-            time: zero_time(),
-        },
+impl From<Result<Time, Refusal>> for StepResult {
+    ghost from_gives = { λ stepped r. r ≡ step_result_of stepped };
+
+    fn from(stepped: Result<Time, Refusal>) -> StepResult {
+        match stepped {
+            Ok(time) => StepResult { number: 0, time },
+            Err(refusal) => StepResult {
+                number: number_of(refusal),
+                ..StepResult::default()
+            },
+        }
     }
 }
 
-pub fn difference_result(subtracted: Subtracted) -> DifferenceResult
-    ensures { result ≡ difference_result_of subtracted }
-{
-    match subtracted {
-        Subtracted::Hundredths(hundredths) => DifferenceResult {
-            number: 0,
-            hundredths: hundredths,
-        },
-        Subtracted::Refused(refusal) => DifferenceResult {
-            number: number_of(refusal),
-            hundredths: 0,
-        },
+impl From<Result<i64, Refusal>> for DifferenceResult {
+    ghost from_gives = { λ subtracted r. r ≡ difference_result_of subtracted };
+
+    fn from(subtracted: Result<i64, Refusal>) -> DifferenceResult {
+        match subtracted {
+            Ok(hundredths) => DifferenceResult {
+                number: 0,
+                hundredths,
+            },
+            Err(refusal) => DifferenceResult {
+                number: number_of(refusal),
+                hundredths: 0,
+            },
+        }
     }
 }
 
-pub fn classify_result(classified: Classified) -> ClassifyResult
-    ensures { result ≡ classify_result_of classified }
-{
-    match classified {
-        Classified::Symbol { symbol, deviation } => ClassifyResult {
-            number: 0,
-            symbol: symbol,
-            deviation: deviation,
-        },
-        Classified::Refused(refusal) => ClassifyResult {
-            number: number_of(refusal),
-            symbol: 0,
-            deviation: 0,
-        },
+impl From<Result<Pulse, Refusal>> for ClassifyResult {
+    ghost from_gives = { λ classified r. r ≡ classify_result_of classified };
+
+    fn from(classified: Result<Pulse, Refusal>) -> ClassifyResult {
+        match classified {
+            Ok(pulse) => ClassifyResult {
+                number: 0,
+                symbol: pulse.symbol,
+                deviation: pulse.deviation,
+            },
+            Err(refusal) => ClassifyResult {
+                number: number_of(refusal),
+                ..ClassifyResult::default()
+            },
+        }
     }
 }
 
-pub fn scan_result(scanned: Scanned) -> ScanResult
-    ensures { result ≡ scan_result_of scanned }
-{
-    match scanned {
-        Scanned::Found {
-            start,
-            time,
-            control,
-        } => ScanResult {
-            number: 0,
-            found: 1,
-            start: start,
-            time: time,
-            control: control,
-        },
-        Scanned::None => ScanResult {
-            number: 0,
-            found: 0,
-            start: 0,
-            time: zero_time(),
-            control: 0,
-        },
-        Scanned::Refused(refusal) => ScanResult {
-            number: number_of(refusal),
-            found: 0,
-            start: 0,
-            time: zero_time(),
-            control: 0,
-        },
+impl From<Result<Option<Found>, Refusal>> for ScanResult {
+    ghost from_gives = { λ scanned r. r ≡ scan_result_of scanned };
+
+    fn from(scanned: Result<Option<Found>, Refusal>) -> ScanResult {
+        match scanned {
+            Ok(Some(Found { start, reading })) => ScanResult {
+                number: 0,
+                found: 1,
+                start,
+                time: reading.time,
+                control: reading.control,
+            },
+            Ok(None) => ScanResult::default(),
+            Err(refusal) => ScanResult {
+                number: number_of(refusal),
+                ..ScanResult::default()
+            },
+        }
     }
 }
 
-pub fn feed_result(answer: Answer) -> FeedResult
-    ensures { result ≡ feed_result_of answer }
-{
-    match answer {
-        Answer::Quiet => FeedResult {
-            number: 0,
-            reported: 0,
-            time: zero_time(),
-            control: 0,
-        },
-        Answer::Report { time, control } => FeedResult {
-            number: 0,
-            reported: 1,
-            time: time,
-            control: control,
-        },
-        Answer::Refused(refusal) => FeedResult {
-            number: number_of(refusal),
-            reported: 0,
-            time: zero_time(),
-            control: 0,
-        },
+impl From<Answer> for FeedResult {
+    ghost from_gives = { λ answer r. r ≡ feed_result_of answer };
+
+    fn from(answer: Answer) -> FeedResult {
+        match answer {
+            Answer::Quiet => FeedResult::default(),
+            Answer::Report { time, control } => FeedResult {
+                number: 0,
+                reported: 1,
+                time,
+                control,
+            },
+            Answer::Refused(refusal) => FeedResult {
+                number: number_of(refusal),
+                ..FeedResult::default()
+            },
+        }
     }
 }
 
-pub fn feed_pulse_result(fed: FeedResult, deviation: i32) -> FeedPulseResult
-    ensures { result ≡ with_deviation fed deviation }
-{
-    let time = fed.time;
-    FeedPulseResult {
-        number: fed.number,
-        reported: fed.reported,
-        time: time,
-        control: fed.control,
-        deviation: deviation,
+impl FeedPulseResult {
+    // Puts the pulse's deviation beside what its Feed brought.
+    pub fn with_deviation(fed: FeedResult, deviation: i32) -> FeedPulseResult
+        ensures { result ≡ with_deviation fed deviation }
+    {
+        FeedPulseResult {
+            number: fed.number,
+            reported: fed.reported,
+            time: fed.time,
+            control: fed.control,
+            deviation,
+        }
     }
 }
 
-pub fn forecast_result(forecast: Forecast) -> ForecastResult
-    ensures { result ≡ forecast_result_of forecast }
-{
-    match forecast {
-        Forecast::Expected(error) => ForecastResult {
-            number: 0,
-            error: error,
-        },
-        Forecast::Refused(refusal) => ForecastResult {
-            number: number_of(refusal),
-            error: 0.0,
-        },
+impl From<Result<f64, Refusal>> for ForecastResult {
+    ghost from_gives = { λ forecast r. r ≡ forecast_result_of forecast };
+
+    fn from(forecast: Result<f64, Refusal>) -> ForecastResult {
+        match forecast {
+            Ok(error) => ForecastResult { number: 0, error },
+            Err(refusal) => ForecastResult {
+                number: number_of(refusal),
+                error: 0.0,
+            },
+        }
     }
 }

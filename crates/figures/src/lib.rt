@@ -14,7 +14,7 @@ use timecode::{Format, Refusal, Time};
 
 // The elements of a frame, the frame interval in hundredths and how many control bits are carried.
 #[repr(C)]
-#[derive(Clone, Copy)]
+#[derive(Clone, Copy, PartialEq, Eq)]
 pub struct FormatFiguresResult {
     pub number: u8,
     pub control_bits: u8,
@@ -24,7 +24,7 @@ pub struct FormatFiguresResult {
 
 // 23:59:60 in a second that was added to the day.
 #[repr(C)]
-#[derive(Clone, Copy)]
+#[derive(Clone, Copy, PartialEq, Eq)]
 pub struct TimeOfDayResult {
     pub number: u8,
     pub hour: u8,
@@ -38,10 +38,7 @@ fn bits_in(runs: u32, run: usize) -> u8
     requires { run < 20 }
     ensures { (result ≡ cond (is_carried runs run) 9 0) × (result ≤ 9) }
 {
-    if is_carried(runs, run) {
-        return 9;
-    }
-    0
+    if is_carried(runs, run) { 9 } else { 0 }
 }
 
 fn control_bits(runs: u32) -> u8
@@ -59,30 +56,29 @@ pub fn format_figures(format: Format) -> FormatFiguresResult
 {
     let row = row_of(format);
     if takes(row, format.expression) {
-        return FormatFiguresResult {
+        FormatFiguresResult {
             number: 0,
             control_bits: control_bits(row.runs),
             interval: row.interval,
             elements: row.elements,
-        };
-    }
-    FormatFiguresResult {
-        number: number_of(Refusal::UnknownFormat),
-        control_bits: 0,
-        interval: 0,
-        elements: 0,
+        }
+    } else {
+        FormatFiguresResult {
+            number: number_of(Refusal::UnknownFormat),
+            control_bits: 0,
+            interval: 0,
+            elements: 0,
+        }
     }
 }
 
+#[tactic(auto, unfolding(timecode::specs::Formats::in_range))]
 fn in_range(time: Time) -> bool
     ensures { result ≡ in_range last_day time }
 {
-    if Time::FIRST_DAY <= time.day {
-        if time.day <= Time::LAST_DAY {
-            return time.hundredths <= Time::LAST_HUNDREDTH;
-        }
-    }
-    false
+    Time::FIRST_DAY <= time.day
+        && time.day <= Time::LAST_DAY
+        && time.hundredths <= Time::LAST_HUNDREDTH
 }
 
 // The added second is one more than the second before it.
@@ -105,13 +101,14 @@ pub fn time_of_day(time: Time) -> TimeOfDayResult
     ensures { result ≡ time_of_day_of time }
 {
     if in_range(time) {
-        return clock_of(time.hundredths);
-    }
-    TimeOfDayResult {
-        number: number_of(Refusal::InvalidTime),
-        hour: 0,
-        minute: 0,
-        second: 0,
-        hundredth: 0,
+        clock_of(time.hundredths)
+    } else {
+        TimeOfDayResult {
+            number: number_of(Refusal::InvalidTime),
+            hour: 0,
+            minute: 0,
+            second: 0,
+            hundredth: 0,
+        }
     }
 }

@@ -1,17 +1,15 @@
 -- The bits of a float, of which no number has none of its own.
-use Rattle.std.specs.Prelude.{◌≡◌, refl, Bool, true, false, not, ℕ, ◌%◌, ◌<◌, ◌≤◌, T, Float}
+use Rattle.std.specs.Prelude.{◌≡◌, refl, Bool, true, false, not, ℕ, ◌%◌, ◌<◌, ◌≤◌, T, Option, Some, None, Float}
 use Rattle.std.proofs.Common.{sym, ap, subst, ◌∙◌, lt-ltb, le-ltb}
 use Rattle.std.specs.Float.{nan, inf, fin, binary64}
 use Rattle.std.specs.Float.Ieee.{div, eq, ne, is_nan, nan_bits, of_bits, to_bits}
 use Rattle.std.specs.Float.Ieee.Bits.{nan_bits_is, nan_bits_above}
 use Rattle.std.specs.Float.Ieee.Compare.{differs_from_itself}
-use Rattle.floats.specs.declared.Pattern.{Pattern}
-use Rattle.floats.specs.declared.Pattern.TheVariants.{Bits, NoNumber}
 
-abbrev pub pattern_of : Float → Pattern
-pattern_of nan = NoNumber
-pattern_of (inf s) = Bits (to_bits binary64 (inf s))
-pattern_of (fin s m e) = Bits (to_bits binary64 (fin s m e))
+abbrev pub pattern_of : Float → Option ℕ
+pattern_of nan = None
+pattern_of (inf s) = Some (to_bits binary64 (inf s))
+pattern_of (fin s m e) = Some (to_bits binary64 (fin s m e))
 
 -- ---- the float of bits
 
@@ -33,10 +31,10 @@ up_to_infinity n h = subst (λ (b : Bool). T (not b)) (sym (nan_bits_above binar
 
 -- ---- the bits of a float
 
-pub differs : (x : Float) → ne x x ≡ true → NoNumber ≡ pattern_of x
+pub differs : (x : Float) → ne x x ≡ true → None ≡ pattern_of x
 differs x h = ap pattern_of (sym (differs_from_itself x (subst T (sym h) tt)))
 
-pub agrees : (x : Float) → ne x x ≡ false → T (not (is_nan x)) × (Bits (to_bits binary64 x) ≡ pattern_of x)
+pub agrees : (x : Float) → ne x x ≡ false → T (not (is_nan x)) × (Some (to_bits binary64 x) ≡ pattern_of x)
 unfolding ne eq is_nan
 agrees nan h = absurd (subst T h tt)
 agrees (inf s) h = (tt, refl)

@@ -11,27 +11,23 @@ const SIGN: u64 = 0x8000_0000_0000_0000;
 
 const INFINITE: u64 = 0x7ff0_0000_0000_0000;
 
-// The bits of a float, or that it is no number.
-#[derive(Clone, Copy)]
-pub enum Pattern {
-    Bits(u64),
-    NoNumber,
-}
-
 pub fn float_of(bits: u64) -> f64
     ensures { result ≡ of_bits binary64 bits }
 {
     if INFINITE < bits % SIGN {
-        return 0.0 / 0.0;
+        0.0 / 0.0
+    } else {
+        f64::from_bits(bits)
     }
-    f64::from_bits(bits)
 }
 
-pub fn pattern_of(float: f64) -> Pattern
+// The bits of a float; none for what is no number.
+pub fn pattern_of(float: f64) -> Option<u64>
     ensures { result ≡ pattern_of float }
 {
     if float != float {
-        return Pattern::NoNumber;
+        None
+    } else {
+        Some(float.to_bits())
     }
-    Pattern::Bits(f64::to_bits(float))
 }

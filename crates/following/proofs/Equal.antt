@@ -1,5 +1,7 @@
 -- The state that follows one frame answers as the plain machine does, for every setting k and every list of Feeds.
-use Rattle.std.specs.Prelude.{◌≡◌, false, cond, List, [], ◌∷◌, ◌++◌, leb, ltb, eqb, take, drop}
+use Rattle.timecode.specs.declared.Reading.{Reading}
+use Rattle.timecode.specs.Answers.{accepted}
+use Rattle.std.specs.Prelude.{◌≡◌, false, cond, List, [], ◌∷◌, ◌++◌, leb, ltb, eqb, take, drop, Result, Err}
 use Rattle.std.proofs.Math.Path.{refl, sym, ap}
 use Rattle.std.proofs.Common.{ap₂, ◌∙◌, not-suc-le-zero, length-append, get_or-take, get_or-drop, get_or-append-add, drop_at, take_all}
 use Rattle.std.proofs.Math.Bool.{true}
@@ -18,8 +20,6 @@ use Rattle.timecode.specs.Stream.{is_setting, first_in_row, next_in_row, plain_a
 use Rattle.timecode.specs.declared.Answer.{Answer}
 use Rattle.timecode.specs.declared.Answer.TheVariants.{Quiet, Report}
 use Rattle.timecode.specs.declared.Format.{Format}
-use Rattle.timecode.specs.declared.Reading.{Reading}
-use Rattle.timecode.specs.declared.Reading.TheVariants.{Accepted}
 use Rattle.timecode.specs.declared.Refusal.{Refusal}
 use Rattle.timecode.specs.declared.Refusal.TheVariants.{UnknownSymbol}
 use Rattle.timecode.specs.declared.Time.{Time}
@@ -263,11 +263,11 @@ module _ (f : Format) (r : Following) (received : List ℕ) (s : ℕ) (tr : Desc
         whole-begins : may_begin f longer (length longer - size f) ≡ true
         whole-begins = rw (← whole_long) still-begins
 
-        row_zero : (x : Reading) → read_of f frame' ≡ x → row_to f longer 0 (length longer) ≡ first_in_row x
+        row_zero : (x : Result Reading Refusal) → read_of f frame' ≡ x → row_to f longer 0 (length longer) ≡ first_in_row x
         unfolding row_to
         row_zero x e = rw (le-leb (size f) (length longer) fits, whole-begins, whole, e)
 
-        row-suc : (x : Reading) → read_of f frame' ≡ x → (m : ℕ) → m < 5 → row_to f longer (suc m) (length longer) ≡ next_in_row f (cond (ltb m r.row) (Report r.time r.control) Quiet) x
+        row-suc : (x : Result Reading Refusal) → read_of f frame' ≡ x → (m : ℕ) → m < 5 → row_to f longer (suc m) (length longer) ≡ next_in_row f (cond (ltb m r.row) (Report r.time r.control) Quiet) x
         unfolding row_to
         row-suc x e m b = rw (le-leb (size f) (length longer) fits, whole, e, before-it) (ap (λ (a : Answer). next_in_row f a x) (row_before m b))
 
@@ -285,16 +285,16 @@ module _ (f : Format) (r : Following) (received : List ℕ) (s : ℕ) (tr : Desc
               row_is = λ m b. rw (eq-eqb (length frame') (size f) whole_long) (ends m b);
             }
 
-        refused : (x : Refusal) → read_of f frame' ≡ Reading.Refused x → (m : ℕ) → m < 5 → row_to f longer m (length longer) ≡ cond (ltb m 0) (Report r.time r.control) Quiet
+        refused : (x : Refusal) → read_of f frame' ≡ Err x → (m : ℕ) → m < 5 → row_to f longer m (length longer) ≡ cond (ltb m 0) (Report r.time r.control) Quiet
         unfolding next_in_row
-        refused x e zero b = row_zero (Reading.Refused x) e
-        refused x e (suc m) b = row-suc (Reading.Refused x) e m (omega arith) ∙ by-test (ltb m r.row) (λ y. rw (y, le-ltb (suc m) 0 (omega arith))) (λ z. rw (z, le-ltb (suc m) 0 (omega arith)))
+        refused x e zero b = row_zero (Err x) e
+        refused x e (suc m) b = row-suc (Err x) e m (omega arith) ∙ by-test (ltb m r.row) (λ y. rw (y, le-ltb (suc m) 0 (omega arith))) (λ z. rw (z, le-ltb (suc m) 0 (omega arith)))
 
-        accepted : (t : Time) (w : ℕ) → read_of f frame' ≡ Accepted t w → (m : ℕ) → m < 5 → row_to f longer m (length longer) ≡ cond (ltb m (row_after f r.row r.time t)) (Report t w) Quiet
+        read_in : (t : Time) (w : ℕ) → read_of f frame' ≡ accepted t w → (m : ℕ) → m < 5 → row_to f longer m (length longer) ≡ cond (ltb m (row_after f r.row r.time t)) (Report t w) Quiet
         unfolding next_in_row
-        accepted t w e zero b = row_zero (Accepted t w) e ∙ rw (row-some f r.row r.time t)
-        accepted t w e (suc m) b =
-            row-suc (Accepted t w) e m (omega arith)
+        read_in t w e zero b = row_zero (accepted t w) e ∙ rw (row-some f r.row r.time t)
+        read_in t w e (suc m) b =
+            row-suc (accepted t w) e m (omega arith)
             ∙ by-test (ltb m r.row)
             (λ y. by-test (next_after f r.time t) (λ z. rw (y, z, row-longer f r.row r.time t m b y z)) (λ z. rw (y, z, row-broken f r.row r.time t m z)))
             (λ y. rw (y, row-too-short f r.row r.time t m b y))
@@ -320,7 +320,7 @@ step f r received s tr =
     let last = eqb-true (length r.frame + 1) (size f) y in
     by-reading (read_of f (r.frame ++ (s ∷ [])))
     (λ x e. rw (n, some, room, y, e) (ended f r received s tr n some' room' last 0 r.time r.control (refused f r received s tr n some' room' last x e)))
-    (λ t w e. rw (n, some, room, y, e) (ended f r received s tr n some' room' last (row_after f r.row r.time t) t w (accepted f r received s tr n some' room' last t w e))))
+    (λ t w e. rw (n, some, room, y, e) (ended f r received s tr n some' room' last (row_after f r.row r.time t) t w (read_in f r received s tr n some' room' last t w e))))
     (λ z. rw (n, some, room, z) (gone-on f r received s tr n some' room' (eqb-false (length r.frame + 1) (size f) z))))))
 
 pub fresh-describes : (f : Format) → Describes f nothing_received []

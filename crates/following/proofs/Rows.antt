@@ -1,5 +1,8 @@
 -- Accepted frames in a row that end at an index of the list received: the plain machine's window, counted back from its end, so that what is received later changes nothing.
-use Rattle.std.specs.Prelude.{◌≡◌, refl, false, ◌⊎◌, leb, take, drop}
+use Rattle.timecode.specs.declared.Refusal.{Refusal}
+use Rattle.timecode.specs.declared.Reading.{Reading}
+use Rattle.timecode.specs.Answers.{accepted}
+use Rattle.std.specs.Prelude.{◌≡◌, refl, false, ◌⊎◌, leb, take, drop, Result, Ok, Err}
 use Rattle.std.proofs.Math.Path.{sym, ap}
 use Rattle.std.proofs.Common.{ap₂, ◌∙◌, inl, inr, zero-add, leb-true, le-leb, eqb-true, eq-eqb, length-drop, get_or-take, drop-drop}
 use Rattle.std.proofs.Math.Bool.{true}
@@ -25,8 +28,6 @@ use Rattle.timecode.specs.Stream.{lead, opens, window_length, frame_in, first_in
 use Rattle.timecode.specs.declared.Answer.{Answer}
 use Rattle.timecode.specs.declared.Answer.TheVariants.{Quiet, Report}
 use Rattle.timecode.specs.declared.Format.{Format}
-use Rattle.timecode.specs.declared.Reading.{Reading}
-use Rattle.timecode.specs.declared.Reading.TheVariants.{Accepted}
 use Rattle.timecode.specs.declared.Time.{Time}
 use Rattle.following.specs.Rows.{before, leads_frame, opens_frame, may_begin, frame_before, row_to, NextAccepted, EndsAt}
 
@@ -64,19 +65,22 @@ row-append f received xs (suc m) e h =
 
 -- ---- a row that reports
 
-next-accepted : (f : Format) (a : Answer) (r : Reading) (t : Time) (w : ℕ) → next_in_row f a r ≡ Report t w → NextAccepted f a r t w
+next-accepted : (f : Format) (a : Answer) (r : Result Reading Refusal) (t : Time) (w : ℕ) → next_in_row f a r ≡ Report t w → NextAccepted f a r t w
 unfolding next_in_row
-next-accepted f (Report s v) (Accepted u x) t w h =
-    by-test (next_after f s u)
-    (λ y. let z : Report u x ≡ Report t w = rw y at h in record { time = s; control = v; was = refl; is = cc })
+next-accepted f (Report s v) (Ok read) t w h =
+    by-test (next_after f s read.time)
+    (λ y. let z : Report read.time read.control ≡ Report t w = rw y at h in
+    let p : read.time ≡ t = cc in
+    let q : read.control ≡ w = cc in
+    record { time = s; control = v; was = refl; is = ap₂ accepted p q })
     (λ n. quiet-no-report t w (rw n at h))
-next-accepted f (Report s v) (Reading.Refused r) t w h = quiet-no-report t w h
+next-accepted f (Report s v) (Err r) t w h = quiet-no-report t w h
 next-accepted f Quiet r t w h = quiet-no-report t w h
 next-accepted f (Answer.Refused x) r t w h = quiet-no-report t w h
 
-first-accepted : (r : Reading) (t : Time) (w : ℕ) → first_in_row r ≡ Report t w → r ≡ Accepted t w
-first-accepted (Accepted u x) t w h = cc
-first-accepted (Reading.Refused r) t w h = quiet-no-report t w h
+first-accepted : (r : Result Reading Refusal) (t : Time) (w : ℕ) → first_in_row r ≡ Report t w → r ≡ accepted t w
+first-accepted (Ok read) t w h = let p : read.time ≡ t = cc in let q : read.control ≡ w = cc in ap₂ accepted p q
+first-accepted (Err r) t w h = quiet-no-report t w h
 
 last-leads : (f : Format) (received : List ℕ) (e : ℕ) (t : Time) (w : ℕ) → e ≤ length received → EndsAt f received e t w → may_begin f received e ≡ true
 unfolding may_begin frame_before
@@ -114,16 +118,16 @@ row_ends f received (suc m) e t w b h =
 
 -- ---- no row
 
-next-quiet : (f : Format) (a : Answer) (r : Reading) → ((t : Time) (w : ℕ) → next_in_row f a r ≡ Report t w → ⊥) → next_in_row f a r ≡ Quiet
+next-quiet : (f : Format) (a : Answer) (r : Result Reading Refusal) → ((t : Time) (w : ℕ) → next_in_row f a r ≡ Report t w → ⊥) → next_in_row f a r ≡ Quiet
 unfolding next_in_row
-next-quiet f (Report s v) (Accepted u x) n = by-test (next_after f s u) (λ y. absurd (n u x (rw y))) (λ m. rw m)
-next-quiet f (Report s v) (Reading.Refused r) n = refl
+next-quiet f (Report s v) (Ok read) n = by-test (next_after f s read.time) (λ y. absurd (n read.time read.control (rw y))) (λ m. rw m)
+next-quiet f (Report s v) (Err r) n = refl
 next-quiet f Quiet r n = refl
 next-quiet f (Answer.Refused x) r n = refl
 
-first-quiet : (r : Reading) → ((t : Time) (w : ℕ) → first_in_row r ≡ Report t w → ⊥) → first_in_row r ≡ Quiet
-first-quiet (Accepted u x) n = absurd (n u x refl)
-first-quiet (Reading.Refused r) n = refl
+first-quiet : (r : Result Reading Refusal) → ((t : Time) (w : ℕ) → first_in_row r ≡ Report t w → ⊥) → first_in_row r ≡ Quiet
+first-quiet (Ok read) n = absurd (n read.time read.control refl)
+first-quiet (Err r) n = refl
 
 -- a row that does not report is quiet
 pub row-quiet : (f : Format) (received : List ℕ) (m e : ℕ) → ((t : Time) (w : ℕ) → row_to f received m e ≡ Report t w → ⊥) → row_to f received m e ≡ Quiet
@@ -248,7 +252,7 @@ marks-apart i (inr a) (inl b) = omega arith
 marks-apart i (inr a) (inr b) = omega arith
 
 -- no two marks stand side by side in an accepted frame, and in X no mark but the first
-pub no-opening-inside : (f : Format) (frame : List ℕ) (t : Time) (w : ℕ) → read_of f frame ≡ Accepted t w → (i : ℕ) → suc i < size f → opens_frame f (get_or frame i 0) (get_or frame (suc i) 0) ≡ true → ⊥
+pub no-opening-inside : (f : Format) (frame : List ℕ) (t : Time) (w : ℕ) → read_of f frame ≡ accepted t w → (i : ℕ) → suc i < size f → opens_frame f (get_or frame i 0) (get_or frame (suc i) 0) ≡ true → ⊥
 unfolding opens_frame
 no-opening-inside f frame t w h i b o =
     let p = accepted-was-written f frame t w h in
@@ -261,7 +265,7 @@ no-opening-inside f frame t w h i b o =
     let first = at i (omega arith) (eqb-true (get_or frame i 0) 2 (sym (leads-marked f (get_or frame i 0) n) ∙ leads)) in
     marks-apart i (mark-index f i n first) (mark-index f (suc i) n second))
 
-pub accepted-opens : (f : Format) (frame : List ℕ) (t : Time) (w : ℕ) → read_of f frame ≡ Accepted t w → get_or frame 0 0 ≡ 2
+pub accepted-opens : (f : Format) (frame : List ℕ) (t : Time) (w : ℕ) → read_of f frame ≡ accepted t w → get_or frame 0 0 ≡ 2
 accepted-opens f frame t w h = accepted-first f frame t w h
 
 at-to : (f : Format) (received : List ℕ) (e i : ℕ) → i < size f → get_or (frame_before f received e) i 0 ≡ get_or received (e - size f + i) 0

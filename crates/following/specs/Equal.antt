@@ -1,4 +1,5 @@
 -- The state that follows one frame answers as the plain machine does, for every setting k and every list of Feeds.
+use Rattle.timecode.specs.Answers.{accepted}
 use Rattle.std.specs.Prelude.{◌≡◌, cond, List, [], ◌∷◌, ltb, eqb, drop}
 use Rattle.std.proofs.Math.Bool.{true}
 use Prim.Native.Nat.{ℕ, ◌+◌, ◌-◌, ◌<◌, ◌≤◌}
@@ -8,7 +9,6 @@ use Rattle.timecode.specs.Frames.{read_of}
 use Rattle.timecode.specs.declared.Answer.{Answer}
 use Rattle.timecode.specs.declared.Answer.TheVariants.{Quiet, Report}
 use Rattle.timecode.specs.declared.Format.{Format}
-use Rattle.timecode.specs.declared.Reading.TheVariants.{Accepted}
 use Rattle.timecode.specs.declared.Refusal.TheVariants.{UnknownSymbol}
 use Rattle.timecode.specs.declared.Time.{Time}
 use Rattle.following.specs.Rows.{before, may_begin, row_to}
@@ -19,7 +19,7 @@ pub record BeginsFrame (f : Format) (received : List ℕ) (c : ℕ) : Type 0 whe
   pub frame : List ℕ
   pub time : Time
   pub control : ℕ
-  pub accepted : read_of f frame ≡ Accepted time control
+  pub accepted : read_of f frame ≡ accepted time control
   pub begins : may_begin f received (length received - c) ≡ true
   pub same : (i : ℕ) → i < c → get_or frame i 0 ≡ get_or received (length received - c + i) 0
 

@@ -1,12 +1,12 @@
 -- A reader's state as the symbols themselves: the one frame that is under way, from where one may begin, and how many accepted frames in a row end before it.
-use Rattle.std.specs.Prelude.{cond, ◌&&◌, List, [], ◌∷◌, ◌++◌, ℕ, ◌+◌, leb, ltb, eqb, length}
+use Rattle.timecode.specs.declared.Refusal.{Refusal}
+use Rattle.timecode.specs.declared.Reading.{Reading}
+use Rattle.std.specs.Prelude.{cond, ◌&&◌, List, [], ◌∷◌, ◌++◌, ℕ, ◌+◌, leb, ltb, eqb, length, Result, Ok, Err}
 use Rattle.timecode.specs.Formats.{size}
 use Rattle.timecode.specs.Frames.{no_time, next_after, read_of}
 use Rattle.timecode.specs.declared.Answer.{Answer}
 use Rattle.timecode.specs.declared.Answer.TheVariants.{Quiet, Report}
 use Rattle.timecode.specs.declared.Format.{Format}
-use Rattle.timecode.specs.declared.Reading.{Reading}
-use Rattle.timecode.specs.declared.Reading.TheVariants.{Accepted}
 use Rattle.timecode.specs.declared.Time.{Time}
 use Rattle.following.specs.Rows.{opens_frame}
 
@@ -26,9 +26,9 @@ unfoldable pub row_after : Format → ℕ → Time → Time → ℕ
 row_after f c s t = cond (eqb c 0) 1 (cond (next_after f s t) (cond (ltb c 5) (c + 1) 5) 1)
 
 -- the frame is whole: what Read gives for it
-unfoldable pub with_reading : Format → Following → ℕ → Reading → Following
-with_reading f r s (Accepted t w) = record { last = s; frame = r.frame ++ (s ∷ []); row = row_after f r.row r.time t; time = t; control = w }
-with_reading f r s (Reading.Refused x) = record { last = s; frame = r.frame ++ (s ∷ []); row = 0; time = r.time; control = r.control }
+unfoldable pub with_reading : Format → Following → ℕ → Result Reading Refusal → Following
+with_reading f r s (Ok read) = record { last = s; frame = r.frame ++ (s ∷ []); row = row_after f r.row r.time read.time; time = read.time; control = read.control }
+with_reading f r s (Err x) = record { last = s; frame = r.frame ++ (s ∷ []); row = 0; time = r.time; control = r.control }
 
 -- An opening begins a frame, and the row goes on only from a whole one. Any other symbol joins the frame under way; after a whole frame there is none.
 unfoldable pub following_next : Format → Following → ℕ → Following

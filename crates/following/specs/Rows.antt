@@ -1,5 +1,8 @@
 -- Accepted frames in a row that end at an index of the list received: the plain machine's window, counted back from its end, so that what is received later changes nothing.
-use Rattle.std.specs.Prelude.{◌≡◌, Bool, cond, ◌&&◌, leb, take, drop}
+use Rattle.timecode.specs.declared.Refusal.{Refusal}
+use Rattle.timecode.specs.declared.Reading.{Reading}
+use Rattle.timecode.specs.Answers.{accepted}
+use Rattle.std.specs.Prelude.{◌≡◌, Bool, cond, ◌&&◌, leb, take, drop, Result}
 use Rattle.std.proofs.Math.Bool.{true}
 use mathlib.Core.List.{List, ◌∷◌}
 use Prim.Native.Nat.{ℕ, zero, suc, ◌+◌, ◌-◌, ◌≤◌}
@@ -11,8 +14,6 @@ use Rattle.timecode.specs.Stream.{first_in_row, next_in_row}
 use Rattle.timecode.specs.declared.Answer.{Answer}
 use Rattle.timecode.specs.declared.Answer.TheVariants.{Quiet, Report}
 use Rattle.timecode.specs.declared.Format.{Format}
-use Rattle.timecode.specs.declared.Reading.{Reading}
-use Rattle.timecode.specs.declared.Reading.TheVariants.{Accepted}
 use Rattle.timecode.specs.declared.Time.{Time}
 
 -- the symbol before index e; 3 where there is none
@@ -42,13 +43,13 @@ row_to f received (suc m) e = cond (leb (size f) e) (next_in_row f (row_to f rec
 
 -- ---- what is appended changes nothing before
 
-pub record NextAccepted (f : Format) (a : Answer) (r : Reading) (t : Time) (w : ℕ) : Type 0 where
+pub record NextAccepted (f : Format) (a : Answer) (r : Result Reading Refusal) (t : Time) (w : ℕ) : Type 0 where
   pub time : Time
   pub control : ℕ
   pub was : a ≡ Report time control
-  pub is : r ≡ Accepted t w
+  pub is : r ≡ accepted t w
 
 pub record EndsAt (f : Format) (received : List ℕ) (e : ℕ) (t : Time) (w : ℕ) : Type 0 where
   pub long : size f ≤ e
   pub begins : may_begin f received (e - size f) ≡ true
-  pub reads : read_of f (frame_before f received e) ≡ Accepted t w
+  pub reads : read_of f (frame_before f received e) ≡ accepted t w

@@ -1,5 +1,5 @@
 -- What the formula gives where nothing drifts, at the cut itself, and where f0/fr overflows.
-use Rattle.std.specs.Prelude.{◌≡◌, refl, Bool, true, false, not, ◌&&◌, ◌||◌, ℕ, zero, suc, ◌*◌, ◌≤◌, T, leb, eqb, ℤ, pos, Float}
+use Rattle.std.specs.Prelude.{◌≡◌, refl, Bool, true, false, not, ◌&&◌, ◌||◌, ℕ, zero, suc, ◌*◌, ◌≤◌, T, leb, eqb, ℤ, pos, Float, Ok}
 use Rattle.std.proofs.Common.{sym, ap, ap₂, ◌∙◌, zero-mul, mul-zero, mul-one, one-mul, mul-pos, zero-lt-suc, arith, leb-true, ne_eqb}
 use Rattle.std.specs.Bool.{beq}
 use Rattle.std.specs.Float.{nan, inf, fin, binary64}
@@ -8,7 +8,6 @@ use Rattle.std.specs.Float.Ieee.Exact.{HasValue}
 use Rattle.std.specs.Float.Ieee.Fits.{up_pos, down_pos, div-fits}
 use Rattle.std.specs.Float.Ieee.Scale.{round_same}
 use Rattle.timecode.proofs.Laws.Tests.{by-test, clash, and_left, and_right}
-use Rattle.forecasts.specs.declared.Forecast.TheVariants.{Expected}
 use Rattle.forecasts.specs.declared.Oscillator.{Oscillator}
 use Rattle.forecasts.specs.Exact.{seconds-exact, square-exact}
 use Rattle.forecasts.specs.Forecasting.{is_finite, figures_finite, forecastable, expected_error, forecast_of, zero_float, one, two, most_seconds}
@@ -41,7 +40,7 @@ figures o t h =
       within = leb-true t most_seconds (and_right (not (eq o.reference zero_float)) (leb t most_seconds) later);
     }
 
-forecast-taken : (o : Oscillator) (t : ℕ) (x : Float) → forecastable o t ≡ true → expected_error o (of_int binary64 (pos t)) ≡ x → forecast_of o t ≡ Expected x
+forecast-taken : (o : Oscillator) (t : ℕ) (x : Float) → forecastable o t ≡ true → expected_error o (of_int binary64 (pos t)) ≡ x → forecast_of o t ≡ Ok x
 unfolding forecast_of
 forecast-taken o t x h e = rw (h, e)
 
@@ -143,7 +142,7 @@ plus-zero-once (fin false zero e) d = refl
 plus-zero-once (fin s (suc m) e) d = refl
 
 -- With f0 = fr and a = 0, of either sign, the forecast is E0 after every t; where E0 is -0 it is +0.
-pub nothing-drifts : (o : Oscillator) (t : ℕ) (z : Bool) → T (fits binary64 o.error) → forecastable o t ≡ true → o.frequency ≡ o.reference → o.ageing ≡ fin z 0 (pos 0) → forecast_of o t ≡ Expected (plus_zero o.error false)
+pub nothing-drifts : (o : Oscillator) (t : ℕ) (z : Bool) → T (fits binary64 o.error) → forecastable o t ≡ true → o.frequency ≡ o.reference → o.ageing ≡ fin z 0 (pos 0) → forecast_of o t ≡ Ok (plus_zero o.error false)
 unfolding expected_error
 nothing-drifts o t z h k same none =
     let p = figures o t k in
@@ -171,7 +170,7 @@ offset o = sub binary64 (div binary64 o.frequency o.reference) one
 
 -- With t = 0 the forecast is E0 wherever f0/fr is finite; where E0 is -0 it stays so only if f0/fr - 1 and a have the sign minus too.
 pub at-the-cut : (o : Oscillator) → T (fits binary64 o.error) → forecastable o 0 ≡ true → is_finite (div binary64 o.frequency o.reference) ≡ true
-    → forecast_of o 0 ≡ Expected (plus_zero (plus_zero o.error (negative (offset o))) (negative o.ageing))
+    → forecast_of o 0 ≡ Ok (plus_zero (plus_zero o.error (negative (offset o))) (negative o.ageing))
 unfolding expected_error
 at-the-cut o h k finite =
     let p = figures o 0 k in
@@ -215,7 +214,7 @@ multiplied (inf s) (fin t n d) h = by-test (eqb n 0) (λ y. rw y) (λ k. rw k)
 multiplied (fin s m e) y h = clash refl h
 
 pub overflowed : (o : Oscillator) (t : ℕ) → forecastable o t ≡ true → is_finite (div binary64 o.frequency o.reference) ≡ false
-    → (forecast_of o t ≡ Expected (expected_error o (of_int binary64 (pos t)))) × (is_finite (expected_error o (of_int binary64 (pos t))) ≡ false)
+    → (forecast_of o t ≡ Ok (expected_error o (of_int binary64 (pos t)))) × (is_finite (expected_error o (of_int binary64 (pos t))) ≡ false)
 unfolding expected_error sub
 overflowed o t k infinite = (
   forecast-taken o t (expected_error o (of_int binary64 (pos t))) k refl,
@@ -238,7 +237,7 @@ from-no-number : (x : Float) → add binary64 nan x ≡ nan
 unfolding add
 from-no-number x = refl
 
-pub overflowed-at-the-cut : (o : Oscillator) → forecastable o 0 ≡ true → is_finite (div binary64 o.frequency o.reference) ≡ false → forecast_of o 0 ≡ Expected nan
+pub overflowed-at-the-cut : (o : Oscillator) → forecastable o 0 ≡ true → is_finite (div binary64 o.frequency o.reference) ≡ false → forecast_of o 0 ≡ Ok nan
 unfolding expected_error sub
 overflowed-at-the-cut o k infinite =
     let drift : mul binary64 (offset o) (of_int binary64 (pos 0)) ≡ nan = ap (mul binary64 (offset o)) no-time ∙ no_number (offset o) (added-left (div binary64 o.frequency o.reference) (neg one) infinite) in

@@ -1,11 +1,10 @@
 -- Document 02, "Hold-over forecast": E = E0 + (f0/fr - 1)t + a t²/2, each operation rounded to 64 bits.
-use Rattle.std.specs.Prelude.{Bool, true, false, not, ◌&&◌, ℕ, leb, pos, Float}
+use Rattle.timecode.specs.declared.Refusal.{Refusal}
+use Rattle.std.specs.Prelude.{Bool, true, false, not, ◌&&◌, ℕ, leb, pos, Float, Result, Ok, Err}
 use Rattle.std.specs.Float.{nan, inf, fin, binary64}
 use Rattle.std.specs.Float.Ieee.{add, sub, mul, div, eq, of_int}
 use Rattle.timecode.specs.Answers.{check}
 use Rattle.timecode.specs.declared.Refusal.TheVariants.{InvalidForecast}
-use Rattle.forecasts.specs.declared.Forecast.{Forecast}
-use Rattle.forecasts.specs.declared.Forecast.TheVariants.{Expected}
 use Rattle.forecasts.specs.declared.Oscillator.{Oscillator}
 
 -- a number, and no infinity
@@ -42,5 +41,5 @@ expected_error o t =
     (add binary64 o.error (mul binary64 (sub binary64 (div binary64 o.frequency o.reference) one) t))
     (div binary64 (mul binary64 (mul binary64 t t) o.ageing) two)
 
-unfoldable pub forecast_of : Oscillator → ℕ → Forecast
-forecast_of o t = check Forecast.Refused InvalidForecast (forecastable o t) (Expected (expected_error o (of_int binary64 (pos t))))
+unfoldable pub forecast_of : Oscillator → ℕ → Result Float Refusal
+forecast_of o t = check Err InvalidForecast (forecastable o t) (Ok (expected_error o (of_int binary64 (pos t))))

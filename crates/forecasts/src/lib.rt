@@ -2,8 +2,6 @@
 // Document 02's formula as a definition, and the theorems over it, stand in specs/.
 #![tactic(auto)]
 
-use timecode::Refusal;
-
 // An oscillator's four figures: its starting error E0 in seconds, its own frequency f0, the reference fr and its ageing a for each second.
 #[repr(C)]
 #[derive(Clone, Copy)]
@@ -12,11 +10,4 @@ pub struct Oscillator {
     pub frequency: f64,
     pub reference: f64,
     pub ageing: f64,
-}
-
-// The expected error in seconds, which may be infinite or no number.
-#[derive(Clone, Copy)]
-pub enum Forecast {
-    Expected(f64),
-    Refused(Refusal),
 }

@@ -1,5 +1,6 @@
 -- Where Write and Read return, and what the calls within them need.
-use Rattle.std.specs.Prelude.{◌≡◌, refl, Bool, false, ◌&&◌, List, [], ◌∷◌, ℕ, zero, suc, ◌+◌, ◌%◌, ◌<◌, ◌≤◌, leb, ltb, eqb, get_or, length}
+use Rattle.timecode.specs.declared.Refusal.{Refusal}
+use Rattle.std.specs.Prelude.{◌≡◌, refl, Bool, false, ◌&&◌, List, [], ◌∷◌, ℕ, zero, suc, ◌+◌, ◌%◌, ◌<◌, ◌≤◌, leb, ltb, eqb, get_or, length, None}
 use Rattle.std.proofs.Math.Path.{sym, ap}
 use Rattle.std.proofs.Common.{◌∙◌, inl, inr, arith}
 use Rattle.std.proofs.Math.Bool.{true, cond}
@@ -23,7 +24,6 @@ use Rattle.tape.specs.Offences.{symbols-all}
 use Rattle.digits.specs.Meaning.{meaning_of, meaning-is}
 use Rattle.digits.specs.Splitting.{Widths, Digits}
 use Rattle.frame.specs.Offences.{offence_in, refused_or, same-nothing, some-offence, offended-refuses, offended-clean}
-use Rattle.frame.specs.declared.Offence.TheVariants.{Nothing}
 
 -- ---- what a row gives
 
@@ -105,7 +105,7 @@ pub beside-asked : (n : ℕ) (xs again frame : List ℕ) → again ≡ put_in n 
 beside-asked n xs again frame e l m = (omega (arith, ap length e ∙ length-put n xs), (λ k h. rw e (put-symbol n xs k (omega arith))), omega arith)
 
 -- where it agrees with the frame nothing offends
-pub agree-nothing : (again frame : List ℕ) → length frame ≤ length again → ((k : ℕ) → k < length frame → get_or again k 0 ≤ 3) → ((k : ℕ) → k < length frame → get_or frame k 0 ≡ get_or again k 0) → offence_in again frame ≡ Nothing
+pub agree-nothing : (again frame : List ℕ) → length frame ≤ length again → ((k : ℕ) → k < length frame → get_or again k 0 ≤ 3) → ((k : ℕ) → k < length frame → get_or frame k 0 ≡ get_or again k 0) → offence_in again frame ≡ None
 unfolding offence_in
 agree-nothing again frame l small same = rw (symbols-all frame (λ k h. rw (same k h) (small k h))) (same-nothing 0 again frame l same)
 
@@ -125,7 +125,7 @@ module _ (f : Format) (frame : List ℕ) (k : known f ≡ true) (x : is_x f ≡ 
       (λ y. rw (y, meaning-is f frame x) (offended-refuses f frame k x n _))
       (λ m. rw m))
 
-  pub finds-nothing : offence_in (put_in (size f) (decode (code_runs f) frame)) frame ≡ Nothing → Clean (size f) (filler f) (code_runs f) frame
+  pub finds-nothing : offence_in (put_in (size f) (decode (code_runs f) frame)) frame ≡ None → Clean (size f) (filler f) (code_runs f) frame
   unfolding offence_in
   finds-nothing h =
       by-test (are_symbols frame)

@@ -1,5 +1,6 @@
 -- What offends in a frame, found beside the frame that is written again from its digits: the lowest index where the two differ.
-use Rattle.std.specs.Prelude.{◌≡◌, true, false, not, List, [], ◌∷◌, ltb, eqb, get_or, length, drop}
+use Rattle.timecode.specs.declared.Reading.{Reading}
+use Rattle.std.specs.Prelude.{◌≡◌, true, false, not, List, [], ◌∷◌, ltb, eqb, get_or, length, drop, Result, Err, Option, Some, None}
 use Rattle.std.proofs.Math.Path.{refl, sym}
 use Rattle.std.proofs.Common.{ap, ◌∙◌, not-suc-le-zero, zero-add, add-one, drop_of_length-le}
 use Rattle.std.proofs.Math.Bool.{cond}
@@ -14,26 +15,23 @@ use Rattle.timecode.proofs.Laws.Table.{size-range}
 use Rattle.timecode.proofs.Laws.Tests.{by-test, clash}
 use Rattle.timecode.specs.Layout.{is_mark, filler, runs, tabulate, decode}
 use Rattle.timecode.specs.declared.Format.{Format}
-use Rattle.timecode.specs.declared.Reading.{Reading}
 use Rattle.timecode.specs.declared.Refusal.{Refusal}
 use Rattle.timecode.specs.declared.Refusal.TheVariants.{UnknownSymbol, MisplacedMark, InvalidElement}
 use Rattle.layout.specs.Runs.{code_runs, code-elements, code-proper}
 use Rattle.elements.specs.Carries.{put_low}
 use Rattle.elements.specs.RunBits.{put_in, put_right, put-binary, length-put}
-use Rattle.frame.specs.declared.Offence.{Offence}
-use Rattle.frame.specs.declared.Offence.TheVariants.{Nothing, At}
 
 -- symbol s stands where the frame written again has m: 5 where either is a mark, else 6
-unfoldable pub offence_at : ℕ → ℕ → ℕ → Offence
-offence_at m s i = cond (eqb m 2) (At (MisplacedMark i)) (cond (eqb s 2) (At (MisplacedMark i)) (At (InvalidElement i)))
+unfoldable pub offence_at : ℕ → ℕ → ℕ → Option Refusal
+offence_at m s i = cond (eqb m 2) (Some (MisplacedMark i)) (cond (eqb s 2) (Some (MisplacedMark i)) (Some (InvalidElement i)))
 
 -- the lowest index where the two differ, counted from i on
-unfoldable pub offended_from : ℕ → List ℕ → List ℕ → Offence
-offended_from i ms [] = Nothing
-offended_from i [] (s ∷ ss) = Nothing
+unfoldable pub offended_from : ℕ → List ℕ → List ℕ → Option Refusal
+offended_from i ms [] = None
+offended_from i [] (s ∷ ss) = None
 offended_from i (m ∷ ms) (s ∷ ss) = cond (eqb s m) (offended_from (suc i) ms ss) (offence_at m s i)
 
-abbrev pub offended_of : List ℕ → List ℕ → Offence
+abbrev pub offended_of : List ℕ → List ℕ → Option Refusal
 offended_of again frame = offended_from 0 again frame
 
 -- the lowest index where the two differ, counted from i on; 255, past the end of every frame, where they do not
@@ -46,13 +44,13 @@ abbrev pub lowest_of : List ℕ → List ℕ → ℕ
 lowest_of again frame = lowest_from 0 again frame
 
 -- a symbol above 3 before all else
-unfoldable pub offence_in : List ℕ → List ℕ → Offence
-offence_in again frame = cond (are_symbols frame) (offended_of again frame) (At UnknownSymbol)
+unfoldable pub offence_in : List ℕ → List ℕ → Option Refusal
+offence_in again frame = cond (are_symbols frame) (offended_of again frame) (Some UnknownSymbol)
 
 -- the answer, where an offence refuses
-abbrev pub refused_or : Offence → Reading → Reading
-refused_or Nothing answer = answer
-refused_or (At r) answer = Reading.Refused r
+abbrev pub refused_or : Option Refusal → Result Reading Refusal → Result Reading Refusal
+refused_or None answer = answer
+refused_or (Some r) answer = Err r
 
 -- ---- turns of the loops
 
@@ -94,16 +92,16 @@ lowest-end again frame i low h = rw (drop_of_length-le frame {i = i} h) (by-test
 
 -- ---- two that agree
 
-pub same-nothing : (i : ℕ) (again frame : List ℕ) → length frame ≤ length again → ((k : ℕ) → k < length frame → get_or frame k 0 ≡ get_or again k 0) → offended_from i again frame ≡ Nothing
+pub same-nothing : (i : ℕ) (again frame : List ℕ) → length frame ≤ length again → ((k : ℕ) → k < length frame → get_or frame k 0 ≡ get_or again k 0) → offended_from i again frame ≡ None
 unfolding offended_from
 same-nothing i again [] l h = refl
 same-nothing i [] (s ∷ ss) l h = absurd (not-suc-le-zero l)
 same-nothing i (m ∷ ms) (s ∷ ss) l h = rw (eq-eqb s m (h 0 (omega arith))) (same-nothing (suc i) ms ss (omega arith) (λ k b. h (suc k) (omega arith)))
 
-pub some-offence : (r : Refusal) → At r ≡ Nothing → ⊥
+pub some-offence : (r : Refusal) → Some r ≡ None → ⊥
 some-offence r h = let z : ◌≡◌ {A = ℕ} 0 1 = cc in omega arith
 
-offence-some : (m s i : ℕ) → offence_at m s i ≡ Nothing → ⊥
+offence-some : (m s i : ℕ) → offence_at m s i ≡ None → ⊥
 unfolding offence_at
 offence-some m s i h =
     by-test (eqb m 2)
@@ -113,8 +111,8 @@ offence-some m s i h =
 -- ---- the lowest index where they differ offends
 
 module _ (again frame : List ℕ) (l : length frame ≤ length again) (short : length frame ≤ 255) where
-  abbrev offence_found : ℕ → Offence
-  offence_found low = cond (eqb low 255) Nothing (offence_at (get_or again low 0) (get_or frame low 0) low)
+  abbrev offence_found : ℕ → Option Refusal
+  offence_found low = cond (eqb low 255) None (offence_at (get_or again low 0) (get_or frame low 0) low)
 
   lowest-offends : (left i : ℕ) → i + left ≡ length frame → offended_from i (drop i again) (drop i frame) ≡ offence_found (lowest_from i (drop i again) (drop i frame))
   unfolding offended_from lowest_from
@@ -125,7 +123,7 @@ module _ (again frame : List ℕ) (l : length frame ≤ length again) (short : l
       (λ y. rw y (lowest-offends left (suc i) (omega arith)))
       (λ n. rw (n, ne_eqb i 255 (λ q. omega arith))))
 
-  pub offended-lowest : (low : ℕ) → low ≡ lowest_of again frame → offended_of again frame ≡ cond (eqb low 255) Nothing (offence_at (get_or again low 0) (get_or frame low 0) low)
+  pub offended-lowest : (low : ℕ) → low ≡ lowest_of again frame → offended_of again frame ≡ cond (eqb low 255) None (offence_at (get_or again low 0) (get_or frame low 0) low)
   offended-lowest low e = lowest-offends (length frame) 0 (zero-add (length frame)) ∙ ap offence_found (sym e)
 
 -- ---- the frame written again agrees below the lowest index that offends, and there it does not
@@ -214,7 +212,7 @@ module _ (f : Format) (frame : List ℕ) (k : known f ≡ true) (x : is_x f ≡ 
 
   -- ---- what the search finds is what the definition refuses
 
-  refused-at : (i : ℕ) → FitBelow i → i < size f → (get_or frame i 0 ≡ get_or again i 0 → ⊥) → (ss : List ℕ) (a : Reading)
+  refused-at : (i : ℕ) → FitBelow i → i < size f → (get_or frame i 0 ≡ get_or again i 0 → ⊥) → (ss : List ℕ) (a : Result Reading Refusal)
       → check_elements (filler f) (code_runs f) i (get_or frame i 0 ∷ ss) a ≡ refused_or (offence_at (get_or again i 0) (get_or frame i 0) i) a
   unfolding check_elements offence_at
   refused-at i h b o ss a =
@@ -223,7 +221,7 @@ module _ (f : Format) (frame : List ℕ) (k : known f ≡ true) (x : is_x f ≡ 
       (λ y. rw (y, ne_eqb (get_or frame i 0) 2 (λ q. o (q ∙ sym (eqb-true (get_or again i 0) 2 y)))))
       (λ m. by-test (eqb (get_or frame i 0) 2) (λ y. rw (m, y)) (λ z. rw (m, z))))
 
-  found_from : (left i : ℕ) → i + left ≡ size f → FitBelow i → (a : Reading) → check_elements (filler f) (code_runs f) i (drop i frame) a ≡ refused_or (offended_from i (drop i again) (drop i frame)) a
+  found_from : (left i : ℕ) → i + left ≡ size f → FitBelow i → (a : Result Reading Refusal) → check_elements (filler f) (code_runs f) i (drop i frame) a ≡ refused_or (offended_from i (drop i again) (drop i frame)) a
   unfolding check_elements offended_from
   found_from zero i e h a = rw (drop_of_length-le frame {i = i} (omega arith))
   found_from (suc left) i e h a =
@@ -236,22 +234,22 @@ module _ (f : Format) (frame : List ℕ) (k : known f ≡ true) (x : is_x f ≡ 
       rw (y, fits-agree (size f) (filler f) (code_runs f) i (get_or frame i 0) fits, fits) (found_from left (suc i) (omega arith) (fit-more i h fits) a))
       (λ z. rw z (refused-at i h b (eqb-false (get_or frame i 0) (get_or again i 0) z) (drop (suc i) frame) a)))
 
-  pub offended-refuses : (a : Reading) → check_elements (filler f) (runs f) 0 frame a ≡ refused_or (offended_of again frame) a
+  pub offended-refuses : (a : Result Reading Refusal) → check_elements (filler f) (runs f) 0 frame a ≡ refused_or (offended_of again frame) a
   offended-refuses a = sym (code-elements f 0 frame a) ∙ found_from (size f) 0 (zero-add (size f)) (λ j l. absurd (not-suc-le-zero l)) a
 
   -- ---- where the search finds nothing, the frame is clean
 
-  clean-from : (left i : ℕ) → i + left ≡ size f → FitBelow i → offended_from i (drop i again) (drop i frame) ≡ Nothing → FitBelow (size f)
+  clean-from : (left i : ℕ) → i + left ≡ size f → FitBelow i → offended_from i (drop i again) (drop i frame) ≡ None → FitBelow (size f)
   unfolding offended_from
   clean-from zero i e h q = let all : i ≡ size f = omega arith in λ j l. h j (omega arith)
   clean-from (suc left) i e h q =
       let b : i < size f = omega arith in
       let long = length-put (size f) (decode (code_runs f) frame) in
-      let here : cond (eqb (get_or frame i 0) (get_or again i 0)) (offended_from (suc i) (drop (suc i) again) (drop (suc i) frame)) (offence_at (get_or again i 0) (get_or frame i 0) i) ≡ Nothing =
+      let here : cond (eqb (get_or frame i 0) (get_or again i 0)) (offended_from (suc i) (drop (suc i) again) (drop (suc i) frame)) (offence_at (get_or again i 0) (get_or frame i 0) i) ≡ None =
       rw (drop-cons frame i 0 (omega arith), drop-cons again i 0 (omega arith)) at q in
       by-test (eqb (get_or frame i 0) (get_or again i 0))
       (λ y. clean-from left (suc i) (omega arith) (fit-more i h (fits-where-same i h b (eqb-true (get_or frame i 0) (get_or again i 0) y))) (rw y at here))
       (λ z. absurd (offence-some (get_or again i 0) (get_or frame i 0) i (rw z at here)))
 
-  pub offended-clean : offended_of again frame ≡ Nothing → Clean (size f) (filler f) (code_runs f) frame
+  pub offended-clean : offended_of again frame ≡ None → Clean (size f) (filler f) (code_runs f) frame
   offended-clean q = clean-from (size f) 0 (zero-add (size f)) (λ j l. absurd (not-suc-le-zero l)) q

@@ -19,44 +19,44 @@ use digits::{control_fits, digits_of, meaning};
 use elements::{digits_in, middle_bits, put_tens, tail_bits, time_bits};
 use layout::{Row, places_of, row_of, takes, widths_of};
 use tape::{read_tape, write_tape};
-use timecode::{Format, MARK, Reading, Refusal, SPOILED, Time, Written};
+use timecode::{Format, MARK, Reading, Refusal, SPOILED, Time};
 
 // The index of a difference where there is none: past the end of every frame.
 const NOWHERE: u8 = 255;
 
-// What the search for an offending element finds.
-#[derive(Clone, Copy)]
-enum Offence {
-    Nothing,
-    At(Refusal),
-}
-
 // Write's checks by the format's row and whether it is X, for a frame of that many bytes.
-fn check_write(row: Row, x: bool, expression: u8, time: Time, control: u64, bytes: usize) -> Written
+fn check_write(
+    row: Row,
+    x: bool,
+    expression: u8,
+    time: Time,
+    control: u64,
+    bytes: usize,
+) -> Result<(), Refusal>
     requires { IsRow row }
     ensures { (f : Format) (lent : List ℕ) → RowOf f row → x ≡ is_x f → f.expression ≡ expression → bytes ≡ length lent → result ≡ write_of f time control lent }
 {
     if !takes(row, expression) {
-        return Written::Refused(Refusal::UnknownFormat);
+        return Err(Refusal::UnknownFormat);
     }
     if !year_carried(row.year, time.year) {
-        return Written::Refused(Refusal::InvalidYear);
+        return Err(Refusal::InvalidYear);
     }
     let last = turn_day(x, last_day_in(row.year, time.year));
     if !lies_on(row.interval, last, time) {
-        return Written::Refused(Refusal::InvalidTime);
+        return Err(Refusal::InvalidTime);
     }
     if !second_allowed(row.leap, time) {
-        return Written::Refused(Refusal::SecondNotCarried);
+        return Err(Refusal::SecondNotCarried);
     }
     let widths = widths_of(row.runs);
     if !control_fits(&widths, control) {
-        return Written::Refused(Refusal::ControlTooLong);
+        return Err(Refusal::ControlTooLong);
     }
     if bytes != row.elements {
-        return Written::Refused(Refusal::WrongLength);
+        return Err(Refusal::WrongLength);
     }
-    Written::Done
+    Ok(())
 }
 
 fn put_frame(row: Row, time: Time, control: u64, frame: &mut [u8])
@@ -76,32 +76,18 @@ fn put_frame(row: Row, time: Time, control: u64, frame: &mut [u8])
 }
 
 // Writes a time and a control word; every byte is set, or, where it refuses, none.
-pub fn write(format: Format, time: Time, control: u64, frame: &mut [u8]) -> Written
+pub fn write(format: Format, time: Time, control: u64, frame: &mut [u8]) -> Result<(), Refusal>
     ensures { (result ≡ write_of format time control frame.old) × (frame.new ≡ write_leaves format time control frame.old) }
 {
     let row = row_of(format);
     let x = is_x(format);
-    let answer = check_write(row, x, format.expression, time, control, frame.len());
-    match answer {
-        Written::Done => {
-            if x {
-                write_tape(time, frame);
-                return Written::Done;
-            }
-            put_frame(row, time, control, frame);
-            Written::Done
-        }
-        Written::Refused(refusal) => Written::Refused(refusal),
+    check_write(row, x, format.expression, time, control, frame.len())?;
+    if x {
+        write_tape(time, frame);
+        return Ok(());
     }
-}
-
-fn both(first: bool, second: bool) -> bool
-    ensures { result ≡ (first && second) }
-{
-    if first {
-        return second;
-    }
-    false
+    put_frame(row, time, control, frame);
+    Ok(())
 }
 
 // No symbol is above 3. Like `agree` it looks at every element: a loop that never ends early is compiled to take many at a time.
@@ -109,44 +95,30 @@ fn are_symbols(frame: &[u8]) -> bool
     ensures { result ≡ are_symbols frame.now }
 {
     let mut all = true;
-    let mut i = 0;
-    while i < frame.len() {
-        all = both(all, frame[i] <= SPOILED);
-        i += 1;
+    for symbol in frame {
+        all &= *symbol <= SPOILED;
     }
     all
 }
 
 // What offends at an index where the frame and the one written again differ: 5 where either has a mark there, else 6.
-fn offence_at(again: u8, symbol: u8, index: usize) -> Offence
+fn offence_at(again: u8, symbol: u8, index: usize) -> Option<Refusal>
     ensures { result ≡ offence_at again symbol index }
 {
     if again == MARK {
-        return Offence::At(Refusal::MisplacedMark(index));
+        return Some(Refusal::MisplacedMark(index));
     }
     if symbol == MARK {
-        return Offence::At(Refusal::MisplacedMark(index));
+        return Some(Refusal::MisplacedMark(index));
     }
-    Offence::At(Refusal::InvalidElement(index))
-}
-
-fn lesser(first: u8, second: u8) -> u8
-    ensures { result ≡ cond (ltb first second) first second }
-{
-    if first < second {
-        return first;
-    }
-    second
+    Some(Refusal::InvalidElement(index))
 }
 
 // The index where its two elements differ, else no index.
 fn place(again: u8, symbol: u8, index: u8) -> u8
     ensures { result ≡ cond (eqb symbol again) 255 index }
 {
-    if symbol == again {
-        return NOWHERE;
-    }
-    index
+    if symbol == again { NOWHERE } else { index }
 }
 
 // The lowest index where the two differ. Like `agree` it looks at every element; the least of bytes is gathered sixteen at a time.
@@ -155,22 +127,20 @@ fn lowest_difference(again: &[u8], frame: &[u8]) -> u8
     ensures { (result ≡ lowest_of again.now frame.now) × ((result ≡ 255 → ⊥) → result < length frame.now) }
 {
     let mut lowest = NOWHERE;
-    let mut index = 0;
-    while index < frame.len() {
-        lowest = lesser(lowest, place(again[index], frame[index], index as u8));
-        index += 1;
+    for index in 0..frame.len() {
+        lowest = lowest.min(place(again[index], frame[index], index as u8));
     }
     lowest
 }
 
 // What offends at the lowest index where the two differ.
-fn lowest_offence(again: &[u8], frame: &[u8]) -> Offence
+fn lowest_offence(again: &[u8], frame: &[u8]) -> Option<Refusal>
     requires { (length frame.now ≤ length again.now) × (length frame.now ≤ 255) }
     ensures { result ≡ offended_of again.now frame.now }
 {
     let lowest = lowest_difference(again, frame);
     if lowest == NOWHERE {
-        return Offence::Nothing;
+        return None;
     }
     let index = lowest as usize;
     offence_at(again[index], frame[index], index)
@@ -183,30 +153,28 @@ fn agree(again: &[u8], frame: &[u8]) -> bool
     ensures { result ≡ true → (k : ℕ) → k < length frame.now → get_or frame.now k 0 ≡ get_or again.now k 0 }
 {
     let mut same = true;
-    let mut i = 0;
-    while i < frame.len() {
-        same = both(same, frame[i] == again[i]);
-        i += 1;
+    for i in 0..frame.len() {
+        same &= frame[i] == again[i];
     }
     same
 }
 
 // What offends in the frame, beside the one written again from its digits: a symbol above 3, or the lowest index where they differ.
-fn offence_in(again: &[u8], frame: &[u8]) -> Offence
+fn offence_in(again: &[u8], frame: &[u8]) -> Option<Refusal>
     requires { (length frame.now ≤ length again.now) × ((k : ℕ) → k < length frame.now → get_or again.now k 0 ≤ 3) × (length frame.now ≤ 255) }
     ensures { result ≡ offence_in again.now frame.now }
 {
     if agree(again, frame) {
-        return Offence::Nothing;
+        return None;
     }
     if are_symbols(frame) {
         return lowest_offence(again, frame);
     }
-    Offence::At(Refusal::UnknownSymbol)
+    Some(Refusal::UnknownSymbol)
 }
 
 // What offends in a frame beside the digits that stand in it, which are written again for as many elements.
-fn offence_beside(places: &[u8], marks: &[u8], digits: &[u64], frame: &[u8]) -> Offence
+fn offence_beside(places: &[u8], marks: &[u8], digits: &[u64], frame: &[u8]) -> Option<Refusal>
     requires { (places.now ≡ run_starts) × (marks.now ≡ mark_places) × (length digits.now ≡ 20) × IsFrame (length frame.now) }
     ensures { result ≡ offence_in (put_in (length frame.now) digits.now) frame.now }
 {
@@ -223,7 +191,7 @@ fn offence_beside(places: &[u8], marks: &[u8], digits: &[u64], frame: &[u8]) -> 
     offence_in(&again, &frame[0..60])
 }
 
-fn read_frame(row: Row, frame: &[u8]) -> Reading
+fn read_frame(row: Row, frame: &[u8]) -> Result<Reading, Refusal>
     requires { FrameOf row frame.now }
     ensures { (f : Format) → known f ≡ true → is_x f ≡ false → RowOf f row → length frame.now ≡ size f → result ≡ read_of f frame.now }
 {
@@ -232,8 +200,8 @@ fn read_frame(row: Row, frame: &[u8]) -> Reading
     let digits = digits_in(&places, row.runs, frame);
     let offence = offence_beside(&places, &marks, &digits, frame);
     match offence {
-        Offence::At(refusal) => Reading::Refused(refusal),
-        Offence::Nothing => {
+        Some(refusal) => Err(refusal),
+        None => {
             let widths = widths_of(row.runs);
             meaning(row.leap, row.year, &widths, &digits)
         }
@@ -241,7 +209,7 @@ fn read_frame(row: Row, frame: &[u8]) -> Reading
 }
 
 // The time and the control word that the frame's elements say.
-pub fn read(format: Format, frame: &[u8]) -> Reading
+pub fn read(format: Format, frame: &[u8]) -> Result<Reading, Refusal>
     ensures { result ≡ read_of format frame.now }
 {
     let row = row_of(format);
@@ -252,7 +220,7 @@ pub fn read(format: Format, frame: &[u8]) -> Reading
             }
             return read_frame(row, frame);
         }
-        return Reading::Refused(Refusal::WrongLength);
+        return Err(Refusal::WrongLength);
     }
-    Reading::Refused(Refusal::UnknownFormat)
+    Err(Refusal::UnknownFormat)
 }

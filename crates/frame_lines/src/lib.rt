@@ -1,94 +1,64 @@
-// Lines of frames that are due, as timelook prints them behind what its output has. Elements are counted from 1, places from 0.
-// Nothing says which bytes a write moves, so these promise to be safe and to end, and no more.
+// Lines of frames that are due, as timelook prints them. Elements are counted from 1, places from 0.
+// Nothing says which bytes a value displays, so these promise to be safe and to end, and no more.
 #![tactic(auto)]
 
 use frametext::character_of;
-use look_times::put_time;
+use look_times::Moment;
 use refusals::number_of;
-use std::num::wrapping_add_u64;
-use texts::{put_byte, put_bytes, put_decimal, put_numbers};
+use texts::Page;
 use timecode::{Refusal, Time};
 
 // What a refusal of Read's says.
-fn put_words(out: &mut [u8; 65536], at: usize, refusal: Refusal) -> usize {
+fn words_of(refusal: Refusal) -> &'static str {
     match refusal {
-        Refusal::MisplacedMark(_) => put_bytes(out, at, b", mark missing or where none belongs"),
-        Refusal::InvalidElement(_) => put_bytes(out, at, b", not a symbol of its place"),
-        Refusal::InvalidDigit => put_bytes(out, at, b", digits that are no time"),
-        Refusal::SecondsDiffer => {
-            put_bytes(out, at, b", straight binary seconds differ from the digits")
-        }
-        _ => at,
+        Refusal::MisplacedMark(_) => ", mark missing or where none belongs",
+        Refusal::InvalidElement(_) => ", not a symbol of its place",
+        Refusal::InvalidDigit => ", digits that are no time",
+        Refusal::SecondsDiffer => ", straight binary seconds differ from the digits",
+        _ => "",
     }
 }
 
-// The frame at a place, how Read refuses it, and the element that offends, if it names one.
-pub fn put_refused(out: &mut [u8; 65536], at: usize, place: u64, refusal: Refusal) -> usize {
-    let element = wrapping_add_u64(place, 1);
-    let number = number_of(refusal) as u64;
-    let end = put_numbers(out, at, b"  frame at ", element, b" refused ", number, b"");
-    put_words(out, end, refusal)
+// The frame at a place, and how Read refuses it.
+pub fn put_refused(page: &mut Page, place: usize, refusal: Refusal) {
+    let element = place.wrapping_add(1);
+    let number = number_of(refusal);
+    let words = words_of(refusal);
+    page.put(format_args!("  frame at {element} refused {number}{words}"));
 }
 
 // The element at a place, and its symbol.
-pub fn put_offending(out: &mut [u8; 65536], at: usize, place: u64, symbol: u8) -> usize {
-    let mut end = put_bytes(out, at, b": element ");
-    end = put_decimal(out, end, wrapping_add_u64(place, 1));
-    end = put_bytes(out, end, b" is ");
-    put_byte(out, end, character_of(symbol))
+pub fn put_offending(page: &mut Page, place: usize, symbol: u8) {
+    let element = place.wrapping_add(1);
+    let character = char::from(character_of(symbol));
+    page.put(format_args!(": element {element} is {character}"));
 }
 
 // The place of the next frame, where it is not the one at which this frame ends.
-pub fn put_next(out: &mut [u8; 65536], at: usize, next: u64, due: u64) -> usize {
-    if next == due {
-        return put_byte(out, at, b'\n');
+pub fn put_next(page: &mut Page, next: usize, due: usize) {
+    if next != due {
+        let begins = next.wrapping_add(1);
+        let expected = due.wrapping_add(1);
+        page.put(format_args!("; the next begins at {begins}, not {expected}"));
     }
-    let begins = wrapping_add_u64(next, 1);
-    let expected = wrapping_add_u64(due, 1);
-    put_numbers(
-        out,
-        at,
-        b"; the next begins at ",
-        begins,
-        b", not ",
-        expected,
-        b"\n",
-    )
+    page.push(b'\n');
 }
 
 // Refused frames one behind another that have no line of their own.
-pub fn put_more_refused(out: &mut [u8; 65536], at: usize, frames: u64, last: u64) -> usize {
-    put_numbers(
-        out,
-        at,
-        b"  and ",
-        frames,
-        b" more refused, up to element ",
-        last,
-        b"\n",
-    )
+pub fn put_more_refused(page: &mut Page, frames: usize, last: usize) {
+    page.put(format_args!("  and {frames} more refused, up to element {last}\n"));
 }
 
 // An accepted frame whose time is not next after that of the accepted one before it.
-pub fn put_jump(out: &mut [u8; 65536], at: usize, place: u64, before: Time, time: Time) -> usize {
-    let mut end = put_bytes(out, at, b"  frame at ");
-    end = put_decimal(out, end, wrapping_add_u64(place, 1));
-    end = put_bytes(out, end, b" says ");
-    end = put_time(out, end, time);
-    end = put_bytes(out, end, b", not next after ");
-    end = put_time(out, end, before);
-    put_byte(out, end, b'\n')
+pub fn put_jump(page: &mut Page, place: usize, before: Time, time: Time) {
+    let element = place.wrapping_add(1);
+    let said = Moment(time);
+    let last = Moment(before);
+    page.put(format_args!("  frame at {element} says {said}, not next after {last}\n"));
 }
 
-pub fn put_cut(out: &mut [u8; 65536], at: usize, place: u64, there: u64) -> usize {
-    let element = wrapping_add_u64(place, 1);
-    put_numbers(
-        out,
-        at,
-        b"  frame at ",
-        element,
-        b" cut short: elements ",
-        there,
-        b"\n",
-    )
+// A frame that the recording's end cuts short, and how many of its elements are there.
+pub fn put_cut(page: &mut Page, place: usize, there: usize) {
+    let element = place.wrapping_add(1);
+    page.put(format_args!("  frame at {element} cut short: elements {there}\n"));
 }

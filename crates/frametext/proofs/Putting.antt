@@ -1,5 +1,6 @@
 -- One element more, at each turn of the loop that puts a frame's line; and Write's answer for a frame of n bytes.
-use Rattle.std.specs.Prelude.{◌≡◌, refl, true, false, List, [], ◌∷◌, ◌++◌, ℕ, suc, ◌+◌, ◌<◌, ◌≤◌, get_or, take, drop}
+use Rattle.timecode.specs.Answers.{done}
+use Rattle.std.specs.Prelude.{◌≡◌, refl, true, false, List, [], ◌∷◌, ◌++◌, ℕ, suc, ◌+◌, ◌<◌, ◌≤◌, get_or, take, drop, Result, Ok, Err}
 use Rattle.std.proofs.Math.Path.{sym, ap}
 use Rattle.std.proofs.Common.{◌∙◌, append_assoc, add-one, arith, drop_of_length-le, drop-cons, length-take-le, take_at}
 use Rattle.std.proofs.Math.ListN.{length}
@@ -10,12 +11,8 @@ use Rattle.timecode.proofs.Laws.Writing.{length-written, leaves}
 use Rattle.timecode.specs.declared.Format.{Format}
 use Rattle.timecode.specs.declared.Refusal.{Refusal}
 use Rattle.timecode.specs.declared.Time.{Time}
-use Rattle.timecode.specs.declared.Written.{Written}
-use Rattle.timecode.specs.declared.Written.TheVariants.{Done}
 use Rattle.lines.specs.Text.{space, newline}
 use Rattle.frametext.specs.Characters.{character_of, opens_group, element_text, frame_text, frame_line, write_answer, lined_of}
-use Rattle.frametext.specs.declared.Lined.{Lined}
-use Rattle.frametext.specs.declared.Lined.TheVariants.{Line}
 
 pub element-spaced : (i s : ℕ) → opens_group i ≡ true → space ∷ character_of s ∷ [] ≡ element_text i s
 unfolding element_text
@@ -51,9 +48,9 @@ pub taken-by-length : (f : Format) (t : Time) (w : ℕ) (lent : List ℕ) → le
 unfolding write_answer write_of
 taken-by-length f t w lent n = rw (n, length-written f t w)
 
-length-left : (a : Written) (new old : List ℕ) → length new ≡ length old → length (left a new old) ≡ length old
-length-left Done new old e = e
-length-left (Written.Refused x) new old e = refl
+length-left : (a : Result Unit Refusal) (new old : List ℕ) → length new ≡ length old → length (left a new old) ≡ length old
+length-left (Ok u) new old e = e
+length-left (Err x) new old e = refl
 
 module _ (f : Format) (t : Time) (w : ℕ) (lent after : List ℕ) (n : ℕ) (size_is : n ≡ size f) (room : n ≤ length lent) (leaves-it : after ≡ write_leaves f t w (take n lent)) where
   front : length (take n lent) ≡ size f
@@ -69,7 +66,7 @@ module _ (f : Format) (t : Time) (w : ℕ) (lent after : List ℕ) (n : ℕ) (si
   pub part_length : length (after ++ drop n lent) ≡ length lent
   part_length = length_front lent after n length-after
 
-  pub part-written : write_of f t w (take n lent) ≡ Done → take n (after ++ drop n lent) ≡ written f t w
+  pub part-written : write_of f t w (take n lent) ≡ done → take n (after ++ drop n lent) ≡ written f t w
   part-written d = take_at after (drop n lent) n (length-after ∙ length-take-le n lent room) ∙ leaves-it ∙ leaves f t w (take n lent) d
 
 -- ---- the answers
@@ -78,10 +75,10 @@ pub line-text : (f : Format) (t : Time) (w : ℕ) (frame : List ℕ) → frame �
 unfolding frame_line
 line-text f t w frame e = ap (frame_text 0) e
 
-pub line-done : (f : Format) (t : Time) (w k : ℕ) (line : List ℕ) → write_answer f t w ≡ Done → k ≤ length line → take k line ≡ frame_line f t w → Line k ≡ lined_of f t w
+pub line-done : (f : Format) (t : Time) (w k : ℕ) (line : List ℕ) → write_answer f t w ≡ done → k ≤ length line → take k line ≡ frame_line f t w → Ok k ≡ lined_of f t w
 unfolding lined_of
-line-done f t w k line d room e = rw d (ap Line (sym (length-take-le k line room) ∙ ap length e))
+line-done f t w k line d room e = rw d (ap Ok (sym (length-take-le k line room) ∙ ap length e))
 
-pub line_refused : (f : Format) (t : Time) (w : ℕ) (x : Refusal) → write_answer f t w ≡ Written.Refused x → Lined.Refused x ≡ lined_of f t w
+pub line_refused : (f : Format) (t : Time) (w : ℕ) (x : Refusal) → write_answer f t w ≡ Err x → Err x ≡ lined_of f t w
 unfolding lined_of
 line_refused f t w x r = rw r

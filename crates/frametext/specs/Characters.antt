@@ -1,13 +1,10 @@
 -- Document 01, timeread's input: a recording in characters, its first line and a line for each frame.
-use Rattle.std.specs.Prelude.{Bool, cond, ◌&&◌, List, [], ◌∷◌, ◌++◌, ◌≡◌, ℕ, suc, ◌+◌, ◌%◌, ◌≤◌, eqb, ltb, length, take}
+use Rattle.timecode.specs.declared.Refusal.{Refusal}
+use Rattle.std.specs.Prelude.{Bool, cond, ◌&&◌, List, [], ◌∷◌, ◌++◌, ◌≡◌, ℕ, suc, ◌+◌, ◌%◌, ◌≤◌, eqb, ltb, length, take, Result, Ok, Err}
 use Rattle.timecode.specs.Frames.{Sent, written, write_of}
 use Rattle.timecode.specs.declared.Format.{Format}
 use Rattle.timecode.specs.declared.Time.{Time}
-use Rattle.timecode.specs.declared.Written.{Written}
-use Rattle.timecode.specs.declared.Written.TheVariants.{Done}
 use Rattle.lines.specs.Text.{space, newline}
-use Rattle.frametext.specs.declared.Lined.{Lined}
-use Rattle.frametext.specs.declared.Lined.TheVariants.{Line}
 
 -- 0 1 P - for symbols 0 1 2 3
 unfoldable pub character_of : ℕ → ℕ
@@ -31,21 +28,21 @@ unfoldable pub frame_line : Format → Time → ℕ → List ℕ
 frame_line f t w = frame_text 0 (written f t w)
 
 -- what Write answers for a lent frame of n bytes, which the written one has
-unfoldable pub write_answer : Format → Time → ℕ → Written
+unfoldable pub write_answer : Format → Time → ℕ → Result Unit Refusal
 write_answer f t w = write_of f t w (written f t w)
 
 -- the length of the line, or Write's refusal
-abbrev pub lined : Written → ℕ → Lined
-lined Done k = Line k
-lined (Written.Refused x) k = Lined.Refused x
+abbrev pub lined : Result Unit Refusal → ℕ → Result ℕ Refusal
+lined (Ok u) k = Ok k
+lined (Err x) k = Err x
 
-unfoldable pub lined_of : Format → Time → ℕ → Lined
+unfoldable pub lined_of : Format → Time → ℕ → Result ℕ Refusal
 lined_of f t w = lined (write_answer f t w) (length (frame_line f t w))
 
 -- The lent line afterwards: the text at its start, what lies behind being free; or as it was, where nothing is put.
-abbrev pub Stands : Lined → List ℕ → List ℕ → List ℕ → Type 0
-Stands (Line k) text new old = (k ≤ 256) × (take k new ≡ text)
-Stands (Lined.Refused x) text new old = new ≡ old
+abbrev pub Stands : Result ℕ Refusal → List ℕ → List ℕ → List ℕ → Type 0
+Stands (Ok k) text new old = (k ≤ 256) × (take k new ≡ text)
+Stands (Err x) text new old = new ≡ old
 
 -- letter, expression digit, newline; the expression of a known format is a digit
 abbrev pub first_line : Format → List ℕ

@@ -1,5 +1,7 @@
 -- The parts put one behind another are the lines of all the frames; these are a generator's, as document 01 has it.
-use Rattle.std.specs.Prelude.{◌≡◌, Bool, true, false, cond, ◌&&◌, eqb, ltb, get_or, length}
+use Rattle.timecode.specs.declared.Refusal.{Refusal}
+use Rattle.timecode.specs.Answers.{done}
+use Rattle.std.specs.Prelude.{◌≡◌, Bool, true, false, cond, ◌&&◌, eqb, ltb, get_or, length, Result, Ok, Err}
 use Rattle.std.proofs.Math.Path.{refl, ap}
 use Rattle.std.proofs.Common.{sym, ◌∙◌, inl, inr, not-suc-le-zero}
 use mathlib.Core.List.{List, [], ◌∷◌, ◌++◌, append_assoc, append-nil}
@@ -9,18 +11,14 @@ use borrow.Author.Tests.{eqb-true, eqb-false, ltb-true, ltb-false, eq-eqb}
 use Rattle.std.proofs.Math.ListN.{length-append, get_or-append}
 use Rattle.std.proofs.lemmas.List.{get_or_at}
 use Rattle.timecode.specs.Frames.{usual, following, step_of, written, Sent, no_frame, Generator, Valid}
-use Rattle.timecode.proofs.Laws.Checks.{done}
+use Rattle.timecode.proofs.Laws.Checks.{done-taken}
 use Rattle.timecode.proofs.Laws.Back.{step-again}
 use Rattle.timecode.specs.Laws.Stepping.{length_for, Lands}
 use Rattle.timecode.proofs.Laws.Stepping.{went, step-answers, day-end-range, lands}
 use Rattle.timecode.proofs.Laws.Tests.{by-test, and_right}
 use Rattle.timecode.proofs.Laws.Writing.{length-written, taken, takes}
 use Rattle.timecode.specs.declared.Format.{Format}
-use Rattle.timecode.specs.declared.Stepped.{Stepped}
-use Rattle.timecode.specs.declared.Stepped.TheVariants.{To}
 use Rattle.timecode.specs.declared.Time.{Time}
-use Rattle.timecode.specs.declared.Written.{Written}
-use Rattle.timecode.specs.declared.Written.TheVariants.{Done}
 use Rattle.frametext.specs.Characters.{frame_line, write_answer, frames_text}
 use Rattle.generator.specs.Sending.{begun, begun_of, kind_after, stepped, next_start, start_of, frame_line_for, lines_of, frames_of}
 use Rattle.generator.specs.declared.Start.{Start}
@@ -62,7 +60,7 @@ to-midnight : (f : Format) (t : Time) (given kind : ℕ) (u : Time) → eqb t.da
 to-midnight f t given kind u n (inl p) = absurd (eqb-false t.day u.day n (ap (λ (v : Time). v.day) p.0))
 to-midnight f t given kind u n (inr p) = sym (ap (λ (v : Time). v.hundredths) p.0)
 
-next-step : (f : Format) (t u : Time) (given kind : ℕ) → step_of f t given kind ≡ To u → step_of f u given (kind_after t u kind) ≡ To (following f u (length_for f u given) (kind_after t u kind))
+next-step : (f : Format) (t u : Time) (given kind : ℕ) → step_of f t given kind ≡ Ok u → step_of f u given (kind_after t u kind) ≡ Ok (following f u (length_for f u given) (kind_after t u kind))
 unfolding step_of kind_after
 next-step f t u given kind h =
     let again = step-again f t u given kind h in
@@ -71,28 +69,28 @@ next-step f t u given kind h =
     (λ y. rw y again)
     (λ n.
     let midnight = to-midnight f t (length_for f t given) kind u n (lands f t (length_for f t given) kind u (went f t given kind u h)) in
-    rw n (step-answers f u (length_for f u given) usual w.format w.from w.length_is w.inside refl (omega (arith, midnight, day-end-range f usual)) (To (following f u (length_for f u given) usual))))
+    rw n (step-answers f u (length_for f u given) usual w.format w.from w.length_is w.inside refl (omega (arith, midnight, day-end-range f usual)) (Ok (following f u (length_for f u given) usual))))
 
 step_stays : (f : Format) (s : Start) (given : ℕ) → Steps f s given → Steps f (next_start f s given) given
 unfolding next_start
 step_stays f s given (u, h) = rw h (following f u (length_for f u given) (kind_after s.time u s.kind), next-step f s.time u given s.kind h)
 
-next_is : (f : Format) (s : Start) (given : ℕ) → Steps f s given → step_of f s.time given s.kind ≡ To (next_start f s given).time
+next_is : (f : Format) (s : Start) (given : ℕ) → Steps f s given → step_of f s.time given s.kind ≡ Ok (next_start f s given).time
 unfolding next_start
 next_is f s given (u, h) = rw h
 
-begun-done : (a : Written) (p : Stepped) → begun a p ≡ Done → (a ≡ Done) × ((u : Time) × (p ≡ To u))
-begun-done Done (To u) h = (refl, (u, refl))
-begun-done Done (Stepped.Refused x) h = absurd (done x h)
-begun-done (Written.Refused x) (To u) h = absurd (done x h)
-begun-done (Written.Refused x) (Stepped.Refused y) h = absurd (done x h)
+begun-done : (a : Result Unit Refusal) (p : Result Time Refusal) → begun a p ≡ done → (a ≡ done) × ((u : Time) × (p ≡ Ok u))
+begun-done (Ok u) (Ok t) h = (refl, (t, refl))
+begun-done (Ok u) (Err x) h = absurd (done-taken x h)
+begun-done (Err x) (Ok u) h = absurd (done-taken x h)
+begun-done (Err x) (Err y) h = absurd (done-taken x h)
 
 -- ---- the kind given is the first day's, and every later day is usual
 
-next-kind : (p : Stepped) (s : Start) → (stepped p s).kind ≡ kind_after s.time (stepped p s).time s.kind
+next-kind : (p : Result Time Refusal) (s : Start) → (stepped p s).kind ≡ kind_after s.time (stepped p s).time s.kind
 unfolding kind_after
-next-kind (To u) s = refl
-next-kind (Stepped.Refused x) s = rw (eq-eqb s.time.day s.time.day refl)
+next-kind (Ok u) s = refl
+next-kind (Err x) s = rw (eq-eqb s.time.day s.time.day refl)
 
 next-kind-at : (f : Format) (s : Start) (given k : ℕ) → (start_of f s given (suc k)).kind ≡ kind_after (start_of f s given k).time (start_of f s given (suc k)).time (start_of f s given k).kind
 unfolding start_of next_start
@@ -131,8 +129,8 @@ text-one f s = append-nil (frame_line f s.time s.control)
 
 -- ---- after `begin`'s checks
 
-module _ (f : Format) (s : Start) (w given : ℕ) (b : begun_of f s w given ≡ Done) where
-  begins : (write_answer f s.time w ≡ Done) × Steps f s given
+module _ (f : Format) (s : Start) (w given : ℕ) (b : begun_of f s w given ≡ done) where
+  begins : (write_answer f s.time w ≡ done) × Steps f s given
   unfolding begun_of
   begins = begun-done (write_answer f s.time w) (step_of f s.time given s.kind) b
 
@@ -146,7 +144,7 @@ module _ (f : Format) (s : Start) (w given : ℕ) (b : begun_of f s w given ≡ 
   steps-at (suc k) = step_stays f (start_of f s given k) given (steps-at k)
 
   -- no later step is refused
-  pub step-at : (k : ℕ) → step_of f (start_of f s given k).time given (start_of f s given k).kind ≡ To (start_of f s given (suc k)).time
+  pub step-at : (k : ℕ) → step_of f (start_of f s given k).time given (start_of f s given k).kind ≡ Ok (start_of f s given (suc k)).time
   unfolding start_of
   step-at k = next_is f (start_of f s given k) given (steps-at k)
 

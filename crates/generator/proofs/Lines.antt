@@ -1,34 +1,32 @@
 -- The loop that puts the frames' lines, one frame more at each turn; and the answers of its parts.
-use Rattle.std.specs.Prelude.{◌≡◌, refl, List, [], ◌++◌, ℕ, suc, ◌+◌, ◌-◌, ◌<◌, ◌≤◌, length, take}
+use Rattle.timecode.specs.Answers.{done}
+use Rattle.std.specs.Prelude.{◌≡◌, refl, List, [], ◌++◌, ℕ, suc, ◌+◌, ◌-◌, ◌<◌, ◌≤◌, length, take, Result, Ok, Err}
 use Rattle.std.proofs.Common.{sym, ap, ◌∙◌, arith, length-take-le}
 use Rattle.std.proofs.Math.Decide.{ℕ_discrete}
 use Rattle.timecode.specs.Frames.{step_of}
 use Rattle.timecode.specs.declared.Format.{Format}
 use Rattle.timecode.specs.declared.Refusal.{Refusal}
 use Rattle.timecode.specs.declared.Time.{Time}
-use Rattle.timecode.specs.declared.Written.{Written}
-use Rattle.timecode.specs.declared.Written.TheVariants.{Done}
 use Rattle.frametext.specs.Characters.{frame_line, write_answer, lined, lined_of}
-use Rattle.frametext.specs.declared.Lined.{Lined}
 use Rattle.generator.specs.Sending.{begun, begun_of, next_start, start_of, frame_line_for, lines_of}
 use Rattle.generator.specs.declared.Start.{Start}
 use Rattle.generator.specs.Lines.{stepped_answer, PutSoFar}
 
 -- ---- frame_line's answer is Write's
 
-lined-back : (a : Written) (k : ℕ) → a ≡ stepped_answer (lined a k)
-lined-back Done k = refl
-lined-back (Written.Refused x) k = refl
+lined-back : (a : Result Unit Refusal) (k : ℕ) → a ≡ stepped_answer (lined a k)
+lined-back (Ok u) k = refl
+lined-back (Err x) k = refl
 
-pub taken_is : (f : Format) (t : Time) (w : ℕ) (a : Lined) → a ≡ lined_of f t w → write_answer f t w ≡ stepped_answer a
+pub taken_is : (f : Format) (t : Time) (w : ℕ) (a : Result ℕ Refusal) → a ≡ lined_of f t w → write_answer f t w ≡ stepped_answer a
 unfolding lined_of
 taken_is f t w a h = lined-back (write_answer f t w) (length (frame_line f t w)) ∙ ap stepped_answer (sym h)
 
-pub line-put : (f : Format) (t : Time) (w : ℕ) → write_answer f t w ≡ Done → frame_line f t w ≡ frame_line_for f t w
+pub line-put : (f : Format) (t : Time) (w : ℕ) → write_answer f t w ≡ done → frame_line f t w ≡ frame_line_for f t w
 unfolding frame_line_for
 line-put f t w d = rw d
 
-pub line-none : (f : Format) (t : Time) (w : ℕ) (x : Refusal) → write_answer f t w ≡ Written.Refused x → [] ≡ frame_line_for f t w
+pub line-none : (f : Format) (t : Time) (w : ℕ) (x : Refusal) → write_answer f t w ≡ Err x → [] ≡ frame_line_for f t w
 unfolding frame_line_for
 line-none f t w x r = rw r
 
@@ -38,11 +36,11 @@ part_length k line h n = length-take-le k line (omega arith)
 
 -- ---- the checks
 
-pub begun-step : (f : Format) (s : Start) (w given : ℕ) → write_answer f s.time w ≡ Done → begun Done (step_of f s.time given s.kind) ≡ begun_of f s w given
+pub begun-step : (f : Format) (s : Start) (w given : ℕ) → write_answer f s.time w ≡ done → begun done (step_of f s.time given s.kind) ≡ begun_of f s w given
 unfolding begun_of
 begun-step f s w given d = rw d
 
-pub begun-refused : (f : Format) (s : Start) (w given : ℕ) (x : Refusal) → write_answer f s.time w ≡ Written.Refused x → Written.Refused x ≡ begun_of f s w given
+pub begun-refused : (f : Format) (s : Start) (w given : ℕ) (x : Refusal) → write_answer f s.time w ≡ Err x → Err x ≡ begun_of f s w given
 unfolding begun_of
 begun-refused f s w given x r = rw r
 

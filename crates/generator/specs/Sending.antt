@@ -1,24 +1,22 @@
 -- A generator's frames from a start on, all with one control word and one year length, and their lines.
 -- The start has the kind of its day; every later day is usual.
-use Rattle.std.specs.Prelude.{◌≡◌, cond, List, [], ◌∷◌, ◌++◌, ℕ, zero, suc, ◌-◌, ◌<◌, ◌≤◌, eqb, take}
+use Rattle.timecode.specs.declared.Refusal.{Refusal}
+use Rattle.timecode.specs.Answers.{done}
+use Rattle.std.specs.Prelude.{◌≡◌, cond, List, [], ◌∷◌, ◌++◌, ℕ, zero, suc, ◌-◌, ◌<◌, ◌≤◌, eqb, take, Result, Ok, Err}
 use Rattle.timecode.specs.Frames.{usual, step_of, left, Sent}
 use Rattle.timecode.specs.declared.Format.{Format}
-use Rattle.timecode.specs.declared.Stepped.{Stepped}
-use Rattle.timecode.specs.declared.Stepped.TheVariants.{To}
 use Rattle.timecode.specs.declared.Time.{Time}
-use Rattle.timecode.specs.declared.Written.{Written}
-use Rattle.timecode.specs.declared.Written.TheVariants.{Done}
 use Rattle.frametext.specs.Characters.{frame_line, write_answer}
 use Rattle.generator.specs.declared.Generated.{Generated}
 use Rattle.generator.specs.declared.Start.{Start}
 
 -- Write's checks of the first frame, then Step's of its time, the year length and the kind
-abbrev pub begun : Written → Stepped → Written
-begun Done (To u) = Done
-begun Done (Stepped.Refused x) = Written.Refused x
-begun (Written.Refused x) s = Written.Refused x
+abbrev pub begun : Result Unit Refusal → Result Time Refusal → Result Unit Refusal
+begun (Ok u) (Ok t) = done
+begun (Ok u) (Err x) = Err x
+begun (Err x) s = Err x
 
-unfoldable pub begun_of : Format → Start → ℕ → ℕ → Written
+unfoldable pub begun_of : Format → Start → ℕ → ℕ → Result Unit Refusal
 begun_of f s w given = begun (write_answer f s.time w) (step_of f s.time given s.kind)
 
 -- the kind of the next frame's day: the same on the same day, else usual
@@ -26,9 +24,9 @@ unfoldable pub kind_after : Time → Time → ℕ → ℕ
 kind_after t u kind = cond (eqb t.day u.day) kind usual
 
 -- where the next frame starts; where Step refuses, at the same
-abbrev pub stepped : Stepped → Start → Start
-stepped (To u) s = record { time = u; kind = kind_after s.time u s.kind }
-stepped (Stepped.Refused x) s = s
+abbrev pub stepped : Result Time Refusal → Start → Start
+stepped (Ok u) s = record { time = u; kind = kind_after s.time u s.kind }
+stepped (Err x) s = s
 
 unfoldable pub next_start : Format → Start → ℕ → Start
 next_start f s given = stepped (step_of f s.time given s.kind) s

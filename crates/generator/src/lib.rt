@@ -3,13 +3,12 @@
 #![tactic(auto)]
 
 ghost use Rattle.std.specs.Prelude.{◌≡◌, ◌++◌, ◌+◌, ◌≤◌, take};
-ghost use Rattle.timecode.specs.declared.Written.TheVariants.{Done};
-ghost use Rattle.generator.specs.Sending.{begun, begun_of, kind_after, next_start, frame_line_for, Generates};
+ghost use Rattle.generator.specs.Sending.{begun_of, kind_after, next_start, frame_line_for, Generates};
 
 use clock::step;
-use frametext::{Lined, frame_line};
+use frametext::frame_line;
 use lines::put_text;
-use timecode::{Format, Stepped, Time, Written};
+use timecode::{Format, Refusal, Time};
 
 // Up to here there is room in 65,536 bytes for a line of 256.
 const LAST_START: usize = 65_280;
@@ -29,35 +28,26 @@ pub struct Generated {
     pub filled: usize,
 }
 
-fn check_step(stepped: Stepped) -> Written
-    ensures { result ≡ begun Done stepped }
-{
-    match stepped {
-        Stepped::To(_) => Written::Done,
-        Stepped::Refused(refusal) => Written::Refused(refusal),
-    }
-}
-
 // Whether there are such frames: Write's checks of the first of them, then Step's of its time, the year length and the kind.
-pub fn begin(format: Format, start: Start, control: u64, given: u16) -> Written
+pub fn begin(format: Format, start: Start, control: u64, given: u16) -> Result<(), Refusal>
     ensures { result ≡ begun_of format start control given }
 {
     let mut first = [0u8; 256];
-    let lined = frame_line(format, start.time, control, &mut first);
-    match lined {
-        Lined::Line(_) => check_step(step(format, start.time, given, start.kind)),
-        Lined::Refused(refusal) => Written::Refused(refusal),
-    }
+    frame_line(format, start.time, control, &mut first)?;
+    step(format, start.time, given, start.kind)?;
+    Ok(())
 }
 
 // The kind belongs to the first day alone.
+#[tactic(auto, unfolding(crate::specs::Sending::kind_after))]
 fn kind_after(time: Time, next: Time, kind: u8) -> u8
     ensures { result ≡ kind_after time next kind }
 {
     if time.day == next.day {
-        return kind;
+        kind
+    } else {
+        Time::USUAL_DAY
     }
-    Time::USUAL_DAY
 }
 
 // A refused step leaves the start; after `begin` none is.
@@ -67,11 +57,11 @@ fn next_start(format: Format, start: Start, given: u16) -> Start
     let time = start.time;
     let stepped = step(format, time, given, start.kind);
     match stepped {
-        Stepped::To(next) => Start {
+        Ok(next) => Start {
             time: next,
             kind: kind_after(time, next, start.kind),
         },
-        Stepped::Refused(_) => start,
+        Err(_) => start,
     }
 }
 
@@ -82,8 +72,8 @@ fn put_next(out: &mut [u8; 65536], at: usize, format: Format, time: Time, contro
     let mut line = [0u8; 256];
     let lined = frame_line(format, time, control, &mut line);
     match lined {
-        Lined::Line(k) => put_text(out, at, &line[..k]),
-        Lined::Refused(_) => at,
+        Ok(k) => put_text(out, at, &line[..k]),
+        Err(_) => at,
     }
 }
 
@@ -101,14 +91,11 @@ pub fn generate(
     let mut next = start;
     let mut left = frames;
     let mut filled = 0;
+    // No `for`: the frames or the room may end first, and how many frames are left is answered.
     while 0 < left && filled <= LAST_START {
         filled = put_next(out, filled, format, next.time, control);
         next = next_start(format, next, given);
         left -= 1;
     }
-    Generated {
-        next: next,
-        left: left,
-        filled: filled,
-    }
+    Generated { next, left, filled }
 }

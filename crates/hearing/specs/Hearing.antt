@@ -1,5 +1,7 @@
 -- Feeds heard in blocks: the progress after those that a block takes, the lines of its records, and blocks one after the other.
-use Rattle.std.specs.Prelude.{◌≡◌, Bool, true, ◌&&◌, length, drop}
+use Rattle.block.specs.declared.Taken.{Taken}
+use Rattle.timecode.specs.declared.Refusal.{Refusal}
+use Rattle.std.specs.Prelude.{◌≡◌, Bool, true, ◌&&◌, length, drop, Result, Ok, Err}
 use Rattle.std.proofs.Math.Path.{refl, sym, ap, ap₂}
 use Rattle.std.proofs.Common.{◌∙◌, add-one, arith, length-drop, take-append-drop, take-add}
 use Rattle.std.proofs.Math.Bool.{false}
@@ -19,7 +21,6 @@ use Rattle.stream.specs.declared.Reader.{Reader}
 use Rattle.stream.proofs.FeedLists.{length-feed-answers}
 use Rattle.block.specs.Blocks.{Reported, report_at, Block, stopped, with_first, block_in, block_of, Lists, room_in, are_records, field_left, index_of, year_of, day_of, hundredths_of, control_of, lists_left, block_for, block_answer, feed_block_of}
 use Rattle.block.proofs.Folds.{block-takes, left-first}
-use Rattle.block.specs.declared.BlockAnswer.{BlockAnswer}
 use Rattle.block.specs.declared.FedBlock.{FedBlock}
 use Rattle.block.specs.declared.Stop.{Stop}
 use Rattle.block.specs.declared.Stop.TheVariants.{AllTaken, UnknownSymbol, NoRoom}
@@ -159,13 +160,13 @@ few_reports i (suc room) (Report t w ∷ as') = omega (arith, few_reports (suc i
 -- ---- what the call answers
 
 -- the symbols taken and the reports put in: none, where it refuses
-abbrev pub taken_of : BlockAnswer → ℕ
-taken_of (BlockAnswer.Taken taken reports why) = taken
-taken_of (BlockAnswer.Refused x) = 0
+abbrev pub taken_of : Result Taken Refusal → ℕ
+taken_of (Ok b) = b.symbols
+taken_of (Err x) = 0
 
-abbrev pub reports_of : BlockAnswer → ℕ
-reports_of (BlockAnswer.Taken taken reports why) = reports
-reports_of (BlockAnswer.Refused x) = 0
+abbrev pub reports_of : Result Taken Refusal → ℕ
+reports_of (Ok b) = b.reports
+reports_of (Err x) = 0
 
 answer-says : (r : Reader) (ss : List ℕ) (l : Lists) → (taken_of (block_answer r ss l) ≡ (block_for r ss l).taken) × (reports_of (block_answer r ss l) ≡ length (block_for r ss l).reports)
 unfolding block_answer block_for

@@ -7,13 +7,13 @@ ghost use Rattle.progress.specs.Progress.{after_feeds, text_feeds};
 ghost use Rattle.hearing.specs.Bytes.{after_of, text_of};
 ghost use Rattle.hearing.specs.Hearing.{first_lines, taken_of, reports_of, progress_after};
 
-use block::{BlockAnswer, FedBlock};
+use block::{FedBlock, Taken};
 use block_feed::feed_block;
 use characters::decode;
 use progress::{
     Progress, Progressed, feed_one, more_by, one_more, progress_at, progressed_at, put_report,
 };
-use timecode::Time;
+use timecode::{Refusal, Time};
 
 // The progress after some symbols, how many they were, and where their lines end.
 #[derive(Clone, Copy)]
@@ -24,22 +24,22 @@ struct Heard {
 }
 
 // How many symbols a block took: none, if it was refused.
-fn taken_of(answer: BlockAnswer) -> usize
+fn taken_of(answer: Result<Taken, Refusal>) -> usize
     ensures { result ≡ taken_of answer }
 {
     match answer {
-        BlockAnswer::Taken { symbols, .. } => symbols,
-        BlockAnswer::Refused(_) => 0,
+        Ok(Taken { symbols, .. }) => symbols,
+        Err(_) => 0,
     }
 }
 
 // How many of them reported.
-fn reports_of(answer: BlockAnswer) -> usize
+fn reports_of(answer: Result<Taken, Refusal>) -> usize
     ensures { result ≡ reports_of answer }
 {
     match answer {
-        BlockAnswer::Taken { reports, .. } => reports,
-        BlockAnswer::Refused(_) => 0,
+        Ok(Taken { reports, .. }) => reports,
+        Err(_) => 0,
     }
 }
 
@@ -60,8 +60,7 @@ fn put_lines(
 {
     let first = one_more(elements);
     let mut filled = start;
-    let mut k = 0;
-    while k < count {
+    for k in 0..count {
         let element = more_by(first, indexes[k]);
         let time = Time {
             year: years[k],
@@ -69,7 +68,6 @@ fn put_lines(
             hundredths: hundredths[k],
         };
         filled = put_report(out, filled, element, time, controls[k]);
-        k += 1;
     }
     filled
 }
@@ -91,9 +89,9 @@ fn heard_at(progress: Progress, taken: usize, filled: usize) -> Heard
     ensures { (result.progress ≡ progress) × (result.taken ≡ taken) × (result.filled ≡ filled) }
 {
     Heard {
-        progress: progress,
-        taken: taken,
-        filled: filled,
+        progress,
+        taken,
+        filled,
     }
 }
 
@@ -133,10 +131,11 @@ fn hear_block(progress: Progress, symbols: &[u8], out: &mut [u8], at: usize) -> 
     let current = progress_after(progress, fed);
     let taken = taken_of(answer);
     if taken == symbols.len() {
-        return heard_at(current, taken, filled);
+        heard_at(current, taken, filled)
+    } else {
+        let told = feed_one(current, symbols[taken], out, filled);
+        heard_at(told.progress, taken + 1, told.filled)
     }
-    let told = feed_one(current, symbols[taken], out, filled);
-    heard_at(told.progress, taken + 1, told.filled)
 }
 
 // Hears some symbols, up to the first that is refused.
@@ -147,6 +146,7 @@ fn hear_symbols(progress: Progress, symbols: &[u8], out: &mut [u8], at: usize) -
     let mut current = progress;
     let mut taken = 0;
     let mut filled = at;
+    // No `for`: how many symbols a turn takes, the block says.
     while taken < symbols.len() && !current.ended {
         let heard = hear_block(current, &symbols[taken..], out, filled);
         current = heard.progress;

@@ -4,7 +4,7 @@
 ghost use Rattle.std.specs.Prelude.{◌≡◌};
 ghost use Rattle.forecasts.specs.Forecasting.{is_finite, figures_finite, forecastable, expected_error, forecast_of};
 
-use forecasts::{Forecast, Oscillator};
+use forecasts::Oscillator;
 use timecode::Refusal;
 
 const MOST_SECONDS: u32 = 16_777_216;
@@ -13,34 +13,23 @@ fn is_finite(x: f64) -> bool
     ensures { result ≡ is_finite x }
 {
     let infinity = 1.0 / 0.0;
-    if -infinity < x {
-        return x < infinity;
-    }
-    false
+    -infinity < x && x < infinity
 }
 
+#[tactic(auto, unfolding(forecasts::specs::Forecasting::figures_finite))]
 fn are_figures_finite(oscillator: Oscillator) -> bool
     ensures { result ≡ figures_finite oscillator }
 {
-    if is_finite(oscillator.error) {
-        if is_finite(oscillator.frequency) {
-            if is_finite(oscillator.reference) {
-                return is_finite(oscillator.ageing);
-            }
-        }
-    }
-    false
+    is_finite(oscillator.error)
+        && is_finite(oscillator.frequency)
+        && is_finite(oscillator.reference)
+        && is_finite(oscillator.ageing)
 }
 
 fn is_forecastable(oscillator: Oscillator, seconds: u32) -> bool
     ensures { result ≡ forecastable oscillator seconds }
 {
-    if are_figures_finite(oscillator) {
-        if oscillator.reference != 0.0 {
-            return seconds <= MOST_SECONDS;
-        }
-    }
-    false
+    are_figures_finite(oscillator) && oscillator.reference != 0.0 && seconds <= MOST_SECONDS
 }
 
 // Each operation rounded, in the paper's order.
@@ -54,11 +43,11 @@ fn expected_error(oscillator: Oscillator, t: f64) -> f64
 }
 
 // The expected error after so many whole seconds.
-pub fn forecast(oscillator: Oscillator, seconds: u32) -> Forecast
+pub fn forecast(oscillator: Oscillator, seconds: u32) -> Result<f64, Refusal>
     ensures { result ≡ forecast_of oscillator seconds }
 {
     if is_forecastable(oscillator, seconds) {
-        return Forecast::Expected(expected_error(oscillator, seconds as f64));
+        return Ok(expected_error(oscillator, seconds as f64));
     }
-    Forecast::Refused(Refusal::InvalidForecast)
+    Err(Refusal::InvalidForecast)
 }

@@ -1,6 +1,8 @@
 -- The code's runs: twenty in every format. They are the layout's, and a range of control bits that the table does not list has no elements.
 -- So the digits at them are written and read as at the layout's runs.
-use Rattle.std.specs.Prelude.{◌≡◌, refl, Bool, true, false, cond, ◌&&◌, ◌||◌, List, [], ◌∷◌, ◌++◌, map, ℕ, zero, suc, ◌+◌, ◌*◌, ◌/◌, ◌%◌, ◌^◌, eqb, get_or, length}
+use Rattle.timecode.specs.declared.Refusal.{Refusal}
+use Rattle.timecode.specs.declared.Reading.{Reading}
+use Rattle.std.specs.Prelude.{◌≡◌, refl, Bool, true, false, cond, ◌&&◌, ◌||◌, List, [], ◌∷◌, ◌++◌, map, ℕ, zero, suc, ◌+◌, ◌*◌, ◌/◌, ◌%◌, ◌^◌, eqb, get_or, length, Result}
 use Rattle.std.proofs.Common.{sym, ap, ◌∙◌, div-one, one-mul, zero-add, arith, eqb-true}
 use Rattle.timecode.specs.Formats.{member, is_x, table, look_up, row_of, known, size, carries_control, carries_seconds, carries_year, control_places}
 use Rattle.timecode.specs.Frames.{Valid, total_width, written, covered, marks_agree, element_fits, check_elements}
@@ -50,7 +52,6 @@ use Rattle.timecode.specs.Layout.{
   number_in,
 }
 use Rattle.timecode.specs.declared.Format.{Format}
-use Rattle.timecode.specs.declared.Reading.{Reading}
 use Rattle.timecode.specs.declared.Time.{Time}
 
 -- nine control bits, where the format has them
@@ -224,7 +225,7 @@ pub code-written : (f : Format) (t : Time) (w : ℕ) → encode (size f) (filler
 unfolding written encode
 code-written f t w = same-tabulate (size f) 0 _ _ (code-symbol f t w)
 
-pub code-elements : (f : Format) (i : ℕ) (ss : List ℕ) (a : Reading) → check_elements (filler f) (code_runs f) i ss a ≡ check_elements (filler f) (runs f) i ss a
+pub code-elements : (f : Format) (i : ℕ) (ss : List ℕ) (a : Result Reading Refusal) → check_elements (filler f) (code_runs f) i ss a ≡ check_elements (filler f) (runs f) i ss a
 unfolding check_elements marks_agree element_fits
 code-elements f i [] a = refl
 code-elements f i (s ∷ ss) a = rw (code-held f i, code-elements f (suc i) ss a)

@@ -1,10 +1,11 @@
 -- The loops that put a number: its digits from the last to the first, and how many there are.
-use Rattle.std.specs.Prelude.{◌≡◌, refl, List, [], ◌∷◌, ◌++◌, ℕ, zero, suc, ◌+◌, ◌*◌, ◌-◌, ◌/◌, ◌%◌, ◌^◌, ◌<◌, ◌≤◌, ltb, get_or, length, take, set}
-use Rattle.std.proofs.Common.{sym, ap, ◌∙◌, subst, append_assoc, append-nil, zero-add, div-one, mod-lt, pow-suc, div-lt_iff_lt-mul, add-one, arith, lt-ltb, le-ltb, ltb-true, ltb-false, length-set, length-append, take-suc, ext_get_or, get_or-set_same, get_or-set_other, get_or-take, length-take-le, get_or-append-add}
+use Rattle.std.specs.Prelude.{◌≡◌, refl, List, [], ◌∷◌, ◌++◌, ℕ, zero, suc, ◌+◌, ◌*◌, ◌-◌, ◌/◌, ◌%◌, ◌^◌, ◌<◌, ◌≤◌, ltb, get_or, length, take, drop, set}
+use Rattle.std.proofs.Common.{sym, ap, ◌∙◌, subst, append_assoc, append-nil, zero-add, div-one, mod-lt, pow-suc, div-lt_iff_lt-mul, add-one, arith, lt-ltb, le-ltb, ltb-true, ltb-false, length-set, length-append, length-drop, take_at, ext_get_or, get_or-set_same, get_or-set_other, get_or-take, length-take-le, get_or-append-add}
 use Rattle.std.proofs.Math.Nat.{pow-zero, div-div-eq-div-mul}
 use Rattle.std.proofs.Math.Decide.{ℕ_discrete}
 use Rattle.std.proofs.Math.ListN.{get_or-append}
-use Rattle.std.proofs.Math.Seq.{take-length}
+use Rattle.std.proofs.Math.Seq.{take-append-add}
+use borrow.Rule.Slice.PartMut.{put_mid}
 use Rattle.timecode.proofs.Laws.Runs.{length-tabulate, get_d_tabulate}
 use Rattle.timecode.proofs.Laws.Tests.{by-test}
 use Rattle.timecode.specs.Layout.{tabulate}
@@ -93,13 +94,18 @@ pub onto-together : (b : List ℕ) (ps : List (List ℕ)) → onto b ps ≡ b ++
 onto-together b [] = sym (append-nil b)
 onto-together b (p ∷ ps) = onto-together (b ++ p) ps ∙ append_assoc b p (together ps)
 
--- one byte of a text more
-pub text-turn : (before text now after : List ℕ) (i : ℕ) → i < length text → now ≡ before ++ take i text → after ≡ now ++ (get_or text i 0 ∷ []) → after ≡ before ++ take (i + 1) text
-text-turn before text now after i h p q =
-    q ∙ ap (λ (us : List ℕ). us ++ (get_or text i 0 ∷ [])) p ∙ append_assoc before (take i text) (get_or text i 0 ∷ []) ∙ ap (λ (us : List ℕ). before ++ us) (sym (ap (λ (k : ℕ). take k text) (add-one i) ∙ take-suc text i 0 h))
-
-pub text-end : (before text now : List ℕ) (i : ℕ) → i ≡ length text → now ≡ before ++ take i text → now ≡ before ++ text
-text-end before text now i e p = p ∙ ap (λ (us : List ℕ). before ++ us) (ap (λ (k : ℕ). take k text) e ∙ take-length text)
+-- a text in the part from a place on
+pub text-put : (old part text : List ℕ) (at : ℕ) → at + length text ≤ length old → part ≡ text
+    → (length (put_mid at (at + length text - at) old part) ≡ length old) × (take (at + length text) (put_mid at (at + length text - at) old part) ≡ take at old ++ text)
+text-put old part text at h e =
+    let front : length (take at old) ≡ at = length-take-le at old (omega arith) in
+    let long : length part ≡ length text = ap length e in
+    let rest = drop (at + length text - at) (drop at old) in (
+      simp (length-append, length-drop) (omega arith),
+      ap (λ (m : ℕ). take (m + length text) (take at old ++ (part ++ rest))) (sym front)
+          ∙ take-append-add (take at old) (part ++ rest) (length text)
+          ∙ ap (λ (l : List ℕ). take at old ++ l) (take_at part rest (length text) long ∙ e),
+    )
 
 -- ---- the number of digits
 

@@ -2,7 +2,6 @@
 use Rattle.std.specs.Prelude.{◌≡◌, refl, List, [], ◌∷◌, map, ℕ}
 use Prim.Native.Char.{code}
 use Prim.Native.String.{String, [] as none, ◌∷◌ as ◌then◌}
-use Rattle.timecode.specs.declared.Time.{Time}
 use Rattle.lines.specs.Text.{digit_at, digits_of, places_in, digit_count, decimal, pair_of, clock_of, report_line, counts_line, refused_line}
 
 -- the bytes of a text of ASCII

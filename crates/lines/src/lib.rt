@@ -16,33 +16,41 @@ pub fn put(line: &mut [u8], at: usize, byte: u8) -> usize
     at + 1
 }
 
+// Puts a text behind what stands before the place, in any lent memory that has room for it.
+pub fn put_text(line: &mut [u8], at: usize, text: &[u8]) -> usize
+    requires { at + length text.now ≤ length line.old }
+    ensures { (result ≡ at + length text.now) × (length line.new ≡ length line.old) × (take result line.new ≡ take at line.old ++ text.now) }
+{
+    line[at..at + text.len()].copy_from_slice(text);
+    at + text.len()
+}
+
 // The ASCII code of a digit below 16.
 fn glyph_of(digit: u64) -> u8
     requires { digit < 16 }
     ensures { result ≡ glyph digit }
 {
     if digit < 10 {
-        return 48 + (digit % 16) as u8;
+        48 + digit as u8
+    } else {
+        87 + digit as u8
     }
-    87 + (digit % 16) as u8
 }
 
-// The last digits of a number, as many as the width, the highest first.
-fn put_numeral(line: &mut [u8], at: usize, number: u64, base: u64, width: usize) -> usize
-    requires { (at + width ≤ 64) × (2 ≤ base) × (base ≤ 16) × (length line.old ≡ 64) }
-    ensures { (result ≡ at + width) × (length line.new ≡ 64) × (take result line.new ≡ take at line.old ++ digits_of base width number) }
+// Puts the last digits of a number, as many as the width, the highest first.
+fn put_digits(line: &mut [u8], at: usize, number: u64, base: u64, width: usize) -> usize
+    requires { (at + width ≤ length line.old) × (2 ≤ base) × (base ≤ 16) }
+    ensures { (result ≡ at + width) × (length line.new ≡ length line.old) × (take result line.new ≡ take at line.old ++ digits_of base width number) }
 {
     let mut rest = number;
-    let mut i = 0;
-    while i < width {
+    for i in 0..width {
         line[at + (width - 1 - i)] = glyph_of(rest % base);
         rest /= base;
-        i += 1;
     }
     at + width
 }
 
-// How many decimal digits a number has, with no zero in front.
+// How many decimal digits a number has, with no zero in front. No `for`: how often the loop turns is the answer.
 fn digit_count(number: u64) -> usize
     ensures { (result ≡ digit_count number) × (1 ≤ result) × (result ≤ 20) }
 {
@@ -55,101 +63,115 @@ fn digit_count(number: u64) -> usize
     k
 }
 
-fn put_decimal(line: &mut [u8], at: usize, number: u64) -> usize
-    requires { (at + 20 ≤ 64) × (length line.old ≡ 64) }
-    ensures { (result ≤ at + 20) × (length line.new ≡ 64) × (take result line.new ≡ take at line.old ++ decimal number) }
-{
-    put_numeral(line, at, number, 10, digit_count(number))
+// A line that is being put: its text is the first bytes, as many as are filled.
+#[derive(Clone, Copy)]
+struct Line {
+    bytes: [u8; 64],
+    filled: usize,
+    ghost long: { length bytes ≡ 64 },
+    ghost within: { filled ≤ 64 },
 }
 
-// Two digits and what separates them from the next.
-fn put_pair(line: &mut [u8], at: usize, number: u64, separator: u8) -> usize
-    requires { (at + 3 ≤ 64) × (length line.old ≡ 64) }
-    ensures { (result ≡ at + 3) × (length line.new ≡ 64) × (take result line.new ≡ take at line.old ++ pair_of number separator) }
-{
-    let next = put_numeral(line, at, number, 10, 2);
-    put(line, next, separator)
-}
-
-// hh:mm:ss.cc and a space; the added second is one more than the second before it, 23:59:60.
-fn put_clock(line: &mut [u8], at: usize, hundredths: u32) -> usize
-    requires { (at + 12 ≤ 64) × (length line.old ≡ 64) }
-    ensures { (result ≡ at + 12) × (length line.new ≡ 64) × (take result line.new ≡ take at line.old ++ clock_of hundredths) }
-{
-    let c = hundredths as u64;
-    let added = (hundredths / Time::DAY_LENGTH) as u64;
-    let usual = c / 100 - added;
-    let hour = put_pair(line, at, usual / 60 / 60, b':');
-    let minute = put_pair(line, hour, usual / 60 % 60, b':');
-    let second = put_pair(line, minute, usual % 60 + added, b'.');
-    put_pair(line, second, c % 100, b' ')
-}
-
-fn put_report(line: &mut [u8], element: u64, time: Time, control: u64) -> usize
-    requires { length line.old ≡ 64 }
-    ensures { (result ≤ 64) × (length line.new ≡ 64) × (take result line.new ≡ report_line element time control) }
-{
-    let day = time.day as u64;
-    let number = put_decimal(line, 0, element);
-    let first = put(line, number, b' ');
-    let days = put_numeral(line, first, day, 10, 3);
-    let second = put(line, days, b' ');
-    let clock = put_clock(line, second, time.hundredths);
-    let word = put_numeral(line, clock, control, 16, 12);
-    put(line, word, b'\n')
-}
-
-// Puts a text behind what stands before the place, in any lent memory that has room for it.
-pub fn put_text(line: &mut [u8], at: usize, text: &[u8]) -> usize
-    requires { at + length text.now ≤ length line.old }
-    ensures { (result ≡ at + length text.now) × (length line.new ≡ length line.old) × (take result line.new ≡ take at line.old ++ text.now) }
-{
-    let mut end = at;
-    let mut i = 0;
-    while i < text.len() {
-        end = put(line, end, text[i]);
-        i += 1;
+impl Line {
+    fn new() -> Line
+        ensures { result.filled ≡ 0 }
+    {
+        Line {
+            bytes: [0; 64],
+            filled: 0,
+        }
     }
-    end
-}
 
-fn put_counts(line: &mut [u8], elements: u64, reports: u64) -> usize
-    requires { length line.old ≡ 64 }
-    ensures { (result ≤ 64) × (length line.new ≡ 64) × (take result line.new ≡ counts_line elements reports) }
-{
-    let first = put_text(line, 0, b"elements ");
-    let number = put_decimal(line, first, elements);
-    let second = put_text(line, number, b" reports ");
-    let last = put_decimal(line, second, reports);
-    put(line, last, b'\n')
-}
+    fn put(&mut self, byte: u8)
+        requires { self.old.filled < 64 }
+        ensures { (self.new.filled ≡ self.old.filled + 1) × (take self.new.filled self.new.bytes ≡ take self.old.filled self.old.bytes ++ (byte ∷ [])) }
+    {
+        self.filled = put(&mut self.bytes, self.filled, byte);
+    }
 
-fn put_refused(line: &mut [u8], number: u64) -> usize
-    requires { length line.old ≡ 64 }
-    ensures { (result ≤ 64) × (length line.new ≡ 64) × (take result line.new ≡ refused_line number) }
-{
-    let first = put_text(line, 0, b"refused ");
-    let last = put_decimal(line, first, number);
-    put(line, last, b'\n')
+    fn put_text(&mut self, text: &[u8])
+        requires { self.old.filled + length text.now ≤ 64 }
+        ensures { (self.new.filled ≡ self.old.filled + length text.now) × (take self.new.filled self.new.bytes ≡ take self.old.filled self.old.bytes ++ text.now) }
+    {
+        self.filled = put_text(&mut self.bytes, self.filled, text);
+    }
+
+    fn put_numeral(&mut self, number: u64, base: u64, width: usize)
+        requires { (self.old.filled + width ≤ 64) × (2 ≤ base) × (base ≤ 16) }
+        ensures { (self.new.filled ≡ self.old.filled + width) × (take self.new.filled self.new.bytes ≡ take self.old.filled self.old.bytes ++ digits_of base width number) }
+    {
+        self.filled = put_digits(&mut self.bytes, self.filled, number, base, width);
+    }
+
+    fn put_decimal(&mut self, number: u64)
+        requires { self.old.filled + 20 ≤ 64 }
+        ensures { (self.new.filled ≤ self.old.filled + 20) × (take self.new.filled self.new.bytes ≡ take self.old.filled self.old.bytes ++ decimal number) }
+    {
+        self.put_numeral(number, 10, digit_count(number));
+    }
+
+    // Puts two digits and what separates them from the next.
+    fn put_pair(&mut self, number: u64, separator: u8)
+        requires { self.old.filled + 3 ≤ 64 }
+        ensures { (self.new.filled ≡ self.old.filled + 3) × (take self.new.filled self.new.bytes ≡ take self.old.filled self.old.bytes ++ pair_of number separator) }
+    {
+        self.put_numeral(number, 10, 2);
+        self.put(separator);
+    }
+
+    // Puts hh:mm:ss.cc and a space; the added second is one more than the second before it, 23:59:60.
+    fn put_clock(&mut self, hundredths: u32)
+        requires { self.old.filled + 12 ≤ 64 }
+        ensures { (self.new.filled ≡ self.old.filled + 12) × (take self.new.filled self.new.bytes ≡ take self.old.filled self.old.bytes ++ clock_of hundredths) }
+    {
+        let c = hundredths as u64;
+        let added = (hundredths / Time::DAY_LENGTH) as u64;
+        let usual = c / 100 - added;
+        self.put_pair(usual / 60 / 60, b':');
+        self.put_pair(usual / 60 % 60, b':');
+        self.put_pair(usual % 60 + added, b'.');
+        self.put_pair(c % 100, b' ');
+    }
 }
 
 // The line of a report: how many bytes of the lent line it is.
 pub fn report_line(line: &mut [u8; 64], element: u64, time: Time, control: u64) -> usize
     ensures { (result ≤ 64) × (length line.new ≡ 64) × (take result line.new ≡ report_line element time control) }
 {
-    put_report(line, element, time, control)
+    let mut text = Line::new();
+    text.put_decimal(element);
+    text.put(b' ');
+    text.put_numeral(time.day as u64, 10, 3);
+    text.put(b' ');
+    text.put_clock(time.hundredths);
+    text.put_numeral(control, 16, 12);
+    text.put(b'\n');
+    *line = text.bytes;
+    text.filled
 }
 
 // The last line: how many elements and reports there were.
 pub fn counts_line(line: &mut [u8; 64], elements: u64, reports: u64) -> usize
     ensures { (result ≤ 64) × (length line.new ≡ 64) × (take result line.new ≡ counts_line elements reports) }
 {
-    put_counts(line, elements, reports)
+    let mut text = Line::new();
+    text.put_text(b"elements ");
+    text.put_decimal(elements);
+    text.put_text(b" reports ");
+    text.put_decimal(reports);
+    text.put(b'\n');
+    *line = text.bytes;
+    text.filled
 }
 
 // The line of a refusal, with document 01's number.
 pub fn refused_line(line: &mut [u8; 64], number: u64) -> usize
     ensures { (result ≤ 64) × (length line.new ≡ 64) × (take result line.new ≡ refused_line number) }
 {
-    put_refused(line, number)
+    let mut text = Line::new();
+    text.put_text(b"refused ");
+    text.put_decimal(number);
+    text.put(b'\n');
+    *line = text.bytes;
+    text.filled
 }

@@ -1,13 +1,13 @@
 -- What is asked of the lent lists, index by index; it is what the simulation's definitions ask of the listeners.
 use Rattle.std.specs.Prelude.{◌≡◌, refl, Bool, true, false, cond, ◌&&◌, List, [], ◌∷◌, ℕ, zero, suc, ◌+◌, ◌-◌, ◌<◌, ◌≤◌, leb, ltb, eqb, get_or, length, drop}
-use Rattle.std.proofs.Common.{sym, ap, ap₂, ◌∙◌, not-suc-le-zero, add-one, arith, leb-true, le-leb, lt-ltb, le-ltb, eqb-true, drop_of_length-le, drop-cons}
+use Rattle.std.proofs.Common.{ap, ap₂, ◌∙◌, not-suc-le-zero, add-one, arith, leb-true, le-leb, lt-ltb, le-ltb, eqb-true, drop_of_length-le, drop-cons}
 use Rattle.std.proofs.lemmas.Bool.{lt-leb}
 use Rattle.timecode.specs.Formats.{is_symbol}
 use Rattle.timecode.proofs.Laws.Tests.{and_left, and_right}
 use Rattle.timecode.specs.Layout.{tabulate}
 use Rattle.timecode.specs.Stream.{is_setting}
 use Rattle.simulation.specs.Lent.{damage_at, damages_between, start_of, listener_at, listeners_of, ends_fit}
-use Rattle.simulation.specs.Simulation.{Damage, are_rising, have_symbols, Listener, every, have_settings}
+use Rattle.simulation.specs.Simulation.{are_rising, have_symbols, Listener, every, have_settings}
 
 -- so many indexes from i on
 unfoldable pub every_index : (ℕ → Bool) → ℕ → ℕ → Bool

@@ -14,13 +14,10 @@ use timecode::SPOILED;
 pub fn settings_fit(settings: &[u8]) -> bool
     ensures { result ≡ every_index (λ j. is_setting (get_or settings.now j 0)) (length settings.now - 0) 0 }
 {
-    let mut j = 0;
-    while j < settings.len() {
-        if is_setting(settings[j]) {
-            j += 1;
-            continue;
+    for setting in settings {
+        if !is_setting(*setting) {
+            return false;
         }
-        return false;
     }
     true
 }
@@ -30,26 +27,21 @@ pub fn ends_fit(ends: &[usize], total: usize) -> bool
     ensures { result ≡ ends_fit 0 ends.now total }
 {
     let mut from = 0;
-    let mut j = 0;
-    while j < ends.len() {
-        let end = ends[j];
-        if end < from {
+    for end in ends {
+        if *end < from {
             return false;
         }
-        from = end;
-        j += 1;
+        from = *end;
     }
     from == total
 }
 
+#[tactic(auto, unfolding(crate::specs::Indexes::rises_at))]
 fn rises_at(numbers: &[u64], i: usize, to: usize) -> bool
     requires { (i ≤ to) × (to ≤ length numbers.now) }
     ensures { result ≡ rises_at numbers.now to i }
 {
-    if to - i < 2 {
-        return true;
-    }
-    numbers[i] < numbers[i + 1]
+    to - i < 2 || numbers[i] < numbers[i + 1]
 }
 
 // Number 27: each number is above the one before.
@@ -57,13 +49,10 @@ fn are_rising(numbers: &[u64], from: usize, to: usize) -> bool
     requires { (from ≤ to) × (to ≤ length numbers.now) }
     ensures { result ≡ every_index (rises_at numbers.now to) (to - from) from }
 {
-    let mut i = from;
-    while i < to {
-        if rises_at(numbers, i, to) {
-            i += 1;
-            continue;
+    for i in from..to {
+        if !rises_at(numbers, i, to) {
+            return false;
         }
-        return false;
     }
     true
 }
@@ -73,24 +62,20 @@ fn have_symbols(symbols: &[u8], from: usize, to: usize) -> bool
     requires { (from ≤ to) × (to ≤ length symbols.now) }
     ensures { result ≡ every_index (λ i. is_symbol (get_or symbols.now i 0)) (to - from) from }
 {
-    let mut i = from;
-    while i < to {
+    for i in from..to {
         if SPOILED < symbols[i] {
             return false;
         }
-        i += 1;
     }
     true
 }
 
+#[tactic(auto, unfolding(crate::specs::Indexes::damages_fit))]
 fn damages_fit(numbers: &[u64], symbols: &[u8], from: usize, to: usize) -> bool
     requires { (from ≤ to) × (to ≤ length numbers.now) × (length symbols.now ≡ length numbers.now) }
     ensures { result ≡ damages_fit numbers.now symbols.now from to }
 {
-    if are_rising(numbers, from, to) {
-        return have_symbols(symbols, from, to);
-    }
-    false
+    are_rising(numbers, from, to) && have_symbols(symbols, from, to)
 }
 
 // Number 27 but for a ninth listener.
@@ -99,15 +84,11 @@ pub fn listeners_fit(ends: &[usize], numbers: &[u64], symbols: &[u8]) -> bool
     ensures { result ≡ every_index (λ j. damages_fit numbers.now symbols.now (start_of ends.now j) (get_or ends.now j 0)) (length ends.now - 0) 0 }
 {
     let mut from = 0;
-    let mut j = 0;
-    while j < ends.len() {
-        let end = ends[j];
-        if damages_fit(numbers, symbols, from, end) {
-            from = end;
-            j += 1;
-            continue;
+    for end in ends {
+        if !damages_fit(numbers, symbols, from, *end) {
+            return false;
         }
-        return false;
+        from = *end;
     }
     true
 }

@@ -1,16 +1,16 @@
 -- The damages that lie in a frame, put into it in their order: the damaged frame is that part of the damaged run.
-use Rattle.std.specs.Prelude.{◌≡◌, true, false, cond, ◌&&◌, ◌⊎◌, ltb, length, take, drop, set}
+use Rattle.std.specs.Prelude.{◌≡◌, true, false, cond, ◌&&◌, ◌⊎◌, ltb, length, set}
 use Rattle.std.proofs.Math.Path.{refl, sym}
-use Rattle.std.proofs.Common.{ap, ◌∙◌, inl, inr, length-set, length-drop, ext_get_or, get_or-take, get_or-drop, length-take-le, get_or-set_same}
-use mathlib.Core.List.{List, [], ◌∷◌, ◌++◌}
+use Rattle.std.proofs.Common.{ap, ◌∙◌, inl, inr, length-set, get_or-set_same}
+use mathlib.Core.List.{List, [], ◌∷◌}
 use Prim.Native.Nat.{ℕ, zero, suc, ◌+◌, ◌-◌, ◌<◌, ◌≤◌}
 use native.Mathlib.Omega.{arith}
 use Rattle.std.proofs.Math.Decide.{ℕ_discrete, dec_lt, dec_le}
-use borrow.Author.Tests.{ltb-true, leb-false, lt-ltb, le-ltb, le-leb, lt-leb}
+use borrow.Author.Tests.{ltb-true, leb-false, lt-ltb, le-ltb, le-leb}
 use Rattle.std.proofs.Math.Dec.{leb}
 use Rattle.std.proofs.Math.ListN.{get_or, get_or-eq_default}
 use Rattle.std.proofs.Math.Seq.{get_or-set_other}
-use Rattle.timecode.proofs.Laws.Tests.{by-test, and_left, and_right}
+use Rattle.timecode.proofs.Laws.Tests.{by-test, and_left}
 use Rattle.timecode.specs.Layout.{tabulate}
 use Rattle.receive_many.specs.ManySymbols.{SymbolsBelow}
 use Rattle.simulation.proofs.Damages.{length-damaged}

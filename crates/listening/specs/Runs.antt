@@ -1,10 +1,10 @@
 -- A listener after each frame of a run: its reader and its counts are those of the elements that it heard so far, so after the last frame it counted what the simulation's definition says.
 use Rattle.std.specs.Prelude.{◌≡◌, Bool, true, false, not, ◌&&◌, eqb, leb, ltb, get_or, take, drop}
 use Rattle.std.proofs.Math.Path.{refl, ap}
-use Rattle.std.proofs.Common.{sym, ap₂, ◌∙◌, add-zero, eqb-true, eq-eqb, ne_eqb, lt-ltb, le-leb, length-drop, ext_get_or, get_or-take, get_or-drop, take-add, take_all}
+use Rattle.std.proofs.Common.{sym, ◌∙◌, add-zero, eqb-true, eq-eqb, ne_eqb, lt-ltb, le-leb, length-drop, ext_get_or, get_or-take, get_or-drop, take-add, take_all}
 use Rattle.std.proofs.Math.Bool.{cond}
 use mathlib.Core.List.{List, [], ◌∷◌, ◌++◌, append_assoc, append-nil}
-use Prim.Native.Nat.{ℕ, zero, suc, ◌+◌, ◌*◌, ◌-◌, ◌/◌, ◌%◌, ◌<◌, ◌≤◌}
+use Prim.Native.Nat.{ℕ, suc, ◌+◌, ◌*◌, ◌-◌, ◌/◌, ◌%◌, ◌<◌, ◌≤◌}
 use Rattle.std.proofs.Math.Nat.{mul-le-mul_left, lt_of_mul-lt-mul_left, div-add-mod, mul-mod_right, div-eq_of_eq-mul_right}
 use Rattle.std.proofs.Math.Numerals.{add-one}
 use native.Mathlib.Omega.{arith}
@@ -25,7 +25,7 @@ use Rattle.simulation.proofs.Damages.{length-damaged}
 use Rattle.simulation.specs.Lent.{damages_between}
 use Rattle.simulation.specs.Simulation.{damaged, is_report, first_report, report_count, ends_frame, is_false, false_count, Listener, heard, counts_of}
 use Rattle.simulation.specs.declared.Counts.{Counts}
-use Rattle.stream.proofs.FeedLists.{feed-answers-append, reader-append, length-feed-answers, valid-after, setting-after}
+use Rattle.stream.proofs.FeedLists.{feed-answers-append, reader-append, length-feed-answers}
 use Rattle.stream.specs.Feeding.{fresh_reader, is_valid}
 use Rattle.stream.specs.Refinement.{answers, reader_after}
 use Rattle.stream.proofs.Refinement.{answers-are-plain, fed-is-valid, fed-has-setting}

@@ -28,31 +28,20 @@ pub struct Listening {
 fn same_time(first: Time, second: Time) -> bool
     ensures { result ≡ same_time first second }
 {
-    if first.year == second.year {
-        if first.day == second.day {
-            return first.hundredths == second.hundredths;
-        }
-    }
-    false
+    first.year == second.year && first.day == second.day && first.hundredths == second.hundredths
 }
 
 fn first_after(first: u64, number: u64) -> u64
     ensures { result ≡ cond (eqb first 0) number first }
 {
-    if first == 0 {
-        return number;
-    }
-    first
+    if first == 0 { number } else { first }
 }
 
 fn wrong_after(wrong: u64, right: bool) -> u64
     requires { wrong < 18446744073709551615 }
     ensures { result ≡ cond right wrong (wrong + 1) }
 {
-    if right {
-        return wrong;
-    }
-    wrong + 1
+    if right { wrong } else { wrong + 1 }
 }
 
 fn with_report(counts: Counts, number: u64, right: bool) -> Counts
@@ -83,16 +72,6 @@ fn count_answer(counts: Counts, answer: Answer, number: u64, end: u64, sent: Tim
     }
 }
 
-fn listening_at(reader: Reader, counts: Counts, next: usize) -> Listening
-    ensures { (result.reader ≡ reader) × (result.counts ≡ counts) × (result.next ≡ next) }
-{
-    Listening {
-        reader: reader,
-        counts: counts,
-        next: next,
-    }
-}
-
 // Hears the first n symbols, the elements of one frame as they came; `past` elements came before.
 fn hear(
     reader: Reader,
@@ -110,6 +89,7 @@ fn hear(
     let mut current = reader;
     let mut counted = counts;
     let mut i = 0;
+    // a while: each stride says itself how many symbols it took
     while i < n {
         let stride = advance(current, symbols, i, n);
         let following = stride.reader;
@@ -118,7 +98,11 @@ fn hear(
         counted = count_answer(counted, answer, past + i as u64, end, sent);
         current = following;
     }
-    listening_at(current, counted, next)
+    Listening {
+        reader: current,
+        counts: counted,
+        next,
+    }
 }
 
 // Puts the damages from one index on into the first n bytes, which are the elements of a frame; `past` elements came before it. Gives the index of the first that lies behind the frame.
@@ -135,21 +119,17 @@ fn put_damages(
     ensures { (length frame.new ≡ 100) × PutUpTo past n numbers.now symbols.now from to frame.old result frame.new × (result < to → past + n < get_or numbers.now result 0) }
 {
     let end = past + n as u64;
-    let mut at = from;
-    while at < to {
+    for at in from..to {
         let number = numbers[at];
         if end < number {
             return at;
         }
         if number <= past {
-            at += 1;
             continue;
         }
-        let place = (number - past - 1) as usize;
-        frame[place] = symbols[at];
-        at += 1;
+        frame[(number - past - 1) as usize] = symbols[at];
     }
-    at
+    to
 }
 
 // The listener hears a frame with the damages put in that lie in it.
@@ -184,10 +164,7 @@ fn is_damaged(numbers: &[u64], next: usize, to: usize, end: u64) -> bool
     requires { to ≤ length numbers.now }
     ensures { result ≡ (ltb next to && leb (get_or numbers.now next 0) end) }
 {
-    if next < to {
-        return numbers[next] <= end;
-    }
-    false
+    next < to && numbers[next] <= end
 }
 
 // One listener hears one frame. Where none of its damages lies in the frame, that costs one comparison.

@@ -1,19 +1,20 @@
 -- What the calls leave: the reader that the first line asks for, the lines of the bytes taken, the last line.
-use Rattle.std.specs.Prelude.{◌≡◌, cond, List, [], ℕ, ◌≤◌, length, take}
+use Rattle.stream.specs.declared.Reader.{Reader}
+use Rattle.timecode.specs.declared.Refusal.{Refusal}
+use Rattle.std.specs.Prelude.{◌≡◌, cond, List, [], ℕ, ◌≤◌, length, take, Result, Ok, Err}
 use Rattle.timecode.specs.Answers.{check}
 use Rattle.timecode.specs.Stream.{two_frames}
 use Rattle.timecode.specs.declared.Refusal.TheVariants.{UnknownFormat}
 use Rattle.lines.specs.Text.{counts_line}
 use Rattle.stream.specs.Feeding.{fresh_reader}
-use Rattle.stream.specs.declared.Made.{Made}
 use Rattle.hearing.specs.Bytes.{after_of, text_of}
 use Rattle.listing.specs.Printed.{format_in, is_first_line}
 use Rattle.progress.specs.declared.Progress.{Progress}
 use Rattle.listing.specs.declared.Listed.{Listed}
 
 -- the reader that the first line asks for, or number 1
-unfoldable pub made_from_head : List ℕ → Made
-made_from_head bytes = check Made.Refused UnknownFormat (is_first_line bytes) (Made.Fresh (fresh_reader (format_in bytes) two_frames))
+unfoldable pub made_from_head : List ℕ → Result Reader Refusal
+made_from_head bytes = check Err UnknownFormat (is_first_line bytes) (Ok (fresh_reader (format_in bytes) two_frames))
 
 -- the last line, unless a refusal was it
 unfoldable pub ending_of : Progress → List ℕ

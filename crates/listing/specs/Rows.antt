@@ -1,5 +1,7 @@
 -- Worked listings: what is printed for an input, document 01's own first. One theorem holds of all.
-use Rattle.std.specs.Prelude.{◌≡◌, refl, List, [], ◌∷◌, map, ℕ}
+use Rattle.stream.specs.declared.Reader.{Reader}
+use Rattle.timecode.specs.declared.Refusal.{Refusal}
+use Rattle.std.specs.Prelude.{◌≡◌, refl, List, [], ◌∷◌, map, ℕ, Result, Ok, Err}
 use Prim.Native.String.{String, ◌++◌}
 use Rattle.timecode.specs.Answers.{refusal_number}
 use Rattle.timecode.specs.Formats.{is_x, table, look_up, row_of, known, size, interval, carries_control, carries_seconds, carries_year, control_places, days_in, year_carried, last_day_in, in_range, on_format, carries_leap, second_carried}
@@ -9,7 +11,6 @@ use Rattle.timecode.specs.Stream.{lead, opens, window_length, frame_in, next_in_
 use Rattle.lines.specs.Rows.{ascii}
 use Rattle.lines.specs.Text.{digit_at, digits_of, places_in, digit_count, decimal, pair_of, clock_of, report_line, counts_line, refused_line}
 use Rattle.characters.specs.ByteSymbols.{is_skipped, symbol_of_byte, feeds_of}
-use Rattle.stream.specs.declared.Made.{Made}
 use Rattle.listing.specs.Printed.{is_first_line, printed_for, printed}
 use Rattle.listing.specs.Promises.{made_from_head}
 
@@ -65,9 +66,9 @@ all-rows = refl
 
 -- ---- the reader that a first line asks for: its letter, its expression and its setting, two frames; or the number of a refusal
 
-abbrev head : Made → List ℕ
-head (Made.Fresh r) = r.format.letter ∷ r.format.expression ∷ r.setting ∷ []
-head (Made.Refused x) = refusal_number x ∷ []
+abbrev head : Result Reader Refusal → List ℕ
+head (Ok r) = r.format.letter ∷ r.format.expression ∷ r.setting ∷ []
+head (Err x) = refusal_number x ∷ []
 
 pub all-heads : map (λ s. head (made_from_head (ascii s))) ("H1\n" ∷ "B7\n" ∷ "A/\n" ∷ "H1\r\n" ∷ []) ≡ (72 ∷ 1 ∷ 2 ∷ []) ∷ (66 ∷ 7 ∷ 2 ∷ []) ∷ (1 ∷ []) ∷ (1 ∷ []) ∷ []
 unfolding made_from_head is_first_line ascii known row_of look_up table

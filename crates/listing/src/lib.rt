@@ -9,7 +9,7 @@ ghost use Rattle.listing.specs.Promises.{made_from_head, ListsBytes, PutsLastLin
 use hearing::hear;
 use lines::{counts_line, put_text};
 use progress::{Progress, progress_at};
-use stream::{Made, Reader};
+use stream::Reader;
 use timecode::{Format, Refusal};
 
 // Up to here there is room in 65,536 bytes for a line of 64 for each of a part's 512 symbols, and for the last line.
@@ -27,7 +27,7 @@ pub struct Listed {
 }
 
 // The first line, of which the input's first three bytes decide: a fresh reader of its format, or number 1.
-pub fn begin(head: &[u8]) -> Made
+pub fn begin(head: &[u8]) -> Result<Reader, Refusal>
     ensures { result ≡ made_from_head head.now }
 {
     if 3 <= head.len() {
@@ -41,7 +41,7 @@ pub fn begin(head: &[u8]) -> Made
             }
         }
     }
-    Made::Refused(Refusal::UnknownFormat)
+    Err(Refusal::UnknownFormat)
 }
 
 // Nothing received, nothing printed.
@@ -56,10 +56,7 @@ fn part_end(from: usize, end: usize) -> usize
     requires { from < end }
     ensures { (from < result) × (result ≤ end) × (result ≤ from + 512) }
 {
-    if end - from <= 512 {
-        return end;
-    }
-    from + 512
+    from + (end - from).min(512)
 }
 
 // A part has no more reports than symbols: below half of the lent memory there is room for their lines.
@@ -70,6 +67,7 @@ fn fill(progress: Progress, bytes: &[u8], out: &mut [u8]) -> Listed
     let mut current = progress;
     let mut taken = 0;
     let mut filled = 0;
+    // No `for`: the bytes or the room may end first, and how many bytes were taken is answered.
     while taken < bytes.len() && filled <= LAST_START {
         let end = part_end(taken, bytes.len());
         let after = hear(current, &bytes[taken..end], out, filled);
@@ -79,8 +77,8 @@ fn fill(progress: Progress, bytes: &[u8], out: &mut [u8]) -> Listed
     }
     Listed {
         progress: current,
-        taken: taken,
-        filled: filled,
+        taken,
+        filled,
     }
 }
 
@@ -105,9 +103,10 @@ fn end(progress: Progress, out: &mut [u8]) -> usize
     ensures { PutsLastLine progress result out.new }
 {
     if progress.ended {
-        return 0;
+        0
+    } else {
+        put_counts(out, progress.elements, progress.reports)
     }
-    put_counts(out, progress.elements, progress.reports)
 }
 
 // Puts the last line: how many elements and reports there were, unless a refusal was the last.

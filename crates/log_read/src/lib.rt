@@ -5,19 +5,17 @@ ghost use Rattle.std.specs.Prelude.{◌≡◌, cond, ℕ, ◌+◌, ◌^◌, ◌�
 ghost use Rattle.report_log.specs.Log.{number_in, stands, size_of, read_fields, report_in, fields_after, read_record, read_log};
 
 use log_record::{check_report, field_size, map_of, record_size};
-use report_log::{LogReading, Report};
-use timecode::{Refusal, Time, Written};
+use report_log::{Record, Report};
+use timecode::{Refusal, Time};
 
 // The number in as many bytes as the width, lowest byte first.
 fn number_in(part: &[u8], at: usize, width: usize) -> u64
     requires { (at + width ≤ length part.now) × (width ≤ 6) }
     ensures { (result ≡ number_in (take width (drop at part.now))) × (result < 256 ^ width) }
 {
-    let mut number: u64 = 0;
-    let mut i = width;
-    while 0 < i {
-        i -= 1;
-        number = number * 256 + part[at + i] as u64;
+    let mut number = 0;
+    for i in 0..width {
+        number = number * 256 + part[at + (width - 1 - i)] as u64;
     }
     number
 }
@@ -28,9 +26,10 @@ fn field_in(part: &[u8], at: usize, map: u8, width: usize, before: u64) -> u64
     ensures { (result ≡ cond (stands map) (number_in (take width (drop at part.now))) before) × ((limit : ℕ) → before < limit → 256 ^ width ≤ limit → result < limit) }
 {
     if map % 2 == 1 {
-        return number_in(part, at, width);
+        number_in(part, at, width)
+    } else {
+        before
     }
-    before
 }
 
 // The report that the record at the start of the part says.
@@ -61,43 +60,40 @@ fn report_in(part: &[u8], before: Report) -> Report
             day: day as u16,
             hundredths: hundredths as u32,
         },
-        control: control,
+        control,
     }
 }
 
 // The record at the start of the part, whose place in the log is given.
-fn read_record(part: &[u8], at: usize, before: Report) -> LogReading
+fn read_record(part: &[u8], at: usize, before: Report) -> Result<Option<Record>, Refusal>
     requires { (1 ≤ length part.now) × (at + length part.now ≤ 18446744073709551615) }
     ensures { result ≡ read_record before part.now at }
 {
     let map = part[0];
     let size = record_size(map);
     if part.len() < size {
-        return LogReading::Refused(Refusal::RecordCutShort);
+        return Err(Refusal::RecordCutShort);
     }
     let report = report_in(part, before);
     if map != map_of(before, report) {
-        return LogReading::Refused(Refusal::InvalidRecord);
+        return Err(Refusal::InvalidRecord);
     }
-    let checked = check_report(report);
-    match checked {
-        Written::Done => LogReading::Record {
-            report: report,
-            next: at + size,
-        },
-        Written::Refused(refusal) => LogReading::Refused(refusal),
-    }
+    check_report(report)?;
+    Ok(Some(Record {
+        report,
+        next: at + size,
+    }))
 }
 
 // Reads the record at a place of a log, after the report before. The log ends where the lent part ends.
-pub fn read_report(log: &[u8], at: usize, before: Report) -> LogReading
+pub fn read_report(log: &[u8], at: usize, before: Report) -> Result<Option<Record>, Refusal>
     ensures { result ≡ read_log log.now at before }
 {
     if log.len() < at {
-        return LogReading::Refused(Refusal::StartPastEnd);
+        return Err(Refusal::StartPastEnd);
     }
     if at == log.len() {
-        return LogReading::None;
+        return Ok(None);
     }
     let part = &log[at..];
     read_record(part, at, before)

@@ -3,21 +3,18 @@
 
 ghost use Rattle.std.specs.Prelude.{◌≡◌, cond, not, ◌+◌, ◌≤◌, eqb};
 ghost use Rattle.timecode.specs.Formats.{last_day, in_range};
-ghost use Rattle.timecode.specs.declared.Written.TheVariants.{Done, Refused};
+ghost use Rattle.timecode.specs.Answers.{done};
 ghost use Rattle.report_log.specs.Log.{fields_of, map_of, stands, size_of, fields_after, check_report};
 ghost use Rattle.report_log.specs.declared.Report.{Report};
 
 use report_log::Report;
-use timecode::{Refusal, Time, Written};
+use timecode::{Refusal, Time};
 
 // 1 where the field differs from the report before.
 fn bit(before: u64, now: u64) -> u8
     ensures { (result ≡ cond (not (eqb now before)) 1 0) × (result ≤ 1) }
 {
-    if now == before {
-        return 0;
-    }
-    1
+    if now == before { 0 } else { 1 }
 }
 
 // The map of a report after the one before.
@@ -35,10 +32,7 @@ pub fn map_of(before: Report, report: Report) -> u8
 pub fn field_size(map: u8, width: usize) -> usize
     ensures { (result ≡ cond (stands map) width 0) × (result ≤ width) }
 {
-    if map % 2 == 1 {
-        return width;
-    }
-    0
+    if map % 2 == 1 { width } else { 0 }
 }
 
 // The bytes of a record with that map, the map's own among them; bits 4 to 7 count for none.
@@ -52,29 +46,27 @@ pub fn record_size(map: u8) -> usize
     1 + day + hundredths + control + year
 }
 
+#[tactic(auto, unfolding(timecode::specs::Formats::in_range))]
 fn in_range(time: Time) -> bool
     ensures { result ≡ in_range last_day time }
 {
-    if Time::FIRST_DAY <= time.day {
-        if time.day <= Time::LAST_DAY {
-            return time.hundredths <= Time::LAST_HUNDREDTH;
-        }
-    }
-    false
+    Time::FIRST_DAY <= time.day
+        && time.day <= Time::LAST_DAY
+        && time.hundredths <= Time::LAST_HUNDREDTH
 }
 
 // 2, 17, 9: the ranges of a report.
-pub fn check_report(report: Report) -> Written
-    ensures { result ≡ check_report Refused report Done }
+pub fn check_report(report: Report) -> Result<(), Refusal>
+    ensures { result ≡ check_report Err report done }
 {
     if !in_range(report.time) {
-        return Written::Refused(Refusal::InvalidTime);
+        return Err(Refusal::InvalidTime);
     }
     if Time::LAST_YEAR < report.time.year {
-        return Written::Refused(Refusal::InvalidYear);
+        return Err(Refusal::InvalidYear);
     }
     if Report::CONTROL_LIMIT <= report.control {
-        return Written::Refused(Refusal::ControlTooLong);
+        return Err(Refusal::ControlTooLong);
     }
-    Written::Done
+    Ok(())
 }

@@ -5,14 +5,13 @@
 ghost use Rattle.std.specs.Prelude.{◌≡◌};
 ghost use Rattle.log_results.specs.LogStructs.{log_write_result_of, log_read_result_of};
 
-use ffi::zero_time;
 use refusals::number_of;
-use report_log::{LogReading, LogWritten, Report};
-use timecode::Time;
+use report_log::{Record, Report};
+use timecode::Refusal;
 
 // put_in: 1 where the record was put in, 0 where it does not fit.
 #[repr(C)]
-#[derive(Clone, Copy)]
+#[derive(Clone, Copy, PartialEq, Eq, Default)]
 pub struct LogWriteResult {
     pub number: u8,
     pub put_in: u8,
@@ -21,7 +20,7 @@ pub struct LogWriteResult {
 
 // found: 1 with a report, 0 at the log's end.
 #[repr(C)]
-#[derive(Clone, Copy)]
+#[derive(Clone, Copy, PartialEq, Eq, Default)]
 pub struct LogReadResult {
     pub number: u8,
     pub found: u8,
@@ -29,92 +28,41 @@ pub struct LogReadResult {
     pub next: usize,
 }
 
-pub fn log_write_result(written: LogWritten) -> LogWriteResult
-    ensures { result ≡ log_write_result_of written }
-{
-    match written {
-        LogWritten::Next(next) => LogWriteResult {
-            number: 0,
-            put_in: 1,
-            next: next,
-        },
-        LogWritten::LeftOut => LogWriteResult {
-            number: 0,
-            put_in: 0,
-            next: 0,
-        },
-        LogWritten::Refused(refusal) => LogWriteResult {
-            number: number_of(refusal),
-            put_in: 0,
-            next: 0,
-        },
+impl From<Result<Option<usize>, Refusal>> for LogWriteResult {
+    ghost from_gives = { λ written r. r ≡ log_write_result_of written };
+
+    fn from(written: Result<Option<usize>, Refusal>) -> LogWriteResult {
+        match written {
+            Ok(Some(next)) => LogWriteResult {
+                number: 0,
+                put_in: 1,
+                next,
+            },
+            Ok(None) => LogWriteResult::default(),
+            Err(refusal) => LogWriteResult {
+                number: number_of(refusal),
+                ..LogWriteResult::default()
+            },
+        }
     }
 }
 
-// The struct of a reading field by field. So the time is stored as one word, and a caller that takes the report as the one before loads it as one word:
-// stored in parts it would have to wait for them.
-fn read_number(reading: LogReading) -> u8
-    ensures { result ≡ (log_read_result_of reading).number }
-{
-    match reading {
-        LogReading::Record { report: _, next: _ } => 0,
-        LogReading::None => 0,
-        LogReading::Refused(refusal) => number_of(refusal),
-    }
-}
+impl From<Result<Option<Record>, Refusal>> for LogReadResult {
+    ghost from_gives = { λ reading r. r ≡ log_read_result_of reading };
 
-fn read_found(reading: LogReading) -> u8
-    ensures { result ≡ (log_read_result_of reading).found }
-{
-    match reading {
-        LogReading::Record { report: _, next: _ } => 1,
-        LogReading::None => 0,
-        LogReading::Refused(_) => 0,
-    }
-}
-
-fn read_time(reading: LogReading) -> Time
-    ensures { result ≡ (log_read_result_of reading).report.time }
-{
-    match reading {
-        LogReading::Record { report, next: _ } => report.time,
-        LogReading::None => zero_time(),
-        LogReading::Refused(_) => zero_time(),
-    }
-}
-
-fn read_control(reading: LogReading) -> u64
-    ensures { result ≡ (log_read_result_of reading).report.control }
-{
-    match reading {
-        LogReading::Record { report, next: _ } => report.control,
-        LogReading::None => 0,
-        LogReading::Refused(_) => 0,
-    }
-}
-
-fn read_next(reading: LogReading) -> usize
-    ensures { result ≡ (log_read_result_of reading).next }
-{
-    match reading {
-        LogReading::Record { report: _, next } => next,
-        LogReading::None => 0,
-        LogReading::Refused(_) => 0,
-    }
-}
-
-pub fn log_read_result(reading: LogReading) -> LogReadResult
-    ensures { result ≡ log_read_result_of reading }
-{
-    let time = read_time(reading);
-    let report = Report {
-        time: time,
-        control: read_control(reading),
-    };
-    LogReadResult {
-        number: read_number(reading),
-        found: read_found(reading),
-        report: report,
-        next: read_next(reading),
+    fn from(reading: Result<Option<Record>, Refusal>) -> LogReadResult {
+        match reading {
+            Ok(Some(record)) => LogReadResult {
+                number: 0,
+                found: 1,
+                report: record.report,
+                next: record.next,
+            },
+            Ok(None) => LogReadResult::default(),
+            Err(refusal) => LogReadResult {
+                number: number_of(refusal),
+                ..LogReadResult::default()
+            },
+        }
     }
 }

@@ -1,21 +1,18 @@
 -- A record put field by field: the stores of the parts, one behind another, are the stores of the whole.
-use Rattle.std.specs.Prelude.{◌≡◌, refl, cond, not, List, [], ◌∷◌, ◌++◌, ℕ, suc, ◌+◌, ◌-◌, ◌<◌, ◌≤◌, ◌/◌, ◌%◌, eqb, length, take, drop, set}
+use Rattle.timecode.specs.Answers.{done}
+use Rattle.std.specs.Prelude.{◌≡◌, refl, cond, not, List, [], ◌∷◌, ◌++◌, ℕ, suc, ◌+◌, ◌-◌, ◌<◌, ◌≤◌, ◌/◌, ◌%◌, eqb, length, take, drop, set, Result, Err, Option}
 use Rattle.std.proofs.Common.{sym, ap, ◌∙◌, append-nil, add-zero, zero-add, arith, eq-eqb, ne_eqb, le-leb, length-set, length-append, length-drop, drop_of_length-le, drop-drop, take_all}
 use borrow.Rule.Slice.PartMut.{mid_of, post_of, put_mid}
 use Rattle.std.proofs.lemmas.Bool.{lt-leb}
 use Rattle.std.proofs.lemmas.List.Edits.{sets, sets-eq}
 use Rattle.std.proofs.Math.Seq.{length-sets}
-use Rattle.timecode.specs.declared.Written.{Written}
-use Rattle.timecode.specs.declared.Written.TheVariants.{Done}
 use Rattle.timecode.specs.declared.Refusal.{Refusal}
 use Rattle.timecode.specs.declared.Refusal.TheVariants.{StartPastEnd}
 use Rattle.report_log.specs.declared.Report.{Report}
 use Rattle.report_log.proofs.Checks.{report-passes, report-refused}
-use Rattle.report_log.specs.Log.{bytes_of, fields_of, map_of, changed_of, record_of, size_of, fields_after, check_report, fit_of, write_log, put_at, put_by, log_left}
+use Rattle.report_log.specs.Log.{bytes_of, fields_of, map_of, changed_of, record_of, size_of, fields_after, check_report, fit_of, write_log, put_at, put_by, log_left, next_place, left_out}
 use Rattle.report_log.proofs.Numbers.{length-bytes}
 use Rattle.report_log.proofs.Records.{record-size-is}
-use Rattle.report_log.specs.declared.LogWritten.{LogWritten}
-use Rattle.report_log.specs.declared.LogWritten.TheVariants.{Next, LeftOut}
 
 -- the bytes of a field: none where it is as before
 abbrev pub field_bytes : ℕ → ℕ → ℕ → List ℕ
@@ -154,7 +151,7 @@ sizes p r size h = h p ∙ record-size-is p r
 
 -- the part is put back in the middle: behind it nothing is left of the log
 pub fits-put : (log part : List ℕ) (at : ℕ) (bytes : List ℕ) (size : ℕ) → at ≤ length log → size ≡ length bytes → size ≤ length log - at → part ≡ sets (mid_of at (length log - at) log) 0 bytes
-    → (Next (at + size) ≡ fit_of log at bytes) × (put_mid at (length log - at) log part ≡ fit_left log at bytes)
+    → (next_place (at + size) ≡ fit_of log at bytes) × (put_mid at (length log - at) log part ≡ fit_left log at bytes)
 unfolding fit_of put_at
 fits-put log part at bytes size h e room put =
     let fit : at + length bytes ≤ length log = omega arith in
@@ -167,11 +164,11 @@ fits-put log part at bytes size h e room put =
     ∙ sets-eq bytes (drop at log) 0 (omega arith)
     ∙ ap (λ (xs : List ℕ). bytes ++ xs) (ap (λ (k : ℕ). drop k (drop at log)) (zero-add (length bytes)) ∙ drop-drop (length bytes) at log) in
     rw (le-leb (at + length bytes) (length log) fit) (
-      ap (λ (k : ℕ). Next (at + k)) e,
+      ap (λ (k : ℕ). next_place (at + k)) e,
       ap (λ (xs : List ℕ). take at log ++ xs) (ap (λ (xs : List ℕ). part ++ xs) post ∙ append-nil part ∙ stored),
     )
 
-pub fits_not : (log : List ℕ) (at : ℕ) (bytes : List ℕ) (size : ℕ) → at ≤ length log → size ≡ length bytes → length log - at < size → (LeftOut ≡ fit_of log at bytes) × (log ≡ fit_left log at bytes)
+pub fits_not : (log : List ℕ) (at : ℕ) (bytes : List ℕ) (size : ℕ) → at ≤ length log → size ≡ length bytes → length log - at < size → (left_out ≡ fit_of log at bytes) × (log ≡ fit_left log at bytes)
 unfolding fit_of
 fits_not log at bytes size h e room =
     let out : length log < at + length bytes = omega arith in
@@ -180,21 +177,21 @@ fits_not log at bytes size h e room =
 -- ---- the call
 
 module _ (log : List ℕ) (at : ℕ) (p r : Report) where
-  abbrev Gives : LogWritten → List ℕ → Type 0
+  abbrev Gives : Result (Option ℕ) Refusal → List ℕ → Type 0
   Gives answer after = (answer ≡ write_log log at p r) × (after ≡ log_left log at p r)
 
-  pub write-passed : at ≤ length log → check_report Written.Refused r Done ≡ Done → (answer : LogWritten) (after : List ℕ) → (answer ≡ fit_of log at (record_of p r)) × (after ≡ fit_left log at (record_of p r)) → Gives answer after
+  pub write-passed : at ≤ length log → check_report Err r done ≡ done → (answer : Result (Option ℕ) Refusal) (after : List ℕ) → (answer ≡ fit_of log at (record_of p r)) × (after ≡ fit_left log at (record_of p r)) → Gives answer after
   unfolding write_log log_left
   write-passed h passed answer after g =
-      let whole = report-passes LogWritten.Refused (fit_of log at (record_of p r)) r passed in
+      let whole = report-passes Err (fit_of log at (record_of p r)) r passed in
       rw (le-leb at (length log) h, whole) g
 
-  pub write-refused : at ≤ length log → (x : Refusal) → check_report Written.Refused r Done ≡ Written.Refused x → Gives (LogWritten.Refused x) log
+  pub write-refused : at ≤ length log → (x : Refusal) → check_report Err r done ≡ Err x → Gives (Err x) log
   unfolding write_log log_left
   write-refused h x refused =
-      let whole = report-refused LogWritten.Refused (fit_of log at (record_of p r)) r x refused in
+      let whole = report-refused Err (fit_of log at (record_of p r)) r x refused in
       rw (le-leb at (length log) h, whole) (refl, refl)
 
-  pub write-past : length log < at → Gives (LogWritten.Refused StartPastEnd) log
+  pub write-past : length log < at → Gives (Err StartPastEnd) log
   unfolding write_log log_left
   write-past h = rw (lt-leb at (length log) h) (refl, refl)

@@ -7,8 +7,8 @@ ghost use Rattle.report_log.specs.Log.{bytes_of, record_of, fit_of, write_log, l
 ghost use Rattle.log_write.specs.Parts.{field_bytes, fit_left};
 
 use log_record::{check_report, map_of, record_size};
-use report_log::{LogWritten, Report};
-use timecode::{Refusal, Written};
+use report_log::Report;
+use timecode::Refusal;
 
 // A number in as many bytes as the width, lowest byte first.
 fn put_number(part: &mut [u8], at: usize, number: u64, width: usize)
@@ -16,11 +16,9 @@ fn put_number(part: &mut [u8], at: usize, number: u64, width: usize)
     ensures { part.new ≡ sets part.old at (bytes_of width number) }
 {
     let mut rest = number;
-    let mut i = 0;
-    while i < width {
+    for i in 0..width {
         part[at + i] = (rest % 256) as u8;
         rest /= 256;
-        i += 1;
     }
 }
 
@@ -30,10 +28,11 @@ fn put_field(part: &mut [u8], at: usize, before: u64, number: u64, width: usize)
     ensures { (result ≡ at + length (field_bytes width before number)) × (part.new ≡ sets part.old at (field_bytes width before number)) }
 {
     if number == before {
-        return at;
+        at
+    } else {
+        put_number(part, at, number, width);
+        at + width
     }
-    put_number(part, at, number, width);
-    at + width
 }
 
 // The record, at the start of the part.
@@ -61,29 +60,36 @@ fn put_record(part: &mut [u8], before: Report, report: Report)
 }
 
 // The record of a report in its ranges, put in where it fits.
-fn put_where_fits(log: &mut [u8], at: usize, before: Report, report: Report) -> LogWritten
+fn put_where_fits(
+    log: &mut [u8],
+    at: usize,
+    before: Report,
+    report: Report,
+) -> Result<Option<usize>, Refusal>
     requires { at ≤ length log.old }
     ensures { (result ≡ fit_of log.old at (record_of before report)) × (log.new ≡ fit_left log.old at (record_of before report)) }
 {
     let size = record_size(map_of(before, report));
     if size <= log.len() - at {
         put_record(&mut log[at..], before, report);
-        return LogWritten::Next(at + size);
+        return Ok(Some(at + size));
     }
-    LogWritten::LeftOut
+    Ok(None)
 }
 
 // Adds the record of a report at a place of the lent log. The report before is the last one put in, or all zeros.
-pub fn write_report(log: &mut [u8], at: usize, before: Report, report: Report) -> LogWritten
+pub fn write_report(
+    log: &mut [u8],
+    at: usize,
+    before: Report,
+    report: Report,
+) -> Result<Option<usize>, Refusal>
     ensures value { result ≡ write_log log.old at before report }
     ensures log_after { log.new ≡ log_left log.old at before report }
 {
     if log.len() < at {
-        return LogWritten::Refused(Refusal::StartPastEnd);
+        return Err(Refusal::StartPastEnd);
     }
-    let checked = check_report(report);
-    match checked {
-        Written::Done => put_where_fits(log, at, before, report),
-        Written::Refused(refusal) => LogWritten::Refused(refusal),
-    }
+    check_report(report)?;
+    put_where_fits(log, at, before, report)
 }

@@ -1,67 +1,62 @@
-// Lines of a whole recording, as timelook prints them behind what its output has. Elements are counted from 1, places from 0.
-// Nothing says which bytes a write moves, so these promise to be safe and to end, and no more.
+// Lines of a whole recording, as timelook prints them. Elements are counted from 1, places from 0.
+// Nothing says which bytes a value displays, so these promise to be safe and to end, and no more.
 #![tactic(auto)]
 
-use std::num::wrapping_add_u64;
-use texts::{put_byte, put_bytes, put_decimal, put_numbers};
+use std::fmt;
+use texts::Page;
 use timecode::Format;
 
-pub fn put_format(out: &mut [u8; 65536], at: usize, format: Format) -> usize {
-    let end = put_byte(out, at, format.letter);
-    put_decimal(out, end, format.expression as u64)
+// A format's letter and expression.
+#[derive(Clone, Copy)]
+pub struct Name(pub Format);
+
+impl fmt::Display for Name {
+    fn fmt<W: fmt::Write>(&self, f: &mut fmt::Formatter<W>) -> fmt::Result {
+        let letter = char::from(self.0.letter);
+        let expression = self.0.expression;
+        write!(f, "{letter}{expression}")
+    }
 }
 
-pub fn put_head(out: &mut [u8; 65536], at: usize, format: Format, elements: u64, n: u64) -> usize {
-    let end = put_format(out, at, format);
-    put_numbers(
-        out,
-        end,
-        b": ",
-        elements,
-        b" elements, ",
-        n,
-        b" to a frame\n",
-    )
+// How often each symbol stands in a recording.
+#[derive(Clone, Copy)]
+pub struct Symbols {
+    pub zeros: usize,
+    pub ones: usize,
+    pub marks: usize,
+    pub spoiled: usize,
 }
 
-pub fn put_symbols(
-    out: &mut [u8; 65536],
-    at: usize,
-    zeros: u64,
-    ones: u64,
-    marks: u64,
-    spoiled: u64,
-) -> usize {
-    let end = put_numbers(out, at, b"zeros ", zeros, b", ones ", ones, b"");
-    put_numbers(out, end, b", marks ", marks, b", spoiled ", spoiled, b"\n")
+impl fmt::Display for Symbols {
+    fn fmt<W: fmt::Write>(&self, f: &mut fmt::Formatter<W>) -> fmt::Result {
+        write!(
+            f,
+            "zeros {}, ones {}, marks {}, spoiled {}",
+            self.zeros, self.ones, self.marks, self.spoiled
+        )
+    }
 }
 
-pub fn put_longer(out: &mut [u8; 65536], at: usize) -> usize {
-    put_bytes(
-        out,
-        at,
-        b"there are more elements, which are not looked at\n",
-    )
+pub fn put_head(page: &mut Page, format: Format, elements: usize, n: usize) {
+    let name = Name(format);
+    page.put(format_args!("{name}: {elements} elements, {n} to a frame\n"));
 }
 
-pub fn put_first_frame(out: &mut [u8; 65536], at: usize, place: u64) -> usize {
-    let mut end = put_bytes(out, at, b"Scan finds the first frame at ");
-    end = put_decimal(out, end, wrapping_add_u64(place, 1));
-    put_byte(out, end, b'\n')
+pub fn put_longer(page: &mut Page) {
+    page.put("there are more elements, which are not looked at\n");
 }
 
-pub fn put_no_frame(out: &mut [u8; 65536], at: usize) -> usize {
-    put_bytes(out, at, b"Scan finds no frame\n")
+// The place of the first frame that Scan finds, if there is one.
+pub fn put_first_frame(page: &mut Page, place: Option<usize>) {
+    match place {
+        Some(place) => {
+            let element = place.wrapping_add(1);
+            page.put(format_args!("Scan finds the first frame at {element}\n"));
+        }
+        None => page.put("Scan finds no frame\n"),
+    }
 }
 
-pub fn put_total(out: &mut [u8; 65536], at: usize, reports: u64, stretches: u64) -> usize {
-    put_numbers(
-        out,
-        at,
-        b"in all: reports ",
-        reports,
-        b", stretches ",
-        stretches,
-        b"\n",
-    )
+pub fn put_total(page: &mut Page, reports: u64, stretches: u64) {
+    page.put(format_args!("in all: reports {reports}, stretches {stretches}\n"));
 }

@@ -1,127 +1,99 @@
 // The stretches of a recording that report, the gaps between them, and in each gap the frames that are due.
-// Nothing says which bytes a write moves, so these promise to be safe and to end, and no more.
+// Nothing says which bytes a value displays, so these promise to be safe and to end, and no more.
 #![tactic(auto)]
 
-use frame_lines::put_cut;
 use layout::frame_size;
-use look_frames::{Look, with_frames, with_line};
-use look_times::{Stretch, longer_by, put_gap, put_stretch, stretch_from};
-use report_counts::{Reported, next_report};
-use std::num::{wrapping_add_u64, wrapping_add_usize, wrapping_sub_u64};
+use look_frames::{Frames, LONGEST_LINE};
+use look_times::{Report, Stretch};
+use report_counts::next_report;
 use stream::Reader;
-use timecode::{Format, Time};
+use texts::{Output, WriteFailed};
 
-fn continues(look: Look, format: Format, element: u64) -> bool {
-    let stretch = look.stretch;
-    if stretch.reports == 0 {
-        return false;
+// The stretch under way or the last one, and the frames that are due behind it; and how many stretches and reports there were, without it.
+#[derive(Clone, Copy)]
+pub struct Stretches<'a> {
+    frames: Frames<'a>,
+    stretch: Option<Stretch>,
+    pub stretches: u64,
+    pub reports: u64,
+}
+
+impl<'a> Stretches<'a> {
+    pub fn new(frames: Frames<'a>) -> Stretches<'a> {
+        Stretches {
+            frames,
+            stretch: None,
+            stretches: 0,
+            reports: 0,
+        }
     }
-    wrapping_add_u64(stretch.last, frame_size(format) as u64) == element
-}
 
-fn with_stretch_ended(rt: &HostRuntime, out: &mut [u8; 65536], look: Look) -> Look {
-    let stretch = look.stretch;
-    if stretch.reports == 0 {
-        return look;
+    fn last_element(&self) -> usize {
+        match self.stretch {
+            Some(stretch) => stretch.last.element,
+            None => 0,
+        }
     }
-    let mut after = look;
-    after.stretches = wrapping_add_u64(look.stretches, 1);
-    after.reports = wrapping_add_u64(look.reports, stretch.reports);
-    let end = put_stretch(out, look.filled, stretch);
-    with_line(rt, out, after, end)
-}
 
-// From behind the last report to an element.
-fn with_gap(rt: &HostRuntime, out: &mut [u8; 65536], look: Look, last: u64) -> Look {
-    let stretch = look.stretch;
-    let end = put_gap(out, look.filled, wrapping_add_u64(stretch.last, 1), last);
-    with_line(rt, out, look, end)
-}
-
-fn before_frame(element: u64, format: Format) -> u64 {
-    let n = frame_size(format) as u64;
-    if n <= element {
-        return element - n;
+    fn end_stretch(&mut self, out: &mut Output<'_>) -> Result<(), WriteFailed> {
+        if let Some(stretch) = self.stretch {
+            self.stretches = self.stretches.wrapping_add(1);
+            self.reports = self.reports.wrapping_add(stretch.reports);
+            out.make_room(LONGEST_LINE)?;
+            out.page.put(format_args!("{stretch}\n"));
+        }
+        Ok(())
     }
-    0
-}
 
-fn with_stretch(look: Look, stretch: Stretch) -> Look {
-    let mut next = look;
-    next.stretch = stretch;
-    next
-}
-
-fn with_report(
-    rt: &HostRuntime,
-    out: &mut [u8; 65536],
-    format: Format,
-    recording: &[u8],
-    look: Look,
-    element: usize,
-    time: Time,
-) -> Look {
-    let number = element as u64;
-    if continues(look, format, number) {
-        return with_stretch(look, longer_by(look.stretch, number, time));
+    // From behind the last report to an element, unless there is none.
+    fn print_gap(&self, out: &mut Output<'_>, last: usize) -> Result<(), WriteFailed> {
+        let first = self.last_element().wrapping_add(1);
+        if first <= last {
+            out.make_room(LONGEST_LINE)?;
+            out.page.put(format_args!("gap: {first} to {last}\n"));
+        }
+        Ok(())
     }
-    let ended = with_stretch_ended(rt, out, look);
-    let gap = with_gap(rt, out, ended, before_frame(number, format));
-    let next = with_frames(rt, out, format, recording, gap, element);
-    with_stretch(next, stretch_from(number, time))
-}
 
-// Behind the last report: the last gap, and the frames in it that are due.
-fn with_rest(
-    rt: &HostRuntime,
-    out: &mut [u8; 65536],
-    format: Format,
-    recording: &[u8],
-    look: Look,
-) -> Look {
-    let ended = with_stretch_ended(rt, out, look);
-    let gap = with_gap(rt, out, ended, recording.len() as u64);
-    let last = with_frames(rt, out, format, recording, gap, recording.len());
-    if recording.len() <= last.place {
-        return last;
+    // A report of a frame of n elements: one that is due goes on with the stretch, another ends it.
+    fn take_report(
+        &mut self,
+        out: &mut Output<'_>,
+        report: Report,
+        n: usize,
+    ) -> Result<(), WriteFailed> {
+        if let Some(mut stretch) = self.stretch {
+            if stretch.last.element.wrapping_add(n) == report.element {
+                stretch.push(report);
+                self.stretch = Some(stretch);
+                return Ok(());
+            }
+        }
+        self.end_stretch(out)?;
+        self.print_gap(out, report.element.saturating_sub(n))?;
+        self.frames.print_up_to(out, report.element)?;
+        self.stretch = Some(Stretch::from(report));
+        Ok(())
     }
-    let place = last.place as u64;
-    let end = put_cut(
-        out,
-        last.filled,
-        place,
-        wrapping_sub_u64(recording.len() as u64, place),
-    );
-    with_line(rt, out, last, end)
-}
 
-// The reports one after another: there are no more than elements.
-pub fn with_reports(
-    rt: &HostRuntime,
-    out: &mut [u8; 65536],
-    reader: Reader,
-    recording: &[u8],
-    look: Look,
-) -> Look {
-    let format = reader.format;
-    let mut current = look;
-    let mut hearing = reader;
-    let mut from = 0;
-    let mut left = recording.len();
-    while 0 < left && from < recording.len() {
-        let reported = next_report(hearing, recording, from);
-        let Reported::At {
-            index,
-            time,
-            reader,
-        } = reported
-        else {
-            return with_rest(rt, out, format, recording, current);
-        };
-        from = wrapping_add_usize(index, 1);
-        hearing = reader;
-        current = with_report(rt, out, format, recording, current, from, time);
-        left -= 1;
+    // The reports one after another: there are no more than elements. Behind the last one stands a last gap.
+    pub fn print_all(&mut self, out: &mut Output<'_>, reader: Reader) -> Result<(), WriteFailed> {
+        let recording = self.frames.recording;
+        let n = frame_size(reader.format);
+        let mut hearing = reader;
+        let mut from = 0;
+        for _ in 0..recording.len() {
+            let Some(reported) = next_report(hearing, recording, from) else {
+                break;
+            };
+            hearing = reported.reader;
+            from = reported.index.wrapping_add(1);
+            let time = reported.time;
+            let element = from;
+            self.take_report(out, Report { element, time }, n)?;
+        }
+        self.end_stretch(out)?;
+        self.print_gap(out, recording.len())?;
+        self.frames.print_rest(out)
     }
-    with_rest(rt, out, format, recording, current)
 }

@@ -1,94 +1,74 @@
-// Lines of reports and gaps, as timelook prints them behind what its output has. Elements are counted from 1.
-// Nothing says which bytes a write moves, so these promise to be safe and to end, and no more.
+// Times, reports and stretches of reports, as timelook prints them. Elements are counted from 1.
+// Nothing says which bytes they display, so these promise to be safe and to end, and no more.
 #![tactic(auto)]
 
 use lines::report_line;
-use std::num::wrapping_add_u64;
-use texts::{put_byte, put_bytes, put_decimal, put_numbers};
+use std::fmt;
 use timecode::Time;
 
 // What stands in timeread's line behind the time: a space, the control word in twelve digits and the newline.
 const BEHIND_TIME: usize = 14;
 
+// The day and the time of day, as timeread prints them.
+#[derive(Clone, Copy)]
+pub struct Moment(pub Time);
+
+impl fmt::Display for Moment {
+    // In timeread's line the number 0 and a space stand before them.
+    fn fmt<W: fmt::Write>(&self, f: &mut fmt::Formatter<W>) -> fmt::Result {
+        let mut line = [0u8; 64];
+        let filled = report_line(&mut line, 0, self.0, 0);
+        let text = line
+            .get(2..filled.saturating_sub(BEHIND_TIME))
+            .unwrap_or(b"");
+        f.write_str(std::str::from_utf8(text).unwrap_or(""))
+    }
+}
+
+// The element that brought a report, and the report's time.
+#[derive(Clone, Copy)]
+pub struct Report {
+    pub element: usize,
+    pub time: Time,
+}
+
+impl fmt::Display for Report {
+    fn fmt<W: fmt::Write>(&self, f: &mut fmt::Formatter<W>) -> fmt::Result {
+        write!(f, "{} {}", self.element, Moment(self.time))
+    }
+}
+
 // The first and the last report of a stretch, and how many there are.
 #[derive(Clone, Copy)]
 pub struct Stretch {
     pub reports: u64,
-    pub first: u64,
-    pub start: Time,
-    pub last: u64,
-    pub end: Time,
+    pub first: Report,
+    pub last: Report,
 }
 
-// With a report more.
-pub fn longer_by(stretch: Stretch, element: u64, time: Time) -> Stretch {
-    let mut longer = stretch;
-    longer.reports = wrapping_add_u64(stretch.reports, 1);
-    longer.last = element;
-    longer.end = time;
-    longer
-}
-
-// With a report alone.
-pub fn stretch_from(element: u64, time: Time) -> Stretch {
-    Stretch {
-        reports: 1,
-        first: element,
-        start: time,
-        last: element,
-        end: time,
-    }
-}
-
-fn put_part(out: &mut [u8; 65536], at: usize, text: &[u8], from: usize, to: usize) -> usize {
-    if from <= to {
-        if to <= text.len() {
-            return put_bytes(out, at, &text[from..to]);
+impl From<Report> for Stretch {
+    fn from(report: Report) -> Stretch {
+        Stretch {
+            reports: 1,
+            first: report,
+            last: report,
         }
     }
-    at
 }
 
-// It takes the array, whose length a caller need not show.
-fn put_of_line(out: &mut [u8; 65536], at: usize, line: &[u8; 64], from: usize, to: usize) -> usize {
-    put_part(out, at, line, from, to)
-}
-
-fn time_end(filled: usize) -> usize {
-    if BEHIND_TIME <= filled {
-        return filled - BEHIND_TIME;
+impl Stretch {
+    pub fn push(&mut self, report: Report) {
+        self.reports = self.reports.wrapping_add(1);
+        self.last = report;
     }
-    0
 }
 
-// An element's number, the day and the time of day, as timeread prints them.
-fn put_report(out: &mut [u8; 65536], at: usize, element: u64, time: Time) -> usize {
-    let mut line = [0u8; 64];
-    let filled = report_line(&mut line, element, time, 0);
-    put_of_line(out, at, &line, 0, time_end(filled))
-}
-
-// The day and the time of day alone: the number 0 and a space stand before them.
-pub fn put_time(out: &mut [u8; 65536], at: usize, time: Time) -> usize {
-    let mut line = [0u8; 64];
-    let filled = report_line(&mut line, 0, time, 0);
-    put_of_line(out, at, &line, 2, time_end(filled))
-}
-
-pub fn put_stretch(out: &mut [u8; 65536], at: usize, stretch: Stretch) -> usize {
-    let mut end = put_bytes(out, at, b"reports ");
-    end = put_decimal(out, end, stretch.reports);
-    end = put_bytes(out, end, b": ");
-    end = put_report(out, end, stretch.first, stretch.start);
-    end = put_bytes(out, end, b" to ");
-    end = put_report(out, end, stretch.last, stretch.end);
-    put_byte(out, end, b'\n')
-}
-
-// From the first element without a report to the last, unless there is none.
-pub fn put_gap(out: &mut [u8; 65536], at: usize, first: u64, last: u64) -> usize {
-    if last < first {
-        return at;
+impl fmt::Display for Stretch {
+    fn fmt<W: fmt::Write>(&self, f: &mut fmt::Formatter<W>) -> fmt::Result {
+        write!(
+            f,
+            "reports {}: {} to {}",
+            self.reports, self.first, self.last
+        )
     }
-    put_numbers(out, at, b"gap: ", first, b" to ", last, b"\n")
 }

@@ -12,7 +12,7 @@ use Rattle.timecode.proofs.Laws.Marks.{size-positive, size-large, first-mark, la
 use Rattle.timecode.proofs.Laws.Reading.{accepted-was-written}
 use Rattle.timecode.proofs.Laws.Table.{two-sizes, size-range}
 use Rattle.timecode.proofs.Laws.Tests.{by-test}
-use Rattle.timecode.specs.Laws.Windows.{long, Confirmed}
+use Rattle.timecode.specs.Laws.Windows.{long, Confirmed, time_of, control_of}
 use Rattle.timecode.proofs.Laws.Windows.{lead-one, lead-none, lead-small, length-frame-in, at-frame, first_of, before_of}
 use Rattle.timecode.proofs.Laws.Writing.{length-written}
 use Rattle.timecode.specs.Stream.{lead, frame_in}
@@ -100,7 +100,7 @@ module _ (f : Format) (m : ℕ) (sent : List Sent) (gen : Generator f sent) (win
           (λ i x. let h : i < size f = omega (arith, length-frame-in f m window s m (omega arith)) in at i h (dec_lt (i + alike_at_end f) (size f)))
 
       right : (c.times m ≡ (sent_at sent j).time) × (c.controls m ≡ (sent_at sent j).control)
-      right = let read = sym (c.reads m (omega arith)) ∙ ap (read_of f) whole ∙ frame-reads f sent gen j b in (cc, cc)
+      right = let read = sym (c.reads m (omega arith)) ∙ ap (read_of f) whole ∙ frame-reads f sent gen j b in (ap time_of read, ap control_of read)
 
   -- a frame of the generator begins at a, and r frames on the window's last: its end need not be the generator's
   last-from : (a r : ℕ) → a % size f ≡ 0 → a + size f * suc r ≤ length (elements f sent) + 1

@@ -1,6 +1,7 @@
 -- The loops of decoding, turn by turn.
-use Rattle.std.specs.Prelude.{◌≡◌, refl, Bool, true, false, ◌&&◌, List, ℕ, suc, ◌+◌, ◌*◌, ◌-◌, ◌<◌, ◌≤◌, leb, length, take, drop, get_or, set}
-use Rattle.std.proofs.Common.{sym, ap, ◌∙◌, le_trans, le_of_eq, add-one, arith, ne_eqb, le-leb, drop_of_length-le, length-drop, drop-cons, length-take-le}
+use Rattle.timecode.specs.Answers.{done}
+use Rattle.std.specs.Prelude.{◌≡◌, refl, Bool, true, false, ◌&&◌, List, ℕ, suc, ◌+◌, ◌*◌, ◌-◌, ◌<◌, ◌≤◌, leb, length, take, drop, get_or, set, Err, [], ◌∷◌, zero}
+use Rattle.std.proofs.Common.{sym, ap, ◌∙◌, le_trans, le_of_eq, add-one, arith, ne_eqb, le-leb, drop_of_length-le, length-drop, drop-cons, length-take-le, take_all}
 use Rattle.std.proofs.lemmas.Bool.{lt-leb}
 use Rattle.timecode.proofs.Laws.Runs.{fill_step, fill_end}
 use Rattle.timecode.specs.Layout.{tabulate}
@@ -8,8 +9,6 @@ use Rattle.timecode.proofs.Laws.Table.{size-range}
 use Rattle.timecode.specs.declared.Format.{Format}
 use Rattle.timecode.specs.declared.Refusal.{Refusal}
 use Rattle.timecode.specs.declared.Refusal.TheVariants.{UnknownCycle}
-use Rattle.timecode.specs.declared.Written.{Written}
-use Rattle.timecode.specs.declared.Written.TheVariants.{Done}
 use Rattle.cycles.proofs.Checks.{checked, checks-pass, checks-refuse}
 use Rattle.cycles.specs.Cycles.{check_frame, is_proper, first_improper, symbol_in, cycles_at, symbols_in, decode_of, decode_leaves}
 use Rattle.cycles.specs.Elements.{leading, all_low, all_proper}
@@ -17,41 +16,25 @@ use Rattle.cycles.proofs.Elements.{count-parts, all-proper, some-improper}
 
 -- ---- the searches
 
-pub low-on : (xs : List ℕ) (i : ℕ) → i < length xs → get_or xs i 0 ≡ 2 → all_low (drop i xs) ≡ all_low (drop (i + 1) xs)
-unfolding all_low
-low-on xs i h y = rw (drop-cons xs i 0 h, y, add-one i)
-
-pub low-off : (xs : List ℕ) (i : ℕ) → i < length xs → (get_or xs i 0 ≡ 2 → ⊥) → all_low (drop i xs) ≡ false
-unfolding all_low
-low-off xs i h n = rw (drop-cons xs i 0 h, ne_eqb (get_or xs i 0) 2 n)
-
-pub low_end : (xs : List ℕ) (i : ℕ) → length xs ≤ i → all_low (drop i xs) ≡ true
-unfolding all_low
-low_end xs i h = rw (drop_of_length-le xs {i = i} h)
-
-pub leading-on : (xs : List ℕ) (i : ℕ) → i < length xs → get_or xs i 0 ≡ 1 → i + leading (drop i xs) ≡ i + 1 + leading (drop (i + 1) xs)
+pub leading-is : (xs : List ℕ) (i : ℕ) → i ≤ length xs → ((k : ℕ) → k < i → get_or xs k 0 ≡ 1) → (i < length xs → get_or xs i 0 ≡ 1 → ⊥) → i ≡ leading xs
 unfolding leading
-leading-on xs i h y = rw (drop-cons xs i 0 h, y, add-one i) (omega arith)
+leading-is [] i h b f = omega arith
+leading-is (x ∷ xs) zero h b f = rw (ne_eqb x 1 (f (omega arith)))
+leading-is (x ∷ xs) (suc i) h b f =
+    let e : x ≡ 1 = b 0 (omega arith) in
+    rw e (ap suc (leading-is xs i (omega arith) (λ k u. b (suc k) (omega arith)) (λ u. f (omega arith))))
 
-pub leading-off : (xs : List ℕ) (i : ℕ) → i < length xs → (get_or xs i 0 ≡ 1 → ⊥) → i + leading (drop i xs) ≡ i
-unfolding leading
-leading-off xs i h n = rw (drop-cons xs i 0 h, ne_eqb (get_or xs i 0) 1 n) (omega arith)
-
-pub leading_end : (xs : List ℕ) (i : ℕ) → length xs ≤ i → i + leading (drop i xs) ≡ i
-unfolding leading
-leading_end xs i h = rw (drop_of_length-le xs {i = i} h) (omega arith)
-
-pub improper-on : (xs : List ℕ) (i : ℕ) → i < length xs → is_proper (get_or xs i 0) ≡ true → i + first_improper (drop i xs) ≡ i + 1 + first_improper (drop (i + 1) xs)
+pub improper-is : (xs : List ℕ) (i : ℕ) → i ≤ length xs → ((k : ℕ) → k < i → is_proper (get_or xs k 0) ≡ true) → (i < length xs → is_proper (get_or xs i 0) ≡ false) → i ≡ first_improper xs
 unfolding first_improper
-improper-on xs i h y = rw (drop-cons xs i 0 h, y, add-one i) (omega arith)
+improper-is [] i h b f = omega arith
+improper-is (x ∷ xs) zero h b f = let e : is_proper x ≡ false = f (omega arith) in rw e
+improper-is (x ∷ xs) (suc i) h b f =
+    let e : is_proper x ≡ true = b 0 (omega arith) in
+    rw e (ap suc (improper-is xs i (omega arith) (λ k u. b (suc k) (omega arith)) (λ u. f (omega arith))))
 
-pub improper-off : (xs : List ℕ) (i : ℕ) → i < length xs → is_proper (get_or xs i 0) ≡ false → i + first_improper (drop i xs) ≡ i
-unfolding first_improper
-improper-off xs i h n = rw (drop-cons xs i 0 h, n) (omega arith)
-
-pub improper-end : (xs : List ℕ) (i : ℕ) → length xs ≤ i → i + first_improper (drop i xs) ≡ i
-unfolding first_improper
-improper-end xs i h = rw (drop_of_length-le xs {i = i} h) (omega arith)
+-- the cycles behind the high ones, as a slice has them
+pub low-tail : (xs : List ℕ) (k : ℕ) (r b : Bool) → k ≡ leading xs → r ≡ all_low (take (length xs - k) (drop k xs)) → r ≡ b → all_low (drop (leading xs) xs) ≡ b
+low-tail xs k r b e p q = rw (← e) (ap all_low (sym (take_all (length xs - k) (drop k xs) (omega (arith, length-drop k xs)))) ∙ sym p ∙ q)
 
 -- ---- one more symbol
 
@@ -74,15 +57,13 @@ part_length M cs at h =
 
 -- ---- the test of all cycles
 
-pub proper-on : (xs : List ℕ) (i : ℕ) (proper : Bool) → i < length xs → (proper && all_proper (drop i xs)) ≡ ((is_proper (get_or xs i 0) && proper) && all_proper (drop (i + 1) xs))
+pub proper-on : (xs : List ℕ) (i : ℕ) (proper : Bool) → i < length xs → (proper && all_proper (drop i xs)) ≡ ((proper && is_proper (get_or xs i 0)) && all_proper (drop (i + 1) xs))
 unfolding all_proper
 proper-on xs i proper h = rw (drop-cons xs i 0 h, add-one i) (turn proper (is_proper (get_or xs i 0)) (all_proper (drop (suc i) xs)))
   where
-    turn : (a b c : Bool) → (a && (b && c)) ≡ ((b && a) && c)
-    turn true true c = refl
-    turn true false c = refl
-    turn false true c = refl
-    turn false false c = refl
+    turn : (a b c : Bool) → (a && (b && c)) ≡ ((a && b) && c)
+    turn true b c = refl
+    turn false b c = refl
 
 pub proper-end : (xs : List ℕ) (i : ℕ) (proper : Bool) → length xs ≤ i → (proper && all_proper (drop i xs)) ≡ proper
 unfolding all_proper
@@ -98,27 +79,27 @@ improper-some cs h = lt-leb (length cs) (first_improper cs) (some-improper cs h)
 -- ---- the call, by its checks
 
 module _ (f : Format) (M : ℕ) (cycles lent : List ℕ) where
-  pub decode-room : check_frame f M (length lent) (length cycles) Done ≡ Done → (M ≤ 100) × (length lent ≤ 100) × (length cycles ≡ length lent * M)
+  pub decode-room : check_frame f M (length lent) (length cycles) done ≡ done → (M ≤ 100) × (length lent ≤ 100) × (length cycles ≡ length lent * M)
   decode-room h =
-      let c = (checked f M (length lent) (length cycles) Done h).0 in
+      let c = (checked f M (length lent) (length cycles) done h).0 in
       let most = size-range f in
       ((count-parts M c.count).1, le_trans (le_of_eq c.elements) most.1, c.all ∙ ap (λ (n : ℕ). n * M) (sym c.elements))
 
-  pub decode-done : (new : List ℕ) → check_frame f M (length lent) (length cycles) Done ≡ Done → all_proper cycles ≡ true → new ≡ symbols_in M (length lent) cycles → (Done ≡ decode_of f M cycles lent) × (new ≡ decode_leaves f M cycles lent)
+  pub decode-done : (new : List ℕ) → check_frame f M (length lent) (length cycles) done ≡ done → all_proper cycles ≡ true → new ≡ symbols_in M (length lent) cycles → (done ≡ decode_of f M cycles lent) × (new ≡ decode_leaves f M cycles lent)
   unfolding decode_of decode_leaves
   decode-done new h u k =
-      let c = (checked f M (length lent) (length cycles) Done h).0 in
-      let e : decode_of f M cycles lent ≡ Done = checks-pass f M (length lent) (length cycles) _ c ∙ rw (proper-all cycles u) in
+      let c = (checked f M (length lent) (length cycles) done h).0 in
+      let e : decode_of f M cycles lent ≡ done = checks-pass f M (length lent) (length cycles) _ c ∙ rw (proper-all cycles u) in
       (sym e, k ∙ rw (e, c.elements))
 
-  decode-leaves : (r : Refusal) → decode_of f M cycles lent ≡ Written.Refused r → (Written.Refused r ≡ decode_of f M cycles lent) × (lent ≡ decode_leaves f M cycles lent)
+  decode-leaves : (r : Refusal) → decode_of f M cycles lent ≡ Err r → (Err r ≡ decode_of f M cycles lent) × (lent ≡ decode_leaves f M cycles lent)
   unfolding decode_leaves
   decode-leaves r e = (sym e, rw e)
 
-  pub decode-improper : (i : ℕ) → check_frame f M (length lent) (length cycles) Done ≡ Done → all_proper cycles ≡ false → i ≡ first_improper cycles → (Written.Refused (UnknownCycle i) ≡ decode_of f M cycles lent) × (lent ≡ decode_leaves f M cycles lent)
+  pub decode-improper : (i : ℕ) → check_frame f M (length lent) (length cycles) done ≡ done → all_proper cycles ≡ false → i ≡ first_improper cycles → (Err (UnknownCycle i) ≡ decode_of f M cycles lent) × (lent ≡ decode_leaves f M cycles lent)
   unfolding decode_of
-  decode-improper i h u e = decode-leaves (UnknownCycle i) (checks-pass f M (length lent) (length cycles) _ (checked f M (length lent) (length cycles) Done h).0 ∙ rw (improper-some cycles u, e))
+  decode-improper i h u e = decode-leaves (UnknownCycle i) (checks-pass f M (length lent) (length cycles) _ (checked f M (length lent) (length cycles) done h).0 ∙ rw (improper-some cycles u, e))
 
-  pub decode-refused : (r : Refusal) → check_frame f M (length lent) (length cycles) Done ≡ Written.Refused r → (Written.Refused r ≡ decode_of f M cycles lent) × (lent ≡ decode_leaves f M cycles lent)
+  pub decode-refused : (r : Refusal) → check_frame f M (length lent) (length cycles) done ≡ Err r → (Err r ≡ decode_of f M cycles lent) × (lent ≡ decode_leaves f M cycles lent)
   unfolding decode_of
   decode-refused r h = decode-leaves r (checks-refuse f M (length lent) (length cycles) _ r h)

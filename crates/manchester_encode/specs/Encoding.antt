@@ -1,5 +1,6 @@
 -- The loops of encoding, turn by turn.
-use Rattle.std.specs.Prelude.{◌≡◌, refl, true, false, ◌&&◌, List, [], ◌∷◌, ◌++◌, ℕ, zero, suc, ◌+◌, ◌*◌, ◌-◌, ◌%◌, ◌<◌, ◌≤◌, leb, eqb, length, take, drop, get_or, set, replicate}
+use Rattle.timecode.specs.Answers.{done}
+use Rattle.std.specs.Prelude.{◌≡◌, refl, true, false, ◌&&◌, List, [], ◌∷◌, ◌++◌, ℕ, zero, suc, ◌+◌, ◌*◌, ◌-◌, ◌%◌, ◌<◌, ◌≤◌, leb, eqb, length, take, drop, get_or, set, replicate, Err}
 use Rattle.std.proofs.Common.{sym, ap, ap₂, ◌∙◌, append_assoc, append-nil, add-zero, add-one, arith, leb-true, le-leb, drop_of_length-le, length-append, length-set, length-drop, take-suc, take-suc-set, take-take, take-add, length-take-le, drop-cons, drop-drop, drop_at, take_at, get_or-drop}
 use Rattle.std.proofs.lemmas.List.{replicate-append-replicate, length-replicate}
 use Rattle.std.proofs.Math.Seq.{take-length, take-append-add}
@@ -8,8 +9,6 @@ use Rattle.timecode.proofs.Laws.Tests.{by-test}
 use Rattle.timecode.specs.declared.Format.{Format}
 use Rattle.timecode.specs.declared.Refusal.{Refusal}
 use Rattle.timecode.specs.declared.Refusal.TheVariants.{UnknownSymbol}
-use Rattle.timecode.specs.declared.Written.{Written}
-use Rattle.timecode.specs.declared.Written.TheVariants.{Done}
 use Rattle.cycles.proofs.Checks.{checked, checks-pass, checks-refuse}
 use Rattle.cycles.specs.Cycles.{check_frame, highs, element, cycles_of, unspoiled, encode_of, encode_leaves}
 use Rattle.cycles.proofs.Elements.{count-parts, highs-within}
@@ -239,27 +238,27 @@ unspoiled-end xs i a h u = sym (u ∙ rw (drop_of_length-le xs {i = i} h) (by-te
 -- ---- the call, by its checks
 
 module _ (f : Format) (M : ℕ) (frame lent : List ℕ) where
-  pub encode-room : check_frame f M (length frame) (length lent) Done ≡ Done → (10 ≤ M) × (M ≤ 100) × (M % 10 ≡ 0) × (0 < length frame) × (length lent ≡ length frame * M)
+  pub encode-room : check_frame f M (length frame) (length lent) done ≡ done → (10 ≤ M) × (M ≤ 100) × (M % 10 ≡ 0) × (0 < length frame) × (length lent ≡ length frame * M)
   encode-room h =
-      let c = (checked f M (length frame) (length lent) Done h).0 in
+      let c = (checked f M (length frame) (length lent) done h).0 in
       let some = size-positive f in
       let p = count-parts M c.count in
       (p.0, p.1, p.2, omega (arith, c.elements), c.all ∙ ap (λ (n : ℕ). n * M) (sym c.elements))
 
-  pub encode-done : (new : List ℕ) → check_frame f M (length frame) (length lent) Done ≡ Done → unspoiled frame ≡ true → new ≡ cycles_of M frame → (Done ≡ encode_of f M frame lent) × (new ≡ encode_leaves f M frame lent)
+  pub encode-done : (new : List ℕ) → check_frame f M (length frame) (length lent) done ≡ done → unspoiled frame ≡ true → new ≡ cycles_of M frame → (done ≡ encode_of f M frame lent) × (new ≡ encode_leaves f M frame lent)
   unfolding encode_of encode_leaves
   encode-done new h u k =
-      let e : encode_of f M frame lent ≡ Done = checks-pass f M (length frame) (length lent) _ (checked f M (length frame) (length lent) Done h).0 ∙ rw u in
+      let e : encode_of f M frame lent ≡ done = checks-pass f M (length frame) (length lent) _ (checked f M (length frame) (length lent) done h).0 ∙ rw u in
       (sym e, k ∙ rw e)
 
-  encode-leaves : (r : Refusal) → encode_of f M frame lent ≡ Written.Refused r → (Written.Refused r ≡ encode_of f M frame lent) × (lent ≡ encode_leaves f M frame lent)
+  encode-leaves : (r : Refusal) → encode_of f M frame lent ≡ Err r → (Err r ≡ encode_of f M frame lent) × (lent ≡ encode_leaves f M frame lent)
   unfolding encode_leaves
   encode-leaves r e = (sym e, rw e)
 
-  pub encode-spoiled : check_frame f M (length frame) (length lent) Done ≡ Done → unspoiled frame ≡ false → (Written.Refused UnknownSymbol ≡ encode_of f M frame lent) × (lent ≡ encode_leaves f M frame lent)
+  pub encode-spoiled : check_frame f M (length frame) (length lent) done ≡ done → unspoiled frame ≡ false → (Err UnknownSymbol ≡ encode_of f M frame lent) × (lent ≡ encode_leaves f M frame lent)
   unfolding encode_of
-  encode-spoiled h u = encode-leaves UnknownSymbol (checks-pass f M (length frame) (length lent) _ (checked f M (length frame) (length lent) Done h).0 ∙ rw u)
+  encode-spoiled h u = encode-leaves UnknownSymbol (checks-pass f M (length frame) (length lent) _ (checked f M (length frame) (length lent) done h).0 ∙ rw u)
 
-  pub encode-refused : (r : Refusal) → check_frame f M (length frame) (length lent) Done ≡ Written.Refused r → (Written.Refused r ≡ encode_of f M frame lent) × (lent ≡ encode_leaves f M frame lent)
+  pub encode-refused : (r : Refusal) → check_frame f M (length frame) (length lent) done ≡ Err r → (Err r ≡ encode_of f M frame lent) × (lent ≡ encode_leaves f M frame lent)
   unfolding encode_of
   encode-refused r h = encode-leaves r (checks-refuse f M (length frame) (length lent) _ r h)

@@ -1,9 +1,9 @@
 -- The loops over the months of a year.
-use Rattle.std.specs.Prelude.{◌≡◌, refl, Bool, true, false, cond, List, [], ◌∷◌, ℕ, zero, suc, ◌+◌, ◌*◌, ◌-◌, ◌<◌, ◌≤◌, leb, get_or, length, drop}
-use Rattle.std.proofs.Common.{sym, ap, ◌∙◌, zero-add, add-zero, arith, le-leb, leb-true, drop_of_length-le, drop-cons}
+use Rattle.std.specs.Prelude.{◌≡◌, refl, true, List, ◌∷◌, ℕ, suc, ◌+◌, ◌*◌, ◌-◌, ◌<◌, ◌≤◌, get_or, length, take, drop}
+use Rattle.std.proofs.Common.{sym, ap, ◌∙◌, zero-add, add-zero, arith, le-leb, get_or-take, drop_of_length-le, drop-cons}
 use Rattle.std.proofs.lemmas.Bool.{lt-leb}
-use Rattle.timecode.proofs.Laws.Tests.{and_left, and_right}
-use Rattle.calendar.specs.Dates.{month_lengths, place_in, day_in, has_day, has_date}
+use Rattle.std.proofs.Math.Seq.{length-take-le}
+use Rattle.calendar.specs.Dates.{month_lengths, place_in, day_in, has_day}
 use Rattle.calendar.proofs.Inverse.{short-month, twelve, place-range}
 use Rattle.calendar.specs.declared.Place.{Place}
 
@@ -90,14 +90,14 @@ module _ (ls : List ℕ) (year : ℕ) (are : ls ≡ month_lengths year) where
   pub twelve-of : length ls ≡ 12
   twelve-of = ap length are ∙ twelve year
 
-  pub short-of : (i : ℕ) → get_or ls i 0 ≤ 31
-  short-of i = rw are (short-month year i)
+  pub taken-long : (months : ℕ) → months < 12 → length (take months ls) ≡ months
+  taken-long months h = length-take-le months ls (omega (arith, twelve-of))
 
-  pub summed-on : (months day total i : ℕ) → i < months → months < 12 → Summed ls months day total i → Summed ls months day (total + get_or ls i 0) (i + 1)
-  summed-on months day total i h few s = rw are (summed_turn year months day total i h few (rw are at s))
+  pub short-of : (months i : ℕ) → i < months → get_or (take months ls) i 0 ≤ 31
+  short-of months i h = rw (get_or-take months ls i 0 h, are) (short-month year i)
 
-  pub summed-all : (months day total i : ℕ) → months ≤ i → Summed ls months day total i → total + day ≡ day_in (month_lengths year) months day
-  summed-all months day total i h s = summed-end ls months day total i h s ∙ ap (λ (xs : List ℕ). day_in xs months day) are
+  pub summed-on : (months day total i : ℕ) → i < months → months < 12 → Summed (month_lengths year) months day total i → Summed (month_lengths year) months day (total + get_or (take months ls) i 0) (i + 1)
+  summed-on months day total i h few s = rw (get_or-take months ls i 0 h, are) (summed_turn year months day total i h few s)
 
   pub found_in : (day months rest : ℕ) → months < length ls → rest ≤ get_or ls months 0 → Passed ls day months rest → ◌≡◌ {A = Place} (record { months = months; day = rest }) (place_in (month_lengths year) day)
   found_in day months rest h within s = passed-found ls day months rest h within s ∙ ap (λ (xs : List ℕ). place_in xs day) are

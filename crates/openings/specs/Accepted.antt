@@ -1,7 +1,6 @@
 -- How many symbols stand before the first above 3.
 use Rattle.std.specs.Prelude.{◌≡◌, refl, cond, List, [], ◌∷◌, ℕ, zero, suc, ◌+◌, ◌<◌, ◌≤◌, get_or, length, drop}
 use Rattle.std.proofs.Common.{sym, ap, ◌∙◌, add-zero, not-suc-le-zero, add-one, arith, le-leb, leb-true, leb-false, drop_of_length-le, drop-cons}
-use Rattle.std.proofs.Math.Decide.{dec_lt}
 use Rattle.std.proofs.lemmas.Bool.{lt-leb}
 use Rattle.timecode.specs.Formats.{is_symbol}
 use Rattle.timecode.proofs.Laws.Tests.{by-test}
@@ -47,11 +46,3 @@ accepted-here ss i h b e = sym (e ∙ rw (drop-cons ss i 0 h, lt-leb (get_or ss 
 pub accepted-end : (ss : List ℕ) (i : ℕ) → length ss ≤ i → accepted_in ss ≡ i + accepted_in (drop i ss) → i ≡ accepted_in ss
 unfolding accepted_in
 accepted-end ss i h e = sym (e ∙ rw (drop_of_length-le ss {i = i} h) (add-zero i))
-
--- one symbol more in a search for the greatest
-pub greatest-turn : (xs : List ℕ) (i before most : ℕ) → before ≤ most → get_or xs i 0 ≤ most → ((k : ℕ) → k < i → get_or xs k 0 ≤ before) → (k : ℕ) → k < i + 1 → get_or xs k 0 ≤ most
-greatest-turn xs i before most b h all k u = go (dec_lt k i)
-  where
-    go : Dec (k < i) → get_or xs k 0 ≤ most
-    go (yes y) = omega (arith, all k y)
-    go (no n) = let same : k ≡ i = omega arith in rw same h

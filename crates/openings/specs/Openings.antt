@@ -1,7 +1,6 @@
 -- Where frames may begin in a list of symbols, by index.
-use Rattle.std.specs.Prelude.{◌≡◌, refl, Bool, true, false, cond, ◌&&◌, List, ℕ, ◌+◌, ◌-◌, ◌<◌, ◌≤◌, leb, ltb, eqb, get_or}
-use Rattle.std.proofs.Common.{sym, ap, ◌∙◌, arith, leb-true, leb-false}
-use Rattle.std.proofs.Math.Decide.{dec_lt}
+use Rattle.std.specs.Prelude.{◌≡◌, refl, Bool, true, false, ◌&&◌, List, ℕ, ◌+◌, ◌-◌, ◌<◌, ◌≤◌, leb, eqb, get_or}
+use Rattle.std.proofs.Common.{◌∙◌, arith, leb-true, leb-false}
 use Rattle.timecode.specs.Formats.{is_x}
 use Rattle.timecode.proofs.Laws.Tests.{by-test}
 use Rattle.timecode.proofs.Laws.Windows.{lead-one, lead-none}
@@ -29,17 +28,6 @@ meet-opens f ss m i e =
     (λ x. let same : i - m ≡ i = omega (arith, lead-none f x) in rw (same, x) (twice (eqb (get_or ss i 0) 2)))
     (λ n. let one : m ≡ 1 = e ∙ lead-one f n in rw (one, n))
 
--- one place more is looked at: none before the lowest so far
-pub lowest-turn : (end : ℕ → Bool) (from i before lowest : ℕ) (ends : Bool) → lowest ≤ before → (ends ≡ true → lowest ≤ i) → end (from + i) ≡ ends
-    → ((j : ℕ) → j < i → j < before → end (from + j) ≡ false) → (j : ℕ) → j < i + 1 → j < lowest → end (from + j) ≡ false
-lowest-turn end from i before lowest ends b l e known j u v = go (dec_lt j i)
-  where
-    go : Dec (j < i) → end (from + j) ≡ false
-    go (yes y) = known j y (omega arith)
-    go (no m) =
-        let same : j ≡ i = omega arith in
-        by-test (end (from + j)) (λ y. let n : ⊥ = let most = l (sym e ∙ ap (λ (k : ℕ). end (from + k)) (sym same) ∙ y) in omega arith in absurd n) (λ n. n)
-
 pub none-open-joined : (p : ℕ → Bool) (from at more : ℕ) → ((j : ℕ) → from ≤ j → j < at → p j ≡ false) → ((j : ℕ) → j < more → p (at + j) ≡ false) → (j : ℕ) → from ≤ j → j < at + more → p j ≡ false
 none-open-joined p from at more before here j a b =
     by-test (leb at j)
@@ -54,20 +42,6 @@ pub data CloseOpenings (f : Format) (n : ℕ) (ss : List ℕ) (from : ℕ) : ℕ
 -- it is so at a place, counted from 1, or it is 0
 abbrev pub IsHighest : (ℕ → Bool) → ℕ → ℕ → ℕ → Type 0
 IsHighest p from count r = (r ≤ count) × (1 ≤ r → p (from + (r - 1)) ≡ true)
-
--- one place more
-pub highest-turn : (p : ℕ → Bool) (from i before place r : ℕ) (here : Bool) → IsHighest p from i before → here ≡ p (from + i) → place ≡ cond here (i + 1) 0 → r ≡ cond (ltb place before) before place → IsHighest p from (i + 1) r
-highest-turn p from i before place r here h o q e =
-    by-test (ltb place before)
-    (λ y. let is : r ≡ before = e ∙ rw y in rw is (omega (arith, h.0), h.1))
-    (λ m.
-    let is : r ≡ place = e ∙ rw m in
-    by-test (p (from + i))
-    (λ y.
-    let there : place ≡ i + 1 = q ∙ rw (o, y) in
-    let back : i + 1 - 1 ≡ i = omega arith in
-    rw (is, there) (omega arith, λ k. rw (back, y) refl))
-    (λ n. let none : place ≡ 0 = q ∙ rw (o, n) in rw (is, none) (omega arith, λ k. let z : ⊥ = omega arith in absurd z)))
 
 -- the next opening that is close enough
 pub close-next : (f : Format) (n : ℕ) (ss : List ℕ) (from last count more : ℕ) → CloseOpenings f n ss from last → count < n → IsHighest (opens_at f ss) (last + 1) count more → 1 ≤ more → CloseOpenings f n ss from (last + more)

@@ -9,42 +9,18 @@ ghost use Rattle.openings.specs.Openings.{opens_at, CloseOpenings, IsHighest};
 
 use timecode::{Format, MARK, SPOILED};
 
-fn smaller(first: u8, second: u8) -> u8
-    ensures { (result ≤ first) × (result ≤ second) }
-{
-    if first < second {
-        return first;
-    }
-    second
-}
-
-fn place_if(here: bool, place: u8) -> u8
-    ensures { here ≡ true → result ≡ place }
-{
-    if here {
-        return place;
-    }
-    255
-}
-
 // So many marks are asked for before a frame: one, in X none.
 pub fn marks_before(format: Format) -> usize
     ensures { (result ≡ lead format) × (result ≤ 1) }
 {
-    if format.letter == b'X' {
-        return 0;
-    }
-    1
+    if format.letter == b'X' { 0 } else { 1 }
 }
 
 // A mark after a mark begins a frame. In X any mark does: there the one so many before it is itself.
 fn is_opening(before: u8, symbol: u8) -> bool
     ensures { result ≡ (eqb symbol 2 && eqb before 2) }
 {
-    if symbol == MARK {
-        return before == MARK;
-    }
-    false
+    symbol == MARK && before == MARK
 }
 
 // The lowest of some places at which a frame may begin, or 255. It looks at all of them: a loop without an early return is compiled to look at many at a time.
@@ -53,33 +29,18 @@ fn lowest_opening(format: Format, symbols: &[u8], from: usize, count: usize) -> 
     ensures { (j : ℕ) → j < count → j < result → opens_at format symbols.now (from + j) ≡ false }
 {
     let marks = marks_before(format);
-    let mut lowest = 255;
-    let mut i = 0;
-    while i < count {
+    let mut lowest = u8::MAX;
+    for i in 0..count {
         let at = from + i;
         let opens = is_opening(symbols[at - marks], symbols[at]);
-        lowest = smaller(place_if(opens, i as u8), lowest);
-        i += 1;
+        let place = if opens { i as u8 } else { u8::MAX };
+        lowest = lowest.min(place);
     }
     lowest
 }
 
-fn wide(x: u8) -> usize
-    ensures { result ≡ x }
-{
-    x as usize
-}
-
-// So many places are looked at together.
-fn places(from: usize, to: usize) -> usize
-    requires { from < to }
-    ensures { (1 ≤ result) × (result ≤ 128) × (from + result ≤ to) }
-{
-    if to - from < 128 {
-        return to - from;
-    }
-    128
-}
+// At most so many places are looked at together.
+const MANY_PLACES: usize = 128;
 
 // So few places are faster looked at one by one, as measured.
 const FEW_PLACES: usize = 16;
@@ -90,14 +51,12 @@ fn near_opening(format: Format, symbols: &[u8], from: usize, to: usize) -> usize
     ensures { (from ≤ result) × (result ≤ to) × ((j : ℕ) → from ≤ j → j < result → opens_at format symbols.now j ≡ false) }
 {
     let marks = marks_before(format);
-    let mut at = from;
-    while at < to {
+    for at in from..to {
         if is_opening(symbols[at - marks], symbols[at]) {
             return at;
         }
-        at += 1;
     }
-    at
+    to
 }
 
 // Many places are looked at together.
@@ -107,8 +66,8 @@ fn far_opening(format: Format, symbols: &[u8], from: usize, to: usize) -> usize
 {
     let mut at = from;
     while at < to {
-        let count = places(at, to);
-        let lowest = wide(lowest_opening(format, symbols, at, count));
+        let count = MANY_PLACES.min(to - at);
+        let lowest = usize::from(lowest_opening(format, symbols, at, count));
         if lowest < count {
             return at + lowest;
         }
@@ -123,27 +82,10 @@ pub fn next_opening(format: Format, symbols: &[u8], from: usize, to: usize) -> u
     ensures { (from ≤ result) × (result ≤ to) × ((j : ℕ) → from ≤ j → j < result → opens_at format symbols.now j ≡ false) }
 {
     if to - from < FEW_PLACES {
-        return near_opening(format, symbols, from, to);
+        near_opening(format, symbols, from, to)
+    } else {
+        far_opening(format, symbols, from, to)
     }
-    far_opening(format, symbols, from, to)
-}
-
-fn place_or_none(here: bool, place: u8) -> u8
-    ensures { result ≡ cond here place 0 }
-{
-    if here {
-        return place;
-    }
-    0
-}
-
-fn higher(first: u8, second: u8) -> u8
-    ensures { result ≡ cond (ltb first second) second first }
-{
-    if first < second {
-        return second;
-    }
-    first
 }
 
 // The highest of some places at which a frame may begin, counted from 1, or 0: again it looks at all of them.
@@ -153,26 +95,13 @@ fn highest_opening(format: Format, symbols: &[u8], from: usize, count: usize) ->
 {
     let marks = marks_before(format);
     let mut highest = 0;
-    let mut i = 0;
-    while i < count {
+    for i in 0..count {
         let at = from + i;
         let opens = is_opening(symbols[at - marks], symbols[at]);
-        highest = higher(place_or_none(opens, i as u8 + 1), highest);
-        i += 1;
+        let place = if opens { i as u8 + 1 } else { 0 };
+        highest = highest.max(place);
     }
     highest
-}
-
-// So many places after the last opening are fewer than n symbols after it.
-fn places_after(last: usize, n: usize, to: usize) -> usize
-    requires { (last < to) × (1 ≤ n) }
-    ensures { (last + 1 + result ≤ to) × (result < n) }
-{
-    let left = to - last - 1;
-    if left < n {
-        return left;
-    }
-    n - 1
 }
 
 // The last of the openings after an index of which each comes fewer than n symbols after the one before, or the index: where a frame begins
@@ -182,9 +111,11 @@ pub fn last_opening(format: Format, symbols: &[u8], n: usize, from: usize, to: u
     ensures { (from ≤ result) × (result < to) × CloseOpenings format n symbols.now from result }
 {
     let mut last = from;
+    // The next place is the opening that is found, so no `for` counts it.
     while last < to {
-        let count = places_after(last, n, to);
-        let highest = wide(highest_opening(format, symbols, last + 1, count));
+        // So many places after the last opening are fewer than n symbols after it.
+        let count = (to - last - 1).min(n - 1);
+        let highest = usize::from(highest_opening(format, symbols, last + 1, count));
         if highest == 0 {
             return last;
         }
@@ -193,24 +124,13 @@ pub fn last_opening(format: Format, symbols: &[u8], n: usize, from: usize, to: u
     last
 }
 
-fn larger(first: u8, second: u8) -> u8
-    ensures { (first ≤ result) × (second ≤ result) }
-{
-    if first < second {
-        return second;
-    }
-    first
-}
-
 // The greatest of the symbols, again without an early return.
 fn greatest(symbols: &[u8]) -> u8
     ensures { (k : ℕ) → k < length symbols.now → get_or symbols.now k 0 ≤ result }
 {
     let mut most = 0;
-    let mut i = 0;
-    while i < symbols.len() {
-        most = larger(most, symbols[i]);
-        i += 1;
+    for symbol in symbols {
+        most = most.max(*symbol);
     }
     most
 }
@@ -218,14 +138,12 @@ fn greatest(symbols: &[u8]) -> u8
 fn first_unknown(symbols: &[u8]) -> usize
     ensures { result ≡ accepted_in symbols.now }
 {
-    let mut i = 0;
-    while i < symbols.len() {
-        if SPOILED < symbols[i] {
+    for (i, symbol) in symbols.iter().enumerate() {
+        if SPOILED < *symbol {
             return i;
         }
-        i += 1;
     }
-    i
+    symbols.len()
 }
 
 // How many symbols stand before the first above 3: mostly all.
@@ -233,7 +151,8 @@ pub fn accepted(symbols: &[u8]) -> usize
     ensures { result ≡ accepted_in symbols.now }
 {
     if greatest(symbols) <= SPOILED {
-        return symbols.len();
+        symbols.len()
+    } else {
+        first_unknown(symbols)
     }
-    first_unknown(symbols)
 }

@@ -8,10 +8,10 @@ use refusals::number_of;
 use timecode::Refusal;
 
 fn write_part(rt: &HostRuntime, bytes: &[u8], count: usize) -> bool {
-    if count <= bytes.len() {
-        return write(rt, &bytes[0..count]);
+    match bytes.get(..count) {
+        Some(part) => write(rt, part),
+        None => false,
     }
-    false
 }
 
 // Writes the first bytes of the output, or says on standard error why it cannot.

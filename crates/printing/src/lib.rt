@@ -13,7 +13,7 @@ use program_io::read;
 use progress::Progress;
 use recording_head::read_head;
 use std::io::Read;
-use stream::{Made, Reader};
+use stream::Reader;
 
 // The progress after a read, and whether another is to come.
 #[derive(Clone, Copy)]
@@ -123,13 +123,11 @@ fn print_recording<R: Read>(rt: &HostRuntime, input: &mut R, reader: Reader) {
 // The whole listing of what the reader gives; nothing where the first line cannot be read.
 pub fn print_listing<R: Read>(rt: &HostRuntime, input: &mut R) {
     let mut head = [0u8; 3];
-    let got = read_head(rt, input, &mut head);
-    if got < 0 {
+    let Ok(head) = read_head(rt, input, &mut head) else {
         return;
-    }
-    let n = io::count(got, &head);
-    match begin(&head[..n]) {
-        Made::Fresh(reader) => print_recording(rt, input, reader),
-        Made::Refused(refusal) => print_refused(rt, refusal),
+    };
+    match begin(head) {
+        Ok(reader) => print_recording(rt, input, reader),
+        Err(refusal) => print_refused(rt, refusal),
     }
 }

@@ -2,7 +2,7 @@
 // Nothing beneath says which arguments there are, which bytes a read brings, or where a write goes, so no contract here can.
 #![tactic(auto)]
 
-ghost use Rattle.std.specs.Prelude.{◌≤◌, length};
+ghost use Rattle.std.specs.Prelude.{◌≤◌, length, IfSome};
 
 use std::env::FillError;
 use std::fmt::InlineText;
@@ -27,6 +27,18 @@ pub fn argument<'a>(rt: &HostRuntime, i: usize, text: &'a mut [u8; 4096]) -> Opt
         Ok(n) => Some(&text[..n]),
         Err(_) => None,
     }
+}
+
+// What is read from the argument; none where there is no such argument, or where nothing can be read from it.
+pub fn argument_as<T, F: FnOnce(&[u8]) -> Option<T>>(
+    rt: &HostRuntime,
+    i: usize,
+    read: F,
+) -> Option<T>
+    requires { F.IsAlwaysCallable read }
+{
+    let mut text = [0u8; 4096];
+    read(argument(rt, i, &mut text)?)
 }
 
 // Writes the bytes on standard output, as far as it takes them.
@@ -77,14 +89,28 @@ pub fn write(rt: &HostRuntime, bytes: &[u8]) -> bool {
     }
 }
 
-// How many bytes one read brings, none at the input's end; or -1 where it fails, and standard error says why.
-pub fn read<R: Read>(rt: &HostRuntime, input: &mut R, bytes: &mut [u8]) -> isize {
+// The bytes that one read brings, none at the input's end; or nothing where it fails, and standard error says why.
+pub fn read_bytes<'a, R: Read>(
+    rt: &HostRuntime,
+    input: &mut R,
+    bytes: &'a mut [u8],
+) -> Option<&'a [u8]>
+    ensures { IfSome result (λ got. length got.now ≤ length bytes.old) }
+{
     match input.read(bytes) {
-        Ok(n) => n as isize,
+        Ok(n) => Some(&bytes[..n]),
         Err(error) => {
             fail(rt, b"input", error);
-            -1
+            None
         }
+    }
+}
+
+// The same as a number: how many bytes one read brings, or -1 where it fails.
+pub fn read<R: Read>(rt: &HostRuntime, input: &mut R, bytes: &mut [u8]) -> isize {
+    match read_bytes(rt, input, bytes) {
+        Some(got) => got.len() as isize,
+        None => -1,
     }
 }
 
@@ -93,6 +119,7 @@ pub fn read_full<R: Read>(input: &mut R, bytes: &mut [u8]) -> usize
     ensures { result ≤ length bytes.new }
 {
     let mut done = 0;
+    // A read brings as many bytes as it likes, so how many turns there are is not known before.
     while done < bytes.len() {
         match input.read(&mut bytes[done..]) {
             Ok(0) => return done,

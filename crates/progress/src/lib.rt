@@ -31,9 +31,9 @@ pub fn progress_at(reader: Reader, elements: u64, reports: u64) -> Progress
     ensures { result ≡ running_at reader elements reports }
 {
     Progress {
-        reader: reader,
-        elements: elements,
-        reports: reports,
+        reader,
+        elements,
+        reports,
         ended: false,
     }
 }
@@ -44,18 +44,16 @@ pub fn more_by(count: u64, k: usize) -> u64
 {
     let more = k as u64;
     if more < u64::MAX - count {
-        return count + more;
+        count + more
+    } else {
+        u64::MAX
     }
-    u64::MAX
 }
 
 pub fn one_more(count: u64) -> u64
     ensures { result ≡ one_more count }
 {
-    if count < u64::MAX {
-        return count + 1;
-    }
-    count
+    if count < u64::MAX { count + 1 } else { count }
 }
 
 fn advance(progress: Progress, reader: Reader, answer: Answer) -> Progress
@@ -117,10 +115,7 @@ fn put_line(out: &mut [u8], at: usize, element: u64, answer: Answer) -> usize
 pub fn progressed_at(progress: Progress, filled: usize) -> Progressed
     ensures { (result.progress ≡ progress) × (result.filled ≡ filled) }
 {
-    Progressed {
-        progress: progress,
-        filled: filled,
-    }
+    Progressed { progress, filled }
 }
 
 // One Feed by itself, with its line.

@@ -1,5 +1,6 @@
 -- What fits the code's numbers; the pulses of a list by their index, and what the list call leaves in the lent memory.
-use Rattle.std.specs.Prelude.{◌≡◌, refl, Bool, true, false, cond, ◌&&◌, List, [], ◌∷◌, map, ℕ, zero, suc, ◌+◌, ◌*◌, ◌-◌, ◌^◌, ◌≤◌, ◌<◌, ltb, ℤ, pos, negsuc, nat_abs, ◌-ℤ◌, get_or, length}
+use Rattle.timecode.specs.Answers.{done}
+use Rattle.std.specs.Prelude.{◌≡◌, refl, Bool, true, false, cond, ◌&&◌, List, [], ◌∷◌, map, ℕ, zero, suc, ◌+◌, ◌*◌, ◌-◌, ◌^◌, ◌≤◌, ◌<◌, ltb, ℤ, pos, negsuc, nat_abs, ◌-ℤ◌, get_or, length, Result, Err}
 use Rattle.std.proofs.Common.{sym, ◌∙◌, not-suc-le-zero, zero-add, mul-le-mul, mul-le-mul_right, le_of_lt, ext_get_or, SFits, to_z, of_z}
 use Rattle.std.proofs.Math.Path.{ap}
 use native.Mathlib.Omega.{arith}
@@ -18,18 +19,6 @@ use Rattle.timecode.specs.declared.Pulse.{Pulse}
 use Rattle.timecode.specs.declared.Refusal.{Refusal}
 use Rattle.timecode.specs.declared.WidthClass.{WidthClass}
 use Rattle.timecode.specs.declared.WidthSettings.{WidthSettings}
-use Rattle.timecode.specs.declared.Written.{Written}
-use Rattle.timecode.specs.declared.Written.TheVariants.{Done}
-
--- ---- a test's two sides in either order
-
-pub both : (a b : Bool) → b ≡ true → a ≡ (a && b)
-both true b h = sym h
-both false b h = refl
-
-pub neither : (a b : Bool) → b ≡ false → false ≡ (a && b)
-neither true b h = sym h
-neither false b h = refl
 
 -- ---- numbers that fit
 
@@ -182,13 +171,13 @@ pulses-tabulated {A} field s T widths periods n a b =
 -- ---- the list call's answer and what it leaves
 
 module _ (s : WidthSettings) (T : ℕ) (widths periods symbols : List ℕ) (deviations : List ℤ) where
-  abbrev Leaves : Written → List ℕ → List ℤ → Type 0
+  abbrev Leaves : Result Unit Refusal → List ℕ → List ℤ → Type 0
   Leaves r new off = (r ≡ classify_list_of s T widths periods symbols deviations) × (new ≡ symbols_left s T widths periods symbols deviations) × (off ≡ deviations_left s T widths periods symbols deviations)
 
-  pub list-refused : (r : Refusal) → classify_list_of s T widths periods symbols deviations ≡ Written.Refused r → Leaves (Written.Refused r) symbols deviations
+  pub list-refused : (r : Refusal) → classify_list_of s T widths periods symbols deviations ≡ Err r → Leaves (Err r) symbols deviations
   unfolding symbols_left deviations_left
   list-refused r h = (sym h, rw h, rw h)
 
-  pub list_done : (new : List ℕ) (off : List ℤ) → classify_list_of s T widths periods symbols deviations ≡ Done → new ≡ map (λ p. p.symbol) (pulses_of s T widths periods) → off ≡ map (λ p. p.deviation) (pulses_of s T widths periods) → Leaves Done new off
+  pub list_done : (new : List ℕ) (off : List ℤ) → classify_list_of s T widths periods symbols deviations ≡ done → new ≡ map (λ p. p.symbol) (pulses_of s T widths periods) → off ≡ map (λ p. p.deviation) (pulses_of s T widths periods) → Leaves done new off
   unfolding symbols_left deviations_left
   list_done new off h k l = (sym h, k ∙ rw h, l ∙ rw h)

@@ -6,40 +6,31 @@ ghost use Rattle.timecode.specs.Calls.{within, is_interval, are_width_settings, 
 ghost use Rattle.timecode.specs.Laws.Widths.{class_of};
 ghost use Rattle.pulse.specs.Pulses.{Classed, deviation_of};
 
-use timecode::{Classified, MARK, ONE, Refusal, SPOILED, WidthClass, WidthSettings, Written, ZERO};
+use timecode::{MARK, ONE, Pulse, Refusal, SPOILED, WidthClass, WidthSettings, ZERO};
 
 // The nominal element interval, in counter ticks.
 const SHORTEST_INTERVAL: u32 = 100;
 
 const LONGEST_INTERVAL: u32 = 10_000_000;
 
+#[tactic(auto, unfolding(timecode::specs::Calls::is_interval))]
 fn is_interval(interval: u32) -> bool
     ensures { result ≡ is_interval interval }
 {
-    if SHORTEST_INTERVAL <= interval {
-        return interval <= LONGEST_INTERVAL;
-    }
-    false
+    SHORTEST_INTERVAL <= interval && interval <= LONGEST_INTERVAL
 }
 
 fn is_setting(percent: u8) -> bool
     ensures { result ≡ within 1 14 percent }
 {
-    if WidthSettings::NARROWEST <= percent {
-        return percent <= WidthSettings::WIDEST;
-    }
-    false
+    WidthSettings::NARROWEST <= percent && percent <= WidthSettings::WIDEST
 }
 
+#[tactic(auto, unfolding(timecode::specs::Calls::are_width_settings))]
 fn are_settings(settings: WidthSettings) -> bool
     ensures { result ≡ are_width_settings settings }
 {
-    if is_setting(settings.zeros) {
-        if is_setting(settings.ones) {
-            return is_setting(settings.marks);
-        }
-    }
-    false
+    is_setting(settings.zeros) && is_setting(settings.ones) && is_setting(settings.marks)
 }
 
 // The ticks are from one percentage of the interval to another, ends included. Both sides are 100 times as large, in 64 bits.
@@ -47,36 +38,31 @@ fn are_settings(settings: WidthSettings) -> bool
 fn is_within(interval: u32, from: u8, to: u8, ticks: u32) -> bool
     ensures { result ≡ within (from * interval) (to * interval) (100 * ticks) }
 {
-    let nominal = interval as u64;
-    let measured = 100 * (ticks as u64);
-    if measured <= (to as u64) * nominal {
-        return (from as u64) * nominal <= measured;
-    }
-    false
+    let nominal = u64::from(interval);
+    let measured = 100 * u64::from(ticks);
+    measured <= u64::from(to) * nominal && u64::from(from) * nominal <= measured
 }
 
 // The classes as one table: the symbol, its centre in percent of the interval, and its setting. A symbol that is none of them has the marks' class.
 fn class_of(settings: WidthSettings, symbol: u8) -> WidthClass
     ensures { symbol < 3 → result ≡ class_of settings symbol }
 {
-    if symbol == ZERO {
-        return WidthClass {
+    match symbol {
+        ZERO => WidthClass {
             symbol: ZERO,
             centre: 20,
             setting: settings.zeros,
-        };
-    }
-    if symbol == ONE {
-        return WidthClass {
+        },
+        ONE => WidthClass {
             symbol: ONE,
             centre: 50,
             setting: settings.ones,
-        };
-    }
-    WidthClass {
-        symbol: MARK,
-        centre: 80,
-        setting: settings.marks,
+        },
+        _ => WidthClass {
+            symbol: MARK,
+            centre: 80,
+            setting: settings.marks,
+        },
     }
 }
 
@@ -114,9 +100,7 @@ fn minus(first: u32, second: u32) -> i32
     requires { (first < 1000000000) × (second < 1000000000) }
     ensures { result ≡ pos first -ℤ pos second }
 {
-    let a = first as i32;
-    let b = second as i32;
-    a - b
+    first as i32 - second as i32
 }
 
 // 100 times the width less the centre's part of the interval.
@@ -124,8 +108,7 @@ fn deviation_from(centre: u8, interval: u32, width: u32) -> i32
     requires { (centre ≤ 80) × (interval ≤ 10000000) × (100 * width < 1000000000) }
     ensures { result ≡ pos (100 * width) -ℤ pos (centre * interval) }
 {
-    let percent = centre as u32;
-    minus(100 * width, percent * interval)
+    minus(100 * width, u32::from(centre) * interval)
 }
 
 // The deviation of a pulse with that symbol: 0 for a spoiled element.
@@ -141,20 +124,25 @@ fn deviation_of(settings: WidthSettings, symbol: u8, interval: u32, width: u32) 
 }
 
 // The symbol and the deviation of one pulse.
-pub fn classify(settings: WidthSettings, interval: u32, width: u32, period: u32) -> Classified
+pub fn classify(
+    settings: WidthSettings,
+    interval: u32,
+    width: u32,
+    period: u32,
+) -> Result<Pulse, Refusal>
     ensures { result ≡ classify_of settings interval width period }
 {
     if is_interval(interval) {
         if are_settings(settings) {
             let symbol = symbol_of(settings, interval, width, period);
-            return Classified::Symbol {
-                symbol: symbol,
+            return Ok(Pulse {
+                symbol,
                 deviation: deviation_of(settings, symbol, interval, width),
-            };
+            });
         }
-        return Classified::Refused(Refusal::InvalidWidthSetting);
+        return Err(Refusal::InvalidWidthSetting);
     }
-    Classified::Refused(Refusal::InvalidInterval)
+    Err(Refusal::InvalidInterval)
 }
 
 fn put_pulses(
@@ -168,14 +156,11 @@ fn put_pulses(
     requires { (is_interval interval ≡ true) × (are_width_settings settings ≡ true) × (length widths.now ≡ length symbols.old) × (length periods.now ≡ length symbols.old) × (length deviations.old ≡ length symbols.old) }
     ensures { (symbols.new ≡ map (λ p. p.symbol) (pulses_of settings interval widths.now periods.now)) × (deviations.new ≡ map (λ p. p.deviation) (pulses_of settings interval widths.now periods.now)) }
 {
-    let mut i = 0;
-    while i < symbols.len() {
+    for i in 0..symbols.len() {
         let width = widths[i];
         let symbol = symbol_of(settings, interval, width, periods[i]);
-        let deviation = deviation_of(settings, symbol, interval, width);
         symbols[i] = symbol;
-        deviations[i] = deviation;
-        i += 1;
+        deviations[i] = deviation_of(settings, symbol, interval, width);
     }
 }
 
@@ -187,7 +172,7 @@ pub fn classify_list(
     periods: &[u32],
     symbols: &mut [u8],
     deviations: &mut [i32],
-) -> Written
+) -> Result<(), Refusal>
     ensures { (result ≡ classify_list_of settings interval widths.now periods.now symbols.old deviations.old) × (symbols.new ≡ symbols_left settings interval widths.now periods.now symbols.old deviations.old) × (deviations.new ≡ deviations_left settings interval widths.now periods.now symbols.old deviations.old) }
 {
     if is_interval(interval) {
@@ -196,13 +181,13 @@ pub fn classify_list(
                 if periods.len() == symbols.len() {
                     if deviations.len() == symbols.len() {
                         put_pulses(settings, interval, widths, periods, symbols, deviations);
-                        return Written::Done;
+                        return Ok(());
                     }
                 }
             }
-            return Written::Refused(Refusal::WrongLength);
+            return Err(Refusal::WrongLength);
         }
-        return Written::Refused(Refusal::InvalidWidthSetting);
+        return Err(Refusal::InvalidWidthSetting);
     }
-    Written::Refused(Refusal::InvalidInterval)
+    Err(Refusal::InvalidInterval)
 }

@@ -1,11 +1,10 @@
 -- Document 01's third call of the classifier, with document 02's settings: one pulse classified and fed, numbers 10, 16, then those of Feed; the deviation goes up beside the answer.
-use Rattle.std.specs.Prelude.{ℕ, ℤ, pos}
+use Rattle.timecode.specs.declared.Pulse.{Pulse}
+use Rattle.std.specs.Prelude.{ℕ, ℤ, pos, Result, Ok, Err}
 use Rattle.timecode.specs.Answers.{check}
 use Rattle.timecode.specs.Calls.{is_interval, are_width_settings, pulse_of}
 use Rattle.timecode.specs.declared.Answer.{Answer}
 use Rattle.timecode.specs.declared.Answer.TheVariants.{Quiet, Report}
-use Rattle.timecode.specs.declared.Classified.{Classified}
-use Rattle.timecode.specs.declared.Classified.TheVariants.{Symbol}
 use Rattle.timecode.specs.declared.Refusal.TheVariants.{InvalidInterval, InvalidWidthSetting}
 use Rattle.timecode.specs.declared.Refusal.{Refusal}
 use Rattle.timecode.specs.declared.WidthSettings.{WidthSettings}
@@ -34,6 +33,6 @@ feed_pulse_of r s T width period =
     (handed_up (feed_of r (pulse_of s T width period).symbol) (pulse_of s T width period).deviation))
 
 -- the answer by the classifier's
-abbrev pub fed_by : Reader → Classified → PulseFed
-fed_by r (Symbol y d) = handed_up (feed_of r y) d
-fed_by r (Classified.Refused x) = refused_pulse r x
+abbrev pub fed_by : Reader → Result Pulse Refusal → PulseFed
+fed_by r (Ok pulse) = handed_up (feed_of r pulse.symbol) pulse.deviation
+fed_by r (Err x) = refused_pulse r x

@@ -6,7 +6,7 @@ ghost use Rattle.pulse_feed.specs.PulseFeeds.{refused_pulse, handed_up, feed_pul
 
 use pulse::classify;
 use stream::{Fed, Reader, feed};
-use timecode::{Answer, Classified, Refusal, WidthSettings};
+use timecode::{Answer, Pulse, Refusal, WidthSettings};
 
 // What a Feed hands back, and the deviation of the pulse: 0 for a spoiled element and beside a refusal.
 #[derive(Clone, Copy)]
@@ -20,35 +20,27 @@ fn refuse(reader: Reader, refusal: Refusal) -> PulseFed
     ensures { result ≡ refused_pulse reader refusal }
 {
     PulseFed {
-        reader: reader,
+        reader,
         answer: Answer::Refused(refusal),
         deviation: 0,
     }
 }
 
-fn hand_up(fed: Fed, deviation: i32) -> PulseFed
-    ensures { result ≡ handed_up fed deviation }
+// The deviation of the pulse stands beside what its Feed brought, unless that is a refusal.
+fn hand_up(fed: Fed, pulse: Pulse) -> PulseFed
+    ensures { result ≡ handed_up fed pulse.deviation }
 {
-    let reader = fed.reader;
-    let answer = fed.answer;
+    let Fed { reader, answer } = fed;
     match answer {
-        Answer::Quiet => PulseFed {
-            reader: reader,
-            answer: answer,
-            deviation: deviation,
-        },
-        Answer::Report {
-            time: _,
-            control: _,
-        } => PulseFed {
-            reader: reader,
-            answer: answer,
-            deviation: deviation,
-        },
         Answer::Refused(_) => PulseFed {
-            reader: reader,
-            answer: answer,
+            reader,
+            answer,
             deviation: 0,
+        },
+        Answer::Quiet | Answer::Report { .. } => PulseFed {
+            reader,
+            answer,
+            deviation: pulse.deviation,
         },
     }
 }
@@ -65,7 +57,7 @@ pub fn feed_pulse(
 {
     let classified = classify(settings, interval, width, period);
     match classified {
-        Classified::Symbol { symbol, deviation } => hand_up(feed(reader, symbol), deviation),
-        Classified::Refused(refusal) => refuse(reader, refusal),
+        Ok(pulse) => hand_up(feed(reader, pulse.symbol), pulse),
+        Err(refusal) => refuse(reader, refusal),
     }
 }

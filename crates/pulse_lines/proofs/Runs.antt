@@ -1,33 +1,31 @@
 -- One byte more in a run, at each turn of the loops that look for its end; and worked lines.
-use Rattle.std.specs.Prelude.{◌≡◌, refl, Bool, true, false, not, List, [], ◌∷◌, ℕ, ◌+◌, ◌<◌, ◌≤◌, get_or, length}
+use Rattle.std.specs.Prelude.{◌≡◌, refl, Bool, true, false, List, [], ◌∷◌, ℕ, zero, suc, ◌+◌, ◌-◌, ◌<◌, ◌≤◌, get_or, length, drop}
 use Rattle.std.proofs.Math.Path.{sym}
-use Rattle.std.proofs.Common.{◌∙◌, add-zero, arith, drop_of_length-le, drop-cons}
-use Rattle.std.proofs.Math.Numerals.{add-one}
+use Rattle.std.proofs.Math.Nat.{eq-or-lt_of_le}
+use Rattle.std.proofs.Common.{inl, inr, ◌∙◌, ap, add-zero, arith, drop_of_length-le, drop-cons}
 use Rattle.arguments.specs.Numbers.{digit_of, are_digit_bytes, value_from, limited, number_of}
 use Rattle.pulse_lines.specs.PulseLines.{is_blank, is_digit, run_of, end_of, comma_end, separator_end, width_start, width_end, period_start, period_end, pulse_line_of}
 use Rattle.pulse_lines.specs.declared.PulseLine.TheVariants.{Pulse, Empty, Other}
 
-not-passed : (b : Bool) → not b ≡ true → b ≡ false
-not-passed true e = sym e
-not-passed false e = refl
-
-passed : (b : Bool) → not b ≡ false → b ≡ true
-passed true e = refl
-passed false e = sym e
-
--- b is what the test says of the byte at i
+-- A run of n bytes that pass the test, and then none that does.
 module _ (t : ℕ → Bool) (line : List ℕ) where
-  pub run-turn : (from i : ℕ) → i < length line → (b : Bool) → b ≡ t (get_or line i 0) → not b ≡ false → end_of t line from ≡ end_of t line i → end_of t line from ≡ end_of t line (i + 1)
-  unfolding end_of run_of
-  run-turn from i h b is y e = e ∙ rw (drop-cons line i 0 h, add-one i, sym is ∙ passed b y) (omega arith)
+  run-length : (n from : ℕ) → from + n ≤ length line → ((k : ℕ) → from ≤ k → k < from + n → t (get_or line k 0) ≡ true) → (from + n < length line → t (get_or line (from + n) 0) ≡ false) → n ≡ run_of t (drop from line)
+  unfolding run_of
+  run-length zero from within passed stopped =
+      elim (eq-or-lt_of_le within) [ inl e ↦ rw (drop_of_length-le line {i = from} (omega arith)) | inr h ↦ (let h' : from < length line = omega arith in let no : t (get_or line from 0) ≡ false = rw (add-zero from) at (stopped h) in rw (drop-cons line from 0 h', no)) ]
+  run-length (suc n) from within passed stopped =
+      let h : from < length line = omega arith in
+      rw (drop-cons line from 0 h, passed from (omega arith) (omega arith))
+      (ap suc (run-length n (suc from) (omega arith) (λ k a b. passed k (omega arith) (omega arith)) (λ g. rw (move from n) (stopped (omega arith)))))
+    where
+      move : (from n : ℕ) → suc from + n ≡ from + suc n
+      move from n = omega arith
 
-  pub run-here : (from i : ℕ) → i < length line → (b : Bool) → b ≡ t (get_or line i 0) → not b ≡ true → end_of t line from ≡ end_of t line i → i ≡ end_of t line from
-  unfolding end_of run_of
-  run-here from i h b is n e = sym (e ∙ rw (drop-cons line i 0 h, sym is ∙ not-passed b n) (add-zero i))
-
-  pub run-all : (from i : ℕ) → length line ≤ i → end_of t line from ≡ end_of t line i → i ≡ end_of t line from
-  unfolding end_of run_of
-  run-all from i h e = sym (e ∙ rw (drop_of_length-le line {i = i} h) (add-zero i))
+  pub run_ends : (from end : ℕ) → from ≤ end → end ≤ length line → ((k : ℕ) → from ≤ k → k < end → t (get_or line k 0) ≡ true) → (end < length line → t (get_or line end 0) ≡ false) → end ≡ end_of t line from
+  unfolding end_of
+  run_ends from end a b passed stopped =
+      let whole : from + (end - from) ≡ end = omega arith in
+      sym whole ∙ ap (λ (n : ℕ). from + n) (run-length (end - from) from (omega arith) (λ k p q. passed k p (omega arith)) (λ g. rw whole (stopped (omega arith))))
 
 -- ---- worked lines
 

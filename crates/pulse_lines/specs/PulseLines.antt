@@ -1,8 +1,6 @@
 -- A line of a counter's export: blanks, a width, blanks with at most one comma among them, a period, blanks. Both are decimal numbers of 32 bits.
-use Rattle.std.specs.Prelude.{Bool, true, false, cond, ◌&&◌, List, [], ◌∷◌, ℕ, suc, ◌+◌, ◌-◌, eqb, leb, ltb, get_or, length, take, drop}
+use Rattle.std.specs.Prelude.{Bool, true, false, cond, Option, Some, None, ◌&&◌, List, [], ◌∷◌, ℕ, suc, ◌+◌, ◌-◌, eqb, leb, ltb, get_or, length, take, drop}
 use Rattle.arguments.specs.Numbers.{number_of}
-use Rattle.arguments.specs.declared.Number.{Number}
-use Rattle.arguments.specs.declared.Number.TheVariants.{Value, Malformed}
 use Rattle.pulse_lines.specs.declared.PulseLine.{PulseLine}
 use Rattle.pulse_lines.specs.declared.PulseLine.TheVariants.{Pulse, Empty, Other}
 
@@ -34,10 +32,10 @@ abbrev pub between : List ℕ → ℕ → ℕ → List ℕ
 between line a b = take (b - a) (drop a line)
 
 -- the pulse of two numbers; one that 32 bits do not hold is none
-abbrev pub pulse_with : Number → Number → PulseLine
-pulse_with (Value w) (Value p) = cond (leb w 4294967295) (cond (leb p 4294967295) (Pulse w p) Other) Other
-pulse_with (Value w) Malformed = Other
-pulse_with Malformed n = Other
+abbrev pub pulse_with : Option ℕ → Option ℕ → PulseLine
+pulse_with (Some w) (Some p) = cond (leb w 4294967295) (cond (leb p 4294967295) (Pulse w p) Other) Other
+pulse_with (Some w) None = Other
+pulse_with None n = Other
 
 -- where the width and the period begin and end
 unfoldable pub width_start : List ℕ → ℕ

@@ -2,13 +2,13 @@
 // It assumes nothing of the bytes; a newline is no part of the line.
 #![tactic(auto)]
 
-ghost use Rattle.std.specs.Prelude.{◌≡◌, ◌≤◌, length};
+ghost use Rattle.std.specs.Prelude.{◌≡◌, ℕ, true, false, ◌<◌, ◌≤◌, length, slice_index};
 ghost use Rattle.pulse_lines.specs.PulseLines.{is_blank, is_digit, opens_heading, end_of, comma_end, separator_end, pulse_with, pulse_line_of, is_heading};
 
-use arguments::{Number, decimal_in};
+use arguments::decimal_in;
 
 // What a line says: a pulse, nothing at all, or anything else.
-#[derive(Clone, Copy)]
+#[derive(Clone, Copy, Debug, PartialEq, Eq)]
 pub enum PulseLine {
     Pulse { width: u32, period: u32 },
     Empty,
@@ -16,25 +16,34 @@ pub enum PulseLine {
 }
 
 // Space, tab and CR.
+#[tactic(auto, using(std::proofs::lemmas::Bool::Decides::nat_tests), unfolding(crate::specs::PulseLines::is_blank))]
 fn is_blank(byte: u8) -> bool
     ensures { result ≡ is_blank byte }
 {
-    if byte == b' ' {
-        return true;
-    }
-    if byte == b'\t' {
-        return true;
-    }
-    byte == b'\r'
+    matches!(byte, b' ' | b'\t' | b'\r')
 }
 
+#[tactic(auto, using(std::proofs::lemmas::Bool::Decides::nat_tests), unfolding(crate::specs::PulseLines::is_digit))]
 fn is_digit(byte: u8) -> bool
     ensures { result ≡ is_digit byte }
 {
-    if b'0' <= byte {
-        return byte <= b'9';
+    matches!(byte, b'0'..=b'9')
+}
+
+// Where the bytes from there on that pass the test end.
+fn run_end<F: Fn(u8) -> bool>(line: &[u8], from: usize, passes: F) -> usize
+    requires from_in { from ≤ length line.now }
+    requires callable { F.IsAlwaysCallable passes }
+    ensures within { (from ≤ result) × (result ≤ length line.now) }
+    ensures passed { (k : ℕ) → from ≤ k → k < result → F.post passes (slice_index line.now k) true }
+    ensures stopped { result < length line.now → F.post passes (slice_index line.now result) false }
+{
+    for i in from..line.len() {
+        if !passes(line[i]) {
+            return i;
+        }
     }
-    false
+    line.len()
 }
 
 // Where the blanks from there on end.
@@ -42,14 +51,7 @@ fn blanks_end(line: &[u8], from: usize) -> usize
     requires { from ≤ length line.now }
     ensures { (result ≡ end_of is_blank line.now from) × (from ≤ result) × (result ≤ length line.now) }
 {
-    let mut i = from;
-    while i < line.len() {
-        if !is_blank(line[i]) {
-            return i;
-        }
-        i += 1;
-    }
-    i
+    run_end(line, from, is_blank)
 }
 
 // Where the digits from there on end.
@@ -57,27 +59,20 @@ fn digits_end(line: &[u8], from: usize) -> usize
     requires { from ≤ length line.now }
     ensures { (result ≡ end_of is_digit line.now from) × (from ≤ result) × (result ≤ length line.now) }
 {
-    let mut i = from;
-    while i < line.len() {
-        if !is_digit(line[i]) {
-            return i;
-        }
-        i += 1;
-    }
-    i
+    run_end(line, from, is_digit)
 }
 
 // Behind a comma, if one stands there.
+#[tactic(auto, using(std::proofs::lemmas::Bool::Decides::nat_tests), unfolding(crate::specs::PulseLines::comma_end))]
 fn comma_end(line: &[u8], from: usize) -> usize
     requires { from ≤ length line.now }
     ensures { (result ≡ comma_end line.now from) × (from ≤ result) × (result ≤ length line.now) }
 {
-    if from < line.len() {
-        if line[from] == b',' {
-            return from + 1;
-        }
+    if from < line.len() && line[from] == b',' {
+        from + 1
+    } else {
+        from
     }
-    from
 }
 
 // Behind blanks with at most one comma among them.
@@ -91,24 +86,16 @@ fn separator_end(line: &[u8], from: usize) -> usize
 }
 
 // Numbers of 32 bits.
-fn pulse_with(width: Number, period: Number) -> PulseLine
+#[tactic(auto, using(std::proofs::lemmas::Bool::Decides::nat_tests))]
+fn pulse_with(width: Option<u64>, period: Option<u64>) -> PulseLine
     ensures { result ≡ pulse_with width period }
 {
-    let Number::Value(w) = width else {
-        return PulseLine::Other;
-    };
-    let Number::Value(p) = period else {
-        return PulseLine::Other;
-    };
-    if w <= 4_294_967_295 {
-        if p <= 4_294_967_295 {
-            return PulseLine::Pulse {
-                width: w as u32,
-                period: p as u32,
-            };
-        }
+    let width = width.and_then(|number| u32::try_from(number).ok());
+    let period = period.and_then(|number| u32::try_from(number).ok());
+    match (width, period) {
+        (Some(width), Some(period)) => PulseLine::Pulse { width, period },
+        _ => PulseLine::Other,
     }
-    PulseLine::Other
 }
 
 // The pulse of a line.
@@ -123,34 +110,21 @@ pub fn pulse_line(line: &[u8]) -> PulseLine
     let period = separator_end(line, width_end);
     let period_end = digits_end(line, period);
     if blanks_end(line, period_end) == line.len() {
-        return pulse_with(
+        pulse_with(
             decimal_in(&line[width..width_end]),
             decimal_in(&line[period..period_end]),
-        );
+        )
+    } else {
+        PulseLine::Other
     }
-    PulseLine::Other
 }
 
 // A letter, a quotation mark or a number sign.
+#[tactic(auto, using(std::proofs::lemmas::Bool::Decides::nat_tests), unfolding(crate::specs::PulseLines::opens_heading))]
 fn opens_heading(byte: u8) -> bool
     ensures { result ≡ opens_heading byte }
 {
-    if byte == b'"' {
-        return true;
-    }
-    if byte == b'#' {
-        return true;
-    }
-    if byte < b'A' {
-        return false;
-    }
-    if byte <= b'Z' {
-        return true;
-    }
-    if byte < b'a' {
-        return false;
-    }
-    byte <= b'z'
+    matches!(byte, b'"' | b'#' | b'A'..=b'Z' | b'a'..=b'z')
 }
 
 // A line that says what the columns are. None is the line of a pulse.
@@ -158,8 +132,5 @@ pub fn is_heading(line: &[u8]) -> bool
     ensures { result ≡ is_heading line.now }
 {
     let first = blanks_end(line, 0);
-    if first < line.len() {
-        return opens_heading(line[first]);
-    }
-    false
+    first < line.len() && opens_heading(line[first])
 }

@@ -1,4 +1,5 @@
 -- timeread reads the recording that timewrite prints as exactly the elements of its frames.
+use Rattle.timecode.specs.Answers.{done}
 use Rattle.std.specs.Prelude.{◌≡◌, refl, true, false, List, [], ◌∷◌, ◌++◌, ℕ, zero, suc, ◌+◌, ◌-◌, ◌%◌, ◌≤◌, leb, length}
 use Rattle.std.proofs.Common.{ap, ◌∙◌, append_assoc, arith}
 use borrow.Author.Tests.{leb-true, le-leb}
@@ -10,7 +11,6 @@ use Rattle.timecode.proofs.Laws.Tests.{by-test, and_left, and_right}
 use Rattle.timecode.proofs.Laws.Writing.{written-symbols}
 use Rattle.timecode.specs.Stream.{two_frames, plain_answers}
 use Rattle.timecode.specs.declared.Format.{Format}
-use Rattle.timecode.specs.declared.Written.TheVariants.{Done}
 use Rattle.lines.specs.Text.{space, newline}
 use Rattle.listing.specs.Printed.{format_in, is_first_line, printed_for, printed}
 use Rattle.characters.specs.ByteSymbols.{is_skipped, symbol_of_byte, feeds_of}
@@ -89,6 +89,6 @@ unfolding printed recording_text
 recording-is-read f sent k = rw (first-is f k (frames_text f sent), format_back f k (frames_text f sent), feeds-of-frames f sent)
 
 -- So of the lines that timewrite prints, once its checks are passed.
-pub recording-read : (f : Format) (s : Start) (w given : ℕ) → begun_of f s w given ≡ Done → (k : ℕ) → printed (first_line f ++ lines_of f s w given k) ≡ printed_for 0 0 (plain_answers f two_frames [] (elements f (frames_of f s w given k)))
+pub recording-read : (f : Format) (s : Start) (w given : ℕ) → begun_of f s w given ≡ done → (k : ℕ) → printed (first_line f ++ lines_of f s w given k) ≡ printed_for 0 0 (plain_answers f two_frames [] (elements f (frames_of f s w given k)))
 unfolding recording_text
 recording-read f s w given b k = rw (lines_are f s w given b k) (recording-is-read f (frames_of f s w given k) (valid f s w given b).format)

@@ -1,5 +1,7 @@
 -- The calls on a reader as one list in any mix: what each gives its caller, the symbols that it feeds, and the answers to these.
-use Rattle.std.specs.Prelude.{cond, ◌&&◌, List, [], ◌∷◌, ◌++◌, ℕ, ℤ, pos, length, take}
+use Rattle.block.specs.declared.Taken.{Taken}
+use Rattle.timecode.specs.declared.Refusal.{Refusal}
+use Rattle.std.specs.Prelude.{cond, ◌&&◌, List, [], ◌∷◌, ◌++◌, ℕ, ℤ, pos, length, take, Result, Ok, Err}
 use Rattle.timecode.specs.Calls.{is_interval, are_width_settings, pulse_of}
 use Rattle.timecode.specs.Stream.{plain_feed, plain_answers, plain_received}
 use Rattle.timecode.specs.declared.Answer.{Answer}
@@ -8,8 +10,7 @@ use Rattle.timecode.specs.declared.Refusal.TheVariants.{WrongLength, InvalidInte
 use Rattle.timecode.specs.declared.WidthSettings.{WidthSettings}
 use Rattle.stream.specs.Feeding.{feed_of}
 use Rattle.stream.specs.declared.Reader.{Reader}
-use Rattle.block.specs.Blocks.{Block, block_in, Lists, room_in, are_records, lists_left, records_in, answers_from, block_for, feed_block_of}
-use Rattle.block.specs.declared.BlockAnswer.{BlockAnswer}
+use Rattle.block.specs.Blocks.{Block, block_in, Lists, room_in, are_records, lists_left, records_in, answers_from, block_for, feed_block_of, block_taken}
 use Rattle.pulse_feed.specs.PulseFeeds.{feed_pulse_of}
 
 -- A symbol fed by value; a symbol fed in place; a pulse classified and fed (settings, interval, width, period); a block of symbols, with the lent list for its reports.
@@ -24,7 +25,7 @@ pub data CallResult : Type 0 where
   symbol_call_result : ℕ → Answer → CallResult
   in_place_call_result : ℕ → Answer → CallResult
   pulse_call_result : WidthSettings → ℕ → ℕ → ℕ → Answer → ℤ → CallResult
-  block_call_result : List ℕ → Lists → BlockAnswer → Lists → CallResult
+  block_call_result : List ℕ → Lists → Result Taken Refusal → Lists → CallResult
 
 -- ---- what was fed, and what it was answered
 
@@ -33,16 +34,16 @@ abbrev pub symbols_fed : CallResult → List ℕ
 symbols_fed (symbol_call_result s a) = s ∷ []
 symbols_fed (in_place_call_result s a) = s ∷ []
 symbols_fed (pulse_call_result s T width period a d) = cond (is_interval T && are_width_settings s) ((pulse_of s T width period).symbol ∷ []) []
-symbols_fed (block_call_result ss l (BlockAnswer.Taken taken reports why) left) = take taken ss
-symbols_fed (block_call_result ss l (BlockAnswer.Refused x) left) = []
+symbols_fed (block_call_result ss l (Ok b) left) = take b.symbols ss
+symbols_fed (block_call_result ss l (Err x) left) = []
 
 -- an answer to each symbol fed; a block's are those that its records tell
 abbrev pub answers_given : CallResult → List Answer
 answers_given (symbol_call_result s a) = a ∷ []
 answers_given (in_place_call_result s a) = a ∷ []
 answers_given (pulse_call_result s T width period a d) = cond (is_interval T && are_width_settings s) (a ∷ []) []
-answers_given (block_call_result ss l (BlockAnswer.Taken taken reports why) left) = answers_from 0 taken (records_in reports left)
-answers_given (block_call_result ss l (BlockAnswer.Refused x) left) = []
+answers_given (block_call_result ss l (Ok b) left) = answers_from 0 b.symbols (records_in b.reports left)
+answers_given (block_call_result ss l (Err x) left) = []
 
 unfoldable pub all_fed : List CallResult → List ℕ
 all_fed [] = []
@@ -91,8 +92,8 @@ plain_call_result f k received (pulse s T width period) =
     (pulse_call_result s T width period (Answer.Refused InvalidInterval) (pos 0))
 plain_call_result f k received (block ss l) =
     cond (are_records l)
-    (block_call_result ss l (BlockAnswer.Taken (plain_block f k received ss l).taken (length (plain_block f k received ss l).reports) (plain_block f k received ss l).stop) (lists_left (plain_block f k received ss l) l))
-    (block_call_result ss l (BlockAnswer.Refused WrongLength) l)
+    (block_call_result ss l (block_taken (plain_block f k received ss l).taken (length (plain_block f k received ss l).reports) (plain_block f k received ss l).stop) (lists_left (plain_block f k received ss l) l))
+    (block_call_result ss l (Err WrongLength) l)
 
 unfoldable pub plain_call_results : Format → ℕ → List ℕ → List ReaderCall → List CallResult
 plain_call_results f k received [] = []

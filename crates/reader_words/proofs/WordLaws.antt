@@ -1,5 +1,5 @@
 -- A reader whose numbers fit their widths comes back from its words, and no Feed makes another; what words that no call made are refused with.
-use Rattle.std.specs.Prelude.{◌≡◌, refl, true, false, ◌&&◌, List, [], ◌∷◌, ℕ, ◌+◌, ◌%◌, ◌<◌, ◌≤◌, leb, ltb, eqb, get_or}
+use Rattle.std.specs.Prelude.{◌≡◌, refl, true, false, ◌&&◌, List, [], ◌∷◌, ℕ, ◌+◌, ◌%◌, ◌<◌, ◌≤◌, leb, ltb, eqb, get_or, Result, Ok, Err}
 use Rattle.std.proofs.Common.{sym, ap, ◌∙◌, mod-eq_of_lt, arith, lt-ltb, le-ltb, ltb-true, leb-true}
 use Rattle.timecode.specs.Answers.{answer_result}
 use Rattle.timecode.specs.Formats.{is_symbol, known, look_up, row_of, size, table}
@@ -18,7 +18,6 @@ use Rattle.timecode.specs.declared.Refusal.{Refusal}
 use Rattle.register.specs.Receiving.{receive_of, frame_of}
 use Rattle.stream.specs.Feeding.{fresh_reader, made_of, made_result, is_valid, with_register, reader_with_reading, when_whole, with_symbol_of, next_of, answer_after, answer_of, feed_of}
 use Rattle.stream.specs.Refinement.{reader_after}
-use Rattle.stream.specs.declared.Made.{Made}
 use Rattle.stream.specs.declared.Reader.{Reader}
 use Rattle.ffi.proofs.Fields.{refusal-numbered}
 use Rattle.ffi.specs.Indexes.{refused_values}
@@ -123,7 +122,7 @@ pub setting-above-255 : (words : List ℕ) (s : ℕ) → is_valid (reader_in wor
 unfolding feed_of answer_of reader_in byte_in is_setting
 setting-above-255 words s v h = rw (v, le-ltb (get_or words 2 0) 256 h)
 
-pub made-fresh : (f : Format) (k : ℕ) (r : Reader) → made_of f k ≡ Made.Fresh r → r ≡ fresh_reader f k
+pub made-fresh : (f : Format) (k : ℕ) (r : Reader) → made_of f k ≡ Ok r → r ≡ fresh_reader f k
 unfolding made_of
 made-fresh f k r e =
     let or-fresh : made_or (fresh_reader f k) (made_of f k) ≡ fresh_reader f k = by-test (known f) (λ y. by-test (is_setting k) (λ z. rw (y, z)) (λ n. rw (y, n))) (λ n. rw n) in
@@ -131,9 +130,9 @@ made-fresh f k r e =
 
 -- ---- the structs' numbers, and no index left out
 
-pub fresh-number : (m : Made) → (fresh_result_of m).number ≡ (made_result m).number
-fresh-number (Made.Fresh r) = refl
-fresh-number (Made.Refused x) = refl
+pub fresh-number : (m : Result Reader Refusal) → (fresh_result_of m).number ≡ (made_result m).number
+fresh-number (Ok r) = refl
+fresh-number (Err x) = refl
 
 pub feed-no-index : (r : Reader) (s : ℕ) → refused_values (answer_result (answer_of r s)) ≡ []
 unfolding answer_of answer_after

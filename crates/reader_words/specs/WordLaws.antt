@@ -1,6 +1,6 @@
 -- A reader whose numbers fit their widths comes back from its words, and no Feed makes another; what words that no call made are refused with.
-use Rattle.std.specs.Prelude.{◌<◌}
-use Rattle.stream.specs.declared.Made.{Made}
+use Rattle.timecode.specs.declared.Refusal.{Refusal}
+use Rattle.std.specs.Prelude.{◌<◌, Result, Ok, Err}
 use Rattle.stream.specs.declared.Reader.{Reader}
 
 -- ---- readers whose numbers fit their widths, as the program's do
@@ -14,6 +14,6 @@ pub record Fits (r : Reader) : Type 0 where
   pub hundredths : r.time.hundredths < 4294967296
 
 -- the reader made, or another where it is refused
-abbrev pub made_or : Reader → Made → Reader
-made_or other (Made.Fresh r) = r
-made_or other (Made.Refused x) = other
+abbrev pub made_or : Reader → Result Reader Refusal → Reader
+made_or other (Ok r) = r
+made_or other (Err x) = other

@@ -1,12 +1,12 @@
 -- The reader as fourteen words in the caller's memory, and what a call leaves there.
-use Rattle.std.specs.Prelude.{cond, List, [], ◌∷◌, ℕ, ◌%◌, ltb, get_or, set}
+use Rattle.timecode.specs.declared.Refusal.{Refusal}
+use Rattle.std.specs.Prelude.{cond, List, [], ◌∷◌, ℕ, ◌%◌, ltb, get_or, set, Result, Ok, Err}
 use Rattle.timecode.specs.Answers.{refusal_number, answer_result}
 use Rattle.timecode.specs.declared.Answer.{Answer}
 use Rattle.timecode.specs.declared.Format.{Format}
 use Rattle.register.specs.declared.Register.{Register}
 use Rattle.stream.specs.Feeding.{fresh_reader, made_of, made_result, feed_of}
 use Rattle.stream.specs.declared.Fed.{Fed}
-use Rattle.stream.specs.declared.Made.{Made}
 use Rattle.stream.specs.declared.Reader.{Reader}
 use Rattle.ffi.specs.Fields.{unless_refused}
 use Rattle.ffi.specs.declared.WriteResult.{WriteResult}
@@ -53,9 +53,9 @@ unfoldable pub words_into : List ℕ → Reader → List ℕ
 words_into words r = register_into (others_into words r) r.place r.received
 
 -- the struct of making a fresh reader, and the words after it
-abbrev pub fresh_result_of : Made → WriteResult
-fresh_result_of (Made.Fresh r) = record { number = 0 }
-fresh_result_of (Made.Refused x) = record { number = refusal_number x }
+abbrev pub fresh_result_of : Result Reader Refusal → WriteResult
+fresh_result_of (Ok r) = record { number = 0 }
+fresh_result_of (Err x) = record { number = refusal_number x }
 
 unfoldable pub fresh_left : Format → ℕ → List ℕ → List ℕ
 fresh_left f k words = unless_refused (made_result (made_of f k)) (words_for (fresh_reader f k)) words

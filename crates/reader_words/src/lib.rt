@@ -5,43 +5,35 @@
 ghost use Rattle.std.specs.Prelude.{◌≡◌, ◌%◌};
 ghost use Rattle.ffi.specs.Structs.{feed_result_of};
 ghost use Rattle.stream.specs.Feeding.{made_of};
-ghost use Rattle.reader_words.specs.Words.{words_for, byte_in, reader_in, words_into, fresh_result_of, fresh_left, fed_with, words_left};
+ghost use Rattle.reader_words.specs.Words.{words_for, byte_in, reader_in, register_into, words_into, fresh_result_of, fresh_left, fed_with, words_left};
 
-use ffi::{FeedResult, WriteResult, feed_result};
+use ffi::{FeedResult, WriteResult};
 use refusals::number_of;
 use register::Register;
-use stream::{Made, Reader};
+use stream::Reader;
 use timecode::{Answer, Format, Time};
 
 // A word that is no byte stands for 255: no letter, no expression and no setting.
+#[tactic(auto, unfolding(crate::specs::Words::byte_in))]
 pub fn byte_in(word: u64) -> u8
     ensures { result ≡ byte_in word }
 {
-    if word < 256 {
-        return word as u8;
+    u8::try_from(word).unwrap_or(u8::MAX)
+}
+
+// The time in three words, to the widths of its parts.
+pub fn time_in(year: u64, day: u64, hundredths: u64) -> Time
+    ensures { result ≡ record { year = year % 256; day = day % 65536; hundredths = hundredths % 4294967296 } }
+{
+    Time {
+        year: (year % 256) as u8,
+        day: (day % 65536) as u16,
+        hundredths: (hundredths % 4294967296) as u32,
     }
-    255
-}
-
-fn year_in(word: u64) -> u8
-    ensures { result ≡ word % 256 }
-{
-    (word % 256) as u8
-}
-
-fn day_in(word: u64) -> u16
-    ensures { result ≡ word % 65536 }
-{
-    (word % 65536) as u16
-}
-
-fn hundredths_in(word: u64) -> u32
-    ensures { result ≡ word % 4294967296 }
-{
-    (word % 4294967296) as u32
 }
 
 // The reader in the caller's words, whatever they are.
+#[tactic(auto, unfolding(crate::specs::Words::reader_in))]
 pub fn reader_in(words: [u64; 14]) -> Reader
     ensures { result ≡ reader_in words }
 {
@@ -57,17 +49,12 @@ pub fn reader_in(words: [u64; 14]) -> Reader
         word2: words[8],
         row: words[9] as usize,
     };
-    let time = Time {
-        year: year_in(words[10]),
-        day: day_in(words[11]),
-        hundredths: hundredths_in(words[12]),
-    };
     Reader {
-        format: format,
+        format,
         setting: byte_in(words[2]),
         place: words[3] as usize,
-        received: received,
-        time: time,
+        received,
+        time: time_in(words[10], words[11], words[12]),
         control: words[13],
     }
 }
@@ -96,12 +83,25 @@ pub fn words_for(reader: Reader) -> [u64; 14]
     ]
 }
 
+// The place and the register, into the words of a reader.
+pub fn put_register(reader: &mut [u64; 14], place: u64, received: Register)
+    ensures { reader.new ≡ register_into reader.old place received }
+{
+    reader[9] = received.row as u64;
+    reader[8] = received.word2;
+    reader[7] = received.word1;
+    reader[6] = received.word0;
+    reader[5] = received.newest;
+    reader[4] = received.count as u64;
+    reader[3] = place;
+}
+
 // The reader's words put into the caller's, one by one: where one is as it was, nothing needs to be stored.
+#[tactic(auto, unfolding(crate::specs::Words::words_into))]
 pub fn put_words(reader: &mut [u64; 14], next: Reader)
     ensures { reader.new ≡ words_into reader.old next }
 {
     let format = next.format;
-    let received = next.received;
     let time = next.time;
     reader[0] = format.letter as u64;
     reader[1] = format.expression as u64;
@@ -110,13 +110,7 @@ pub fn put_words(reader: &mut [u64; 14], next: Reader)
     reader[11] = time.day as u64;
     reader[12] = time.hundredths as u64;
     reader[13] = next.control;
-    reader[9] = received.row as u64;
-    reader[8] = received.word2;
-    reader[7] = received.word1;
-    reader[6] = received.word0;
-    reader[5] = received.newest;
-    reader[4] = received.count as u64;
-    reader[3] = next.place as u64;
+    put_register(reader, next.place as u64, next.received);
 }
 
 // A fresh reader, into the caller's words.
@@ -126,11 +120,11 @@ pub fn put_fresh(format: Format, setting: u8, reader: &mut [u64; 14]) -> WriteRe
 {
     let made = Reader::fresh(format, setting);
     match made {
-        Made::Fresh(fresh) => {
+        Ok(fresh) => {
             *reader = words_for(fresh);
             WriteResult { number: 0 }
         }
-        Made::Refused(refusal) => WriteResult {
+        Err(refusal) => WriteResult {
             number: number_of(refusal),
         },
     }
@@ -141,7 +135,7 @@ pub fn put_fed(next: Reader, answer: Answer, reader: &mut [u64; 14]) -> FeedResu
     ensures value { result ≡ feed_result_of answer }
     ensures reader_after { reader.new ≡ words_left (fed_with next answer) reader.old }
 {
-    let result = feed_result(answer);
+    let result = FeedResult::from(answer);
     if result.number == 0 {
         put_words(reader, next);
     }

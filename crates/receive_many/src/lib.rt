@@ -13,10 +13,10 @@ fn four(first: u8, second: u8, third: u8, fourth: u8) -> u64
     requires { (first ≤ 3) × (second ≤ 3) × (third ≤ 3) × (fourth ≤ 3) }
     ensures { result ≡ first * 64 + second * 16 + third * 4 + fourth }
 {
-    let apart = first as u64
-        + (second as u64) * 256
-        + (third as u64) * 65_536
-        + (fourth as u64) * 16_777_216;
+    let apart = u64::from(first)
+        + u64::from(second) * 256
+        + u64::from(third) * 65_536
+        + u64::from(fourth) * 16_777_216;
     apart * 1_074_791_425 / 16_777_216 % 256
 }
 
@@ -47,9 +47,8 @@ fn push_all(word: u64, symbols: &[u8], from: usize, to: usize) -> u64
         );
         i += 4;
     }
-    while i < to {
-        newest = push(newest, symbols[i]);
-        i += 1;
+    for k in i..to {
+        newest = push(newest, symbols[k]);
     }
     newest
 }
@@ -71,9 +70,10 @@ fn joined(register: Register, newest: u64, count: usize) -> Register
     ensures { result ≡ joined_of register newest count }
 {
     if count % 32 == 0 {
-        return with_word(register, newest, count);
+        with_word(register, newest, count)
+    } else {
+        continued(register, newest, count)
     }
-    continued(register, newest, count)
 }
 
 // So many symbols, up to the frame's next multiple of 32.
@@ -82,10 +82,7 @@ fn up_to_word(count: usize, left: usize) -> usize
     ensures { (1 ≤ result) × (result ≤ left) × (count % 32 + result ≤ 32) }
 {
     let room = 32 - count % 32;
-    if left < room {
-        return left;
-    }
-    room
+    left.min(room)
 }
 
 // Inside a frame: its symbols from one index to another.
@@ -95,6 +92,7 @@ pub fn receive_inside(register: Register, symbols: &[u8], from: usize, to: usize
 {
     let mut current = register;
     let mut i = from;
+    // A turn takes as many symbols as the frame's word has room for, so no `for` counts them.
     while i < to {
         let count = current.count;
         let more = up_to_word(count, to - i);

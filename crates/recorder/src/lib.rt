@@ -26,23 +26,19 @@ ghost use Rattle.reader_words.specs.Words.{reader_in, fresh_result_of, fresh_lef
 
 use block_words::BlockResult;
 use calendar::{Date, DateTime};
-use calendar_words::{
-    AskResult, DateResult, DayResult, add_to, ask_in, date_result, day_result, put_empty,
-};
+use calendar_words::{AskResult, DateResult, DayResult, add_to, ask_in, put_empty};
 use clock::{difference, step, step_back};
 use editions::{backward, forward};
 use ffi::{
     ClassifyResult, ConvertResult, DifferenceResult, FeedPulseResult, FeedResult, ForecastResult,
-    ReadResult, ScanResult, StepResult, WriteResult, classify_result, convert_result,
-    difference_result, feed_pulse_result, forecast_result, read_result, scan_result, step_result,
-    write_result,
+    ReadResult, ScanResult, StepResult, WriteResult,
 };
 use figures::{FormatFiguresResult, TimeOfDayResult, format_figures, time_of_day};
 use forecasts::Oscillator;
 use frame::{read, write};
 use holdover::forecast;
 use log_read::read_report;
-use log_results::{LogReadResult, LogWriteResult, log_read_result, log_write_result};
+use log_results::{LogReadResult, LogWriteResult};
 use log_write::write_report;
 use manchester_decode::decode;
 use manchester_encode::encode;
@@ -53,7 +49,7 @@ use reader_words::{put_fed, put_fresh, reader_in};
 use report_log::Report;
 use scan::scan;
 use simulate::simulate;
-use simulate_results::{SimulateResult, simulate_result};
+use simulate_results::SimulateResult;
 use timecode::{Format, Time, WidthSettings};
 use word_block::feed_block_words;
 use word_feed::feed_words;
@@ -69,7 +65,7 @@ pub extern "C" fn duskveyra_write(
     ensures value { result ≡ write_result_of (write_of format time control frame.old) }
     ensures frame_after { frame.new ≡ write_leaves format time control frame.old }
 {
-    write_result(write(format, time, control, frame))
+    WriteResult::from(write(format, time, control, frame))
 }
 
 // Read: the time and the control word of a frame; with 5 and 6 the index.
@@ -77,7 +73,7 @@ pub extern "C" fn duskveyra_write(
 pub extern "C" fn duskveyra_read(format: Format, frame: &[u8]) -> ReadResult
     ensures { result ≡ read_result_of (read_of format frame.now) }
 {
-    read_result(read(format, frame))
+    ReadResult::from(read(format, frame))
 }
 
 // The forward converter: a frame without the year as the frame of the later edition with it; with 5 and 6 the index.
@@ -91,7 +87,7 @@ pub extern "C" fn duskveyra_forward(
     ensures value { result ≡ convert_result_of (forward_of format frame.now year later.old) }
     ensures later_after { later.new ≡ forward_leaves format frame.now year later.old }
 {
-    convert_result(forward(format, frame, year, later))
+    ConvertResult::from(forward(format, frame, year, later))
 }
 
 // The backward converter: a frame with the year as the frame of the earlier edition, with zeros where the year stood; with 5 and 6 the index.
@@ -104,7 +100,7 @@ pub extern "C" fn duskveyra_backward(
     ensures value { result ≡ convert_result_of (backward_of format frame.now earlier.old) }
     ensures earlier_after { earlier.new ≡ backward_leaves format frame.now earlier.old }
 {
-    convert_result(backward(format, frame, earlier))
+    ConvertResult::from(backward(format, frame, earlier))
 }
 
 // Step: the next time. The year's length and the kind are those of the given time's year and day; where the format carries the year, its own length counts.
@@ -117,7 +113,7 @@ pub extern "C" fn duskveyra_step(
 ) -> StepResult
     ensures { result ≡ step_result_of (step_of format time year_length kind) }
 {
-    step_result(step(format, time, year_length, kind))
+    StepResult::from(step(format, time, year_length, kind))
 }
 
 // Step back: the time before. The year's length and the kind are those of that time's year and day; where the format carries the year, its own length counts.
@@ -130,7 +126,7 @@ pub extern "C" fn duskveyra_step_back(
 ) -> StepResult
     ensures { result ≡ step_result_of (step_back_of format time year_length kind) }
 {
-    step_result(step_back(format, time, year_length, kind))
+    StepResult::from(step_back(format, time, year_length, kind))
 }
 
 // Difference: the first time less the second.
@@ -138,7 +134,7 @@ pub extern "C" fn duskveyra_step_back(
 pub extern "C" fn duskveyra_difference(first: Time, second: Time) -> DifferenceResult
     ensures { result ≡ difference_result_of (difference_of first second) }
 {
-    difference_result(difference(first, second))
+    DifferenceResult::from(difference(first, second))
 }
 
 // A fresh reader with the setting k: k frames in a row.
@@ -179,7 +175,7 @@ pub extern "C" fn duskveyra_feed_pulse(
     let next = fed.reader;
     let answer = fed.answer;
     let deviation = fed.deviation;
-    feed_pulse_result(put_fed(next, answer, reader), deviation)
+    FeedPulseResult::with_deviation(put_fed(next, answer, reader), deviation)
 }
 
 // A block of symbols, with its reports put into a list for each field: indexes, years, days, hundredths and control words.
@@ -210,7 +206,7 @@ pub extern "C" fn duskveyra_classify(
 ) -> ClassifyResult
     ensures { result ≡ classify_result_of (classify_of settings interval width period) }
 {
-    classify_result(classify(settings, interval, width, period))
+    ClassifyResult::from(classify(settings, interval, width, period))
 }
 
 // The classifier over lists of pulses, with their deviations put into a list of their own.
@@ -228,7 +224,7 @@ pub extern "C" fn duskveyra_classify_list(
     ensures deviations_after { deviations.new ≡ deviations_left settings interval widths.now periods.now symbols.old deviations.old }
 {
     let written = classify_list(settings, interval, widths, periods, symbols, deviations);
-    write_result(written)
+    WriteResult::from(written)
 }
 
 // Scan: where a frame begins, and its time and control word.
@@ -236,7 +232,7 @@ pub extern "C" fn duskveyra_classify_list(
 pub extern "C" fn duskveyra_scan(format: Format, recording: &[u8], start: usize) -> ScanResult
     ensures { result ≡ scan_result_of (scan_of format recording.now start) }
 {
-    scan_result(scan(format, recording, start))
+    ScanResult::from(scan(format, recording, start))
 }
 
 // A frame in the modified Manchester form: so many clock cycles for each symbol.
@@ -250,7 +246,7 @@ pub extern "C" fn duskveyra_encode_cycles(
     ensures value { result ≡ write_result_of (encode_of format count frame.now cycles.old) }
     ensures cycles_after { cycles.new ≡ encode_leaves format count frame.now cycles.old }
 {
-    write_result(encode(format, count, frame, cycles))
+    WriteResult::from(encode(format, count, frame, cycles))
 }
 
 // Clock cycles of the modified Manchester form as a frame; with 25 the index of the cycle.
@@ -264,7 +260,7 @@ pub extern "C" fn duskveyra_decode_cycles(
     ensures value { result ≡ convert_result_of (decode_of format count cycles.now frame.old) }
     ensures frame_after { frame.new ≡ decode_leaves format count cycles.now frame.old }
 {
-    convert_result(decode(format, count, cycles, frame))
+    ConvertResult::from(decode(format, count, cycles, frame))
 }
 
 // The hold-over forecast: the error that is expected so many whole seconds after the code is cut.
@@ -272,7 +268,7 @@ pub extern "C" fn duskveyra_decode_cycles(
 pub extern "C" fn duskveyra_forecast(oscillator: Oscillator, seconds: u32) -> ForecastResult
     ensures { result ≡ forecast_result_of (forecast_of oscillator seconds) }
 {
-    forecast_result(forecast(oscillator, seconds))
+    ForecastResult::from(forecast(oscillator, seconds))
 }
 
 // Adds the record of a report to a lent log, at a place and after the report before.
@@ -286,7 +282,7 @@ pub extern "C" fn duskveyra_log_write(
     ensures value { result ≡ log_write_result_of (write_log log.old place before report) }
     ensures log_after { log.new ≡ log_left log.old place before report }
 {
-    log_write_result(write_report(log, place, before, report))
+    LogWriteResult::from(write_report(log, place, before, report))
 }
 
 // The report of the record at a place of a log, after the report before.
@@ -294,7 +290,7 @@ pub extern "C" fn duskveyra_log_write(
 pub extern "C" fn duskveyra_log_read(log: &[u8], place: usize, before: Report) -> LogReadResult
     ensures { result ≡ log_read_result_of (read_log log.now place before) }
 {
-    log_read_result(read_report(log, place, before))
+    LogReadResult::from(read_report(log, place, before))
 }
 
 // The simulation: what each listener counts that hears a generator from the start on, with its own setting and its own damages. There is a listener for each setting;
@@ -312,7 +308,7 @@ pub extern "C" fn duskveyra_simulate(
 ) -> SimulateResult
     ensures { result ≡ simulate_result_of (simulate_lent format start frames year_length settings.now ends.now numbers.now symbols.now) }
 {
-    simulate_result(simulate(
+    SimulateResult::from(simulate(
         format,
         start,
         frames,
@@ -329,7 +325,7 @@ pub extern "C" fn duskveyra_simulate(
 pub extern "C" fn duskveyra_date_of_day(year: u8, day: u16) -> DateResult
     ensures { result ≡ date_result_of (date_of year day) }
 {
-    date_result(date_of(year, day))
+    DateResult::from(date_of(year, day))
 }
 
 // Day of year from month and day.
@@ -337,7 +333,7 @@ pub extern "C" fn duskveyra_date_of_day(year: u8, day: u16) -> DateResult
 pub extern "C" fn duskveyra_day_of_date(date: Date) -> DayResult
     ensures { result ≡ day_result_of (day_of date) }
 {
-    day_result(day_of(date))
+    DayResult::from(day_of(date))
 }
 
 // An empty calendar of test windows, into the caller's words.

@@ -5,43 +5,34 @@
 use program_io::read;
 use std::io::Read;
 
-// The next byte of the input, or why there is none.
-#[derive(Clone, Copy)]
-enum Next {
-    Byte(u8),
-    End,
-    Failed,
-}
+// A read has failed, and standard error says why.
+#[derive(Clone, Copy, Debug, PartialEq, Eq)]
+pub struct ReadFailed;
 
-fn next_byte<R: Read>(rt: &HostRuntime, input: &mut R) -> Next {
+// The next byte of the input, or none at its end.
+fn next_byte<R: Read>(rt: &HostRuntime, input: &mut R) -> Result<Option<u8>, ReadFailed> {
     let mut byte = [0u8; 1];
     let got = read(rt, input, &mut byte);
     if got < 0 {
-        return Next::Failed;
+        Err(ReadFailed)
+    } else if got == 0 {
+        Ok(None)
+    } else {
+        Ok(Some(byte[0]))
     }
-    if got == 0 {
-        return Next::End;
-    }
-    Next::Byte(byte[0])
 }
 
-// The input's first three bytes, fewer where it ends or no more are lent: how many there are, or -1 where a read failed.
-pub fn read_head<R: Read>(rt: &HostRuntime, input: &mut R, head: &mut [u8]) -> isize {
-    let mut n = 0;
-    while n < 3 && n < head.len() {
-        let next = next_byte(rt, input);
-        match next {
-            Next::Byte(byte) => {
-                head[n] = byte;
-                n += 1;
-            }
-            Next::End => {
-                return n as isize;
-            }
-            Next::Failed => {
-                return -1;
-            }
-        }
+// The input's first three bytes, fewer where it ends: they are put into the lent ones.
+pub fn read_head<'a, R: Read>(
+    rt: &HostRuntime,
+    input: &mut R,
+    head: &'a mut [u8; 3],
+) -> Result<&'a [u8], ReadFailed> {
+    for i in 0..3 {
+        let Some(byte) = next_byte(rt, input)? else {
+            return Ok(&head[..i]);
+        };
+        head[i] = byte;
     }
-    n as isize
+    Ok(head)
 }

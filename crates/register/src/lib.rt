@@ -10,7 +10,7 @@ use timecode::{Format, MARK};
 
 // How many symbols the frame under way has, or 0 where there is none; the last 32 symbols; the frame's first, second and third 32, or 0;
 // how many accepted frames, each next after the one before, end right before the frame, or with it once it is whole.
-#[derive(Clone, Copy)]
+#[derive(Clone, Copy, PartialEq, Eq)]
 pub struct Register {
     pub count: usize,
     pub newest: u64,
@@ -23,35 +23,31 @@ pub struct Register {
 // 2^62: what a word holds below its oldest symbol
 const OLDEST: u64 = 4_611_686_018_427_387_904;
 
+#[tactic(auto, unfolding(crate::specs::Receiving::push_of))]
 pub fn push(word: u64, symbol: u8) -> u64
     ensures { result ≡ push_of word symbol }
 {
-    (word % OLDEST) * 4 + (symbol % 4) as u64
+    (word % OLDEST) * 4 + u64::from(symbol % 4)
 }
 
 // A mark directly after a mark begins a frame, in X any mark. The letter is asked only where a mark came.
+#[tactic(auto, unfolding(following::specs::Rows::opens_frame, following::specs::Rows::leads_frame, timecode::specs::Formats::is_x))]
 pub fn opens_frame(format: Format, newest: u64, symbol: u8) -> bool
     ensures { result ≡ opens_frame format (newest % 4) symbol }
 {
-    if symbol == MARK {
-        if format.letter == b'X' {
-            return true;
-        }
-        return newest % 4 == MARK as u64;
-    }
-    false
+    symbol == MARK && (format.letter == b'X' || newest % 4 == u64::from(MARK))
 }
 
 pub fn begun(newest: u64, count: usize, row: usize) -> Register
     ensures { result ≡ begun_of newest count row }
 {
     Register {
-        count: count,
-        newest: newest,
+        count,
+        newest,
         word0: 0,
         word1: 0,
         word2: 0,
-        row: row,
+        row,
     }
 }
 
@@ -59,34 +55,28 @@ pub fn continued(register: Register, newest: u64, count: usize) -> Register
     ensures { result ≡ continued_of register newest count }
 {
     Register {
-        count: count,
-        newest: newest,
-        word0: register.word0,
-        word1: register.word1,
-        word2: register.word2,
-        row: register.row,
+        count,
+        newest,
+        ..register
     }
 }
 
 fn word_after(full: bool, old: u64, newest: u64) -> u64
     ensures { result ≡ cond full newest old }
 {
-    if full {
-        return newest;
-    }
-    old
+    if full { newest } else { old }
 }
 
 pub fn with_word(register: Register, newest: u64, count: usize) -> Register
     ensures { result ≡ with_word_of register newest count }
 {
     Register {
-        count: count,
-        newest: newest,
+        count,
+        newest,
         word0: word_after(count == 32, register.word0, newest),
         word1: word_after(count == 64, register.word1, newest),
         word2: word_after(count == 96, register.word2, newest),
-        row: register.row,
+        ..register
     }
 }
 
@@ -94,10 +84,7 @@ pub fn with_word(register: Register, newest: u64, count: usize) -> Register
 pub fn row_before(whole: bool, row: usize) -> usize
     ensures { result ≡ cond whole row 0 }
 {
-    if whole {
-        return row;
-    }
-    0
+    if whole { row } else { 0 }
 }
 
 // One symbol more: an opening begins a frame; after a whole frame there is none; any other joins the frame under way.
@@ -127,10 +114,8 @@ fn put_symbols(word: u64, at: usize, bytes: &mut [u8])
     requires { at + 32 ≤ length bytes.old }
     ensures { SymbolsPut word at bytes.old 32 bytes.new }
 {
-    let mut j = 0;
-    while j < 32 {
+    for j in 0..32 {
         bytes[at + j] = ((word >> (62 - j * 2)) % 4) as u8;
-        j += 1;
     }
 }
 

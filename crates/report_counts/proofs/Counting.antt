@@ -1,9 +1,11 @@
 -- One Feed or one symbol more, at each turn of the loops.
-use Rattle.std.specs.Prelude.{◌≡◌, refl, Bool, true, false, ℕ, suc, ◌+◌, ◌-◌, ◌<◌, ◌≤◌, eqb, get_or, length, drop}
+use Rattle.std.specs.Prelude.{◌≡◌, refl, Bool, true, false, ℕ, suc, ◌+◌, ◌-◌, ◌<◌, ◌≤◌, eqb, get_or, length, drop, cond, count_by, ◌==◌, Option, None, is_some}
 use Rattle.std.proofs.Common.{sym, ap, ◌∙◌, add-zero, not-suc-le-zero, arith, drop_of_length-le, drop-cons, get_or-append-add}
 use mathlib.Core.List.{List, [], ◌∷◌, ◌++◌, reverse, reverse-cons}
 use Rattle.std.proofs.Math.Numerals.{add-one}
 use Rattle.std.proofs.Math.Decide.{ℕ_discrete}
+use Rattle.std.proofs.lemmas.Bool.{false≢true}
+use Rattle.std.proofs.lemmas.List.Recursion.{is_count_by}
 use Rattle.std.proofs.lemmas.List.{length-reverse}
 use Rattle.std.proofs.Math.ListN.{get_or-append}
 use Rattle.timecode.specs.declared.Answer.{Answer}
@@ -13,30 +15,30 @@ use Rattle.stream.specs.Refinement.{answers}
 use Rattle.stream.specs.declared.Reader.{Reader}
 use Rattle.report_counts.specs.Reports.{directed, reported_by, first_report, is_report, reports_among, reports_of, count_if, times_of}
 use Rattle.report_counts.specs.declared.Reported.{Reported}
-use Rattle.report_counts.specs.declared.Reported.TheVariants.{None}
 
 -- ---- the next report
 
-no-report : (a : Answer) (i : ℕ) (next : Reader) (later : Reported) → (is_report a ≡ 1 → ⊥) → reported_by a i next later ≡ later
-no-report (Report t w) i next later n = absurd (n refl)
+-- what comes later is looked at where the answer is no report
+no-report : (a : Answer) (i : ℕ) (next : Reader) (later : Option Reported) → is_some (reported_by a i next None) ≡ false → reported_by a i next later ≡ later
+no-report (Report t w) i next later n = absurd (false≢true (sym n))
 no-report Quiet i next later n = refl
 no-report (Answer.Refused x) i next later n = refl
 
-report-alone : (a : Answer) (i : ℕ) (next : Reader) (later : Reported) → is_report a ≡ 1 → reported_by a i next None ≡ reported_by a i next later
+report-alone : (a : Answer) (i : ℕ) (next : Reader) (later : Option Reported) → is_some (reported_by a i next None) ≡ true → reported_by a i next None ≡ reported_by a i next later
 report-alone (Report t w) i next later e = refl
-report-alone Quiet i next later e = let n : ⊥ = omega arith in absurd n
-report-alone (Answer.Refused x) i next later e = let n : ⊥ = omega arith in absurd n
+report-alone Quiet i next later e = absurd (false≢true e)
+report-alone (Answer.Refused x) i next later e = absurd (false≢true e)
 
-module _ (ss : List ℕ) (i : ℕ) (h : i < length ss) (r : Reader) (a : Answer) (is : a ≡ answer_of r (get_or ss i 0)) (next : Reader) (fed : next ≡ next_of r (get_or ss i 0)) (k : ℕ) (kind : k ≡ is_report a) where
+module _ (ss : List ℕ) (i : ℕ) (h : i < length ss) (r : Reader) (a : Answer) (is : a ≡ answer_of r (get_or ss i 0)) (next : Reader) (fed : next ≡ next_of r (get_or ss i 0)) (x : Option Reported) (by : x ≡ reported_by a i next None) where
   first-turn : first_report r i (drop i ss) ≡ reported_by a i next (first_report next (i + 1) (drop (i + 1) ss))
   unfolding first_report
   first-turn = rw (drop-cons ss i 0 h, is, fed, add-one i)
 
-  pub report-turn : (k ≡ 1 → ⊥) → first_report r i (drop i ss) ≡ first_report next (i + 1) (drop (i + 1) ss)
-  report-turn n = first-turn ∙ no-report a i next (first_report next (i + 1) (drop (i + 1) ss)) (λ e. n (kind ∙ e))
+  pub report-turn : is_some x ≡ false → first_report r i (drop i ss) ≡ first_report next (i + 1) (drop (i + 1) ss)
+  report-turn n = first-turn ∙ no-report a i next (first_report next (i + 1) (drop (i + 1) ss)) (sym (ap is_some by) ∙ n)
 
-  pub report-here : k ≡ 1 → reported_by a i next None ≡ first_report r i (drop i ss)
-  report-here e = report-alone a i next (first_report next (i + 1) (drop (i + 1) ss)) (sym kind ∙ e) ∙ sym first-turn
+  pub report-here : is_some x ≡ true → x ≡ first_report r i (drop i ss)
+  report-here e = by ∙ report-alone a i next (first_report next (i + 1) (drop (i + 1) ss)) (sym (ap is_some by) ∙ e) ∙ sym first-turn
 
 pub report-end : (ss : List ℕ) (i : ℕ) (r : Reader) → length ss ≤ i → first_report r i (drop i ss) ≡ None
 unfolding first_report
@@ -78,10 +80,10 @@ get_d_reverse (x ∷ xs) i h = ap (λ (ys : List ℕ). get_or ys i 0) (reverse-c
 
 -- ---- how often a symbol
 
-pub times-turn : (s : ℕ) (ss : List ℕ) (i total count : ℕ) → i < length ss → total ≡ count + times_of s (drop i ss) → total ≡ count + count_if (eqb (get_or ss i 0) s) + times_of s (drop (i + 1) ss)
-unfolding times_of
-times-turn s ss i total count h e = e ∙ rw (drop-cons ss i 0 h, add-one i) (omega arith)
+counted : (b : Bool) (k : ℕ) → count_if b + k ≡ cond b (1 + k) k
+counted true k = refl
+counted false k = omega arith
 
-pub times-end : (s : ℕ) (ss : List ℕ) (i total count : ℕ) → length ss ≤ i → total ≡ count + times_of s (drop i ss) → count ≡ total
+pub times-counted : (s : ℕ) (xs : List ℕ) → times_of s xs ≡ count_by (λ x. x == s) xs
 unfolding times_of
-times-end s ss i total count h e = sym (e ∙ rw (drop_of_length-le ss {i = i} h) (add-zero count))
+times-counted s = is_count_by (times_of s) (λ x. x == s) refl (λ x xs. counted (eqb x s) (times_of s xs))

@@ -2,25 +2,21 @@
 // It assumes nothing of the recording.
 #![tactic(auto)]
 
-ghost use Rattle.std.specs.Prelude.{◌≡◌, ◌≤◌, ◌<◌, get_or, length, drop};
-ghost use Rattle.report_counts.specs.Reports.{directed, reported_by, first_report, is_report, reports_of, reports_in, count_if, times_of};
-ghost use Rattle.report_counts.specs.declared.Reported.TheVariants.{None};
+ghost use Rattle.std.specs.Prelude.{◌≡◌, ◌≤◌, ◌<◌, None, get_or, length, drop};
+ghost use Rattle.report_counts.specs.Reports.{directed, reported_by, first_report, is_report, reports_of, reports_in, times_of};
 
-use stream::{Made, Reader, answer_to, next_reader};
+use stream::{Reader, answer_to, next_reader};
 use timecode::{Answer, Format, Time};
 
 // timeread keeps two frames.
 const SETTING: u8 = 2;
 
-// The index of the symbol that brought a report, its time, and the reader after it; or no symbol brings one.
+// The index of the symbol that brought a report, its time, and the reader after it.
 #[derive(Clone, Copy)]
-pub enum Reported {
-    At {
-        index: usize,
-        time: Time,
-        reader: Reader,
-    },
-    None,
+pub struct Reported {
+    pub index: usize,
+    pub time: Time,
+    pub reader: Reader,
 }
 
 // 1 for a report, else 0.
@@ -34,37 +30,35 @@ fn is_report(answer: Answer) -> usize
     }
 }
 
-fn reported_at(answer: Answer, index: usize, reader: Reader) -> Reported
+fn reported_at(answer: Answer, index: usize, reader: Reader) -> Option<Reported>
     ensures { result ≡ reported_by answer index reader None }
 {
     match answer {
-        Answer::Quiet => Reported::None,
-        Answer::Report { time, .. } => Reported::At {
-            index: index,
-            time: time,
-            reader: reader,
-        },
-        Answer::Refused(_) => Reported::None,
+        Answer::Quiet => None,
+        Answer::Report { time, .. } => Some(Reported {
+            index,
+            time,
+            reader,
+        }),
+        Answer::Refused(_) => None,
     }
 }
 
 // The next report from a place of the recording on.
-pub fn next_report(reader: Reader, recording: &[u8], from: usize) -> Reported
+pub fn next_report(reader: Reader, recording: &[u8], from: usize) -> Option<Reported>
     ensures { result ≡ first_report reader from (drop from recording.now) }
 {
     let mut current = reader;
-    let mut i = from;
-    while i < recording.len() {
+    for i in from..recording.len() {
         let symbol = recording[i];
         let next = next_reader(current, symbol);
-        let answer = answer_to(current, symbol, next);
-        if is_report(answer) == 1 {
-            return reported_at(answer, i, next);
+        let reported = reported_at(answer_to(current, symbol, next), i, next);
+        if reported.is_some() {
+            return reported;
         }
         current = next;
-        i += 1;
     }
-    Reported::None
+    None
 }
 
 // A symbol of the recording as it is read: from the front or from the end.
@@ -73,9 +67,10 @@ fn symbol_at(recording: &[u8], backwards: bool, i: usize) -> u8
     ensures { result ≡ get_or (directed backwards recording.now) i 0 }
 {
     if backwards {
-        return recording[recording.len() - 1 - i];
+        recording[recording.len() - 1 - i]
+    } else {
+        recording[i]
     }
-    recording[i]
 }
 
 fn count_reports(reader: Reader, recording: &[u8], backwards: bool) -> usize
@@ -83,13 +78,11 @@ fn count_reports(reader: Reader, recording: &[u8], backwards: bool) -> usize
 {
     let mut current = reader;
     let mut count = 0;
-    let mut i = 0;
-    while i < recording.len() {
+    for i in 0..recording.len() {
         let symbol = symbol_at(recording, backwards, i);
         let next = next_reader(current, symbol);
         count += is_report(answer_to(current, symbol, next));
         current = next;
-        i += 1;
     }
     count
 }
@@ -100,29 +93,14 @@ pub fn reports_in(format: Format, recording: &[u8], backwards: bool) -> usize
 {
     let made = Reader::fresh(format, SETTING);
     match made {
-        Made::Fresh(reader) => count_reports(reader, recording, backwards),
-        Made::Refused(_) => 0,
+        Ok(reader) => count_reports(reader, recording, backwards),
+        Err(_) => 0,
     }
-}
-
-fn count_if(same: bool) -> usize
-    ensures { (result ≡ count_if same) × (result ≤ 1) }
-{
-    if same {
-        return 1;
-    }
-    0
 }
 
 // How often a symbol stands in a recording.
 pub fn times_of(symbol: u8, recording: &[u8]) -> usize
     ensures { result ≡ times_of symbol recording.now }
 {
-    let mut count = 0;
-    let mut i = 0;
-    while i < recording.len() {
-        count += count_if(recording[i] == symbol);
-        i += 1;
-    }
-    count
+    recording.iter().filter(|s| **s == symbol).count()
 }

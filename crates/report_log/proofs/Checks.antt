@@ -1,10 +1,9 @@
 -- The ranges of a report: a report that passes 2, 17 and 9, and the chain of these checks before any answer.
-use Rattle.std.specs.Prelude.{◌≡◌}
+use Rattle.timecode.specs.Answers.{done}
+use Rattle.std.specs.Prelude.{◌≡◌, Err}
 use Rattle.timecode.specs.Laws.Checks.{Taken}
 use Rattle.timecode.proofs.Laws.Checks.{all-passed, done-passes, done_refused}
 use Rattle.timecode.specs.declared.Refusal.{Refusal}
-use Rattle.timecode.specs.declared.Written.{Written}
-use Rattle.timecode.specs.declared.Written.TheVariants.{Done}
 use Rattle.report_log.specs.Log.{report_checks, check_report}
 use Rattle.report_log.specs.declared.Report.{Report}
 use Rattle.report_log.specs.Checks.{Valid}
@@ -19,8 +18,8 @@ valid-passes refused r answer v = rw (v.time, v.year, v.control)
 
 -- ---- checked once for every kind of answer
 
-pub report-passes : {Any : Type 0} (refused : Refusal → Any) (answer : Any) (r : Report) → check_report Written.Refused r Done ≡ Done → check_report refused r answer ≡ answer
+pub report-passes : {Any : Type 0} (refused : Refusal → Any) (answer : Any) (r : Report) → check_report Err r done ≡ done → check_report refused r answer ≡ answer
 report-passes refused answer r h = done-passes refused (report_checks r) answer h
 
-pub report-refused : {Any : Type 0} (refused : Refusal → Any) (answer : Any) (r : Report) (x : Refusal) → check_report Written.Refused r Done ≡ Written.Refused x → check_report refused r answer ≡ refused x
+pub report-refused : {Any : Type 0} (refused : Refusal → Any) (answer : Any) (r : Report) (x : Refusal) → check_report Err r done ≡ Err x → check_report refused r answer ≡ refused x
 report-refused refused answer r x h = done_refused refused (report_checks r) answer x h

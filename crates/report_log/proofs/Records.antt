@@ -1,5 +1,5 @@
 -- One record written and read: what is written is read as it was, and what is read was written so.
-use Rattle.std.specs.Prelude.{◌≡◌, refl, true, ◌&&◌, List, [], ◌∷◌, ◌++◌, ℕ, suc, ◌+◌, ◌^◌, ◌<◌, ◌≤◌, leb, ltb, eqb, length, take}
+use Rattle.std.specs.Prelude.{◌≡◌, refl, true, ◌&&◌, List, [], ◌∷◌, ◌++◌, ℕ, suc, ◌+◌, ◌^◌, ◌<◌, ◌≤◌, leb, ltb, eqb, length, take, Result, Ok, Err, Option, Some, None}
 use Rattle.std.proofs.Common.{sym, ap, ◌∙◌, subst, arith, leb-true, ltb-true, le-leb, lt-ltb, eq-eqb, ne_eqb, length-append, take-append-drop, length-take-le}
 use Rattle.timecode.specs.Formats.{last_day, last_hundredth, last_year, in_range}
 use Rattle.timecode.specs.Laws.Checks.{Taken}
@@ -8,13 +8,13 @@ use Rattle.timecode.proofs.Laws.Tests.{by-test, clash, and_left, and_right}
 use Rattle.timecode.specs.declared.Refusal.TheVariants.{RecordCutShort, InvalidRecord}
 use Rattle.report_log.specs.Checks.{Valid}
 use Rattle.report_log.proofs.Checks.{ranges-passed, valid-passes}
+use Rattle.report_log.specs.declared.Record.{Record}
+use Rattle.timecode.specs.declared.Refusal.{Refusal}
 use Rattle.report_log.specs.declared.Report.{Report}
-use Rattle.report_log.specs.Log.{Field, fields_of, map_of, changed_of, record_of, size_of, read_fields, report_in, all_differ, check_report, fields_after, read_record}
+use Rattle.report_log.specs.Log.{Field, no_report, fields_of, map_of, changed_of, record_of, size_of, read_fields, report_in, all_differ, check_report, fields_after, read_record, record_read}
 use Rattle.report_log.specs.Numbers.{Bytes}
 use Rattle.report_log.specs.Fields.{Fit}
 use Rattle.report_log.proofs.Fields.{map_below, size-said, fields-said, differ-said, fields_read}
-use Rattle.report_log.specs.declared.LogReading.{LogReading}
-use Rattle.report_log.specs.declared.LogReading.TheVariants.{Record}
 use Rattle.report_log.specs.Records.{Found}
 
 pub valid-fits : (p r : Report) → Valid r → Fit (fields_of p r)
@@ -49,7 +49,7 @@ pub map-small : (p r : Report) → map_of (fields_of p r) < 16
 unfolding fields_of
 map-small p r = map_below (fields_of p r)
 
-pub record-said : (p r : Report) → Valid r → (rest : List ℕ) (at : ℕ) → read_record p (record_of p r ++ rest) at ≡ Record r (at + length (record_of p r))
+pub record-said : (p r : Report) → Valid r → (rest : List ℕ) (at : ℕ) → read_record p (record_of p r ++ rest) at ≡ record_read r (at + length (record_of p r))
 unfolding read_record record_of
 record-said p r v rest at =
     let fs = fields_of p r in
@@ -62,7 +62,7 @@ record-said p r v rest at =
       lt-ltb (map_of fs) 16 (map-small p r),
       differ-said fs,
       report-is p r,
-      valid-passes LogReading.Refused r (Record r (at + (1 + length (changed_of fs)))) v,
+      valid-passes Err r (record_read r (at + (1 + length (changed_of fs)))) v,
       long,
     )
 
@@ -72,7 +72,7 @@ no-path : ◌≡◌ {A = ℕ} 0 1 → ⊥
 no-path z = omega arith
 
 -- a record that is read is no refusal
-pub found : (r : Report) (n : ℕ) → Taken LogReading.Refused (Record r n)
+pub found : (r : Report) (n : ℕ) → Taken Err (record_read r n)
 found r n x h = no-path cc
 
 fields-again : (p : Report) (m : ℕ) (bytes : List ℕ) → fields_of p (report_in (read_fields (fields_after p) m bytes)) ≡ read_fields (fields_after p) m bytes
@@ -92,24 +92,31 @@ length_fields : (p : Report) → length (fields_of p p) ≡ 4
 unfolding fields_of
 length_fields p = refl
 
-pub record-read : (p : Report) (bytes : List ℕ) (at : ℕ) (r : Report) (n : ℕ) → Bytes bytes → 1 ≤ length bytes → read_record p bytes at ≡ Record r n → Found p bytes at r n
+-- what reading gives, and else a record that nothing asks for
+abbrev pub what_is_read : Result (Option Record) Refusal → Record
+what_is_read (Ok (Some found)) = found
+what_is_read (Ok None) = record { report = no_report; next = 0 }
+what_is_read (Err x) = record { report = no_report; next = 0 }
+
+-- two records that are read and are equal have the same report and the same next place
+pub same_record : (q r : Report) (m n : ℕ) → record_read q m ≡ record_read r n → (q ≡ r) × (m ≡ n)
+same_record q r m n e = (ap (λ (x : Result (Option Record) Refusal). (what_is_read x).report) e, ap (λ (x : Result (Option Record) Refusal). (what_is_read x).next) e)
+
+pub record-read : (p : Report) (bytes : List ℕ) (at : ℕ) (r : Report) (n : ℕ) → Bytes bytes → 1 ≤ length bytes → read_record p bytes at ≡ record_read r n → Found p bytes at r n
 unfolding read_record
 record-read p [] at r n own some h = absurd (omega arith)
 record-read p (b ∷ bs) at r n own some h =
     let size = size_of (fields_after p) b in
     let fs = read_fields (fields_after p) b bs in
     let q = report_in fs in
-    let last = Record q (at + (1 + size)) in
-    let first = all-passed LogReading.Refused ((RecordCutShort, leb (1 + size) (suc (length bs))) ∷ (InvalidRecord, ltb b 16 && all_differ fs b) ∷ []) (check_report LogReading.Refused q last) (Record r n) (found r n) h in
-    let ranges = ranges-passed LogReading.Refused q last (Record r n) (found r n) first.1 in
+    let last = record_read q (at + (1 + size)) in
+    let first = all-passed Err ((RecordCutShort, leb (1 + size) (suc (length bs))) ∷ (InvalidRecord, ltb b 16 && all_differ fs b) ∷ []) (check_report Err q last) (record_read r n) (found r n) h in
+    let ranges = ranges-passed Err q last (record_read r n) (found r n) first.1 in
     let room : size ≤ length bs = omega (arith, leb-true (1 + size) (suc (length bs)) (first.0 0)) in
     let low = ltb-true b 16 (and_left (ltb b 16) (all_differ fs b) (first.0 1)) in
     let read = fields_read (fields_after p) b bs (rw (length_fields p) low) room (λ i. own (suc i)) (and_right (ltb b 16) (all_differ fs b) (first.0 1)) in
-    let same : q ≡ r = (answered q r (at + (1 + size)) n ranges.1).0 in
-    found_at p b bs at r n fs (subst Valid same ranges.0) (ap (fields_of p) (sym same) ∙ fields-again p b bs) read.map_is size read.changed_is (ap length read.changed_is ∙ length-take-le size bs room) (sym (answered q r (at + (1 + size)) n ranges.1).1)
-  where
-    answered : (q r : Report) (m n : ℕ) → Record q m ≡ Record r n → (q ≡ r) × (m ≡ n)
-    answered q r m n e = (cc, cc)
+    let same : q ≡ r = (same_record q r (at + (1 + size)) n ranges.1).0 in
+    found_at p b bs at r n fs (subst Valid same ranges.0) (ap (fields_of p) (sym same) ∙ fields-again p b bs) read.map_is size read.changed_is (ap length read.changed_is ∙ length-take-le size bs room) (sym (same_record q r (at + (1 + size)) n ranges.1).1)
 
 -- ---- number 20: the map is that of the report that is read, and of no other
 

@@ -1,14 +1,11 @@
 -- Document 02, "Compact report log": the record of a report, the log of a list of reports, reading at a place, writing at a place.
-use Rattle.std.specs.Prelude.{Bool, true, cond, not, ◌&&◌, List, [], ◌∷◌, ◌++◌, ℕ, zero, suc, ◌+◌, ◌*◌, ◌/◌, ◌%◌, ◌^◌, leb, ltb, eqb, pos, get_or, length, take, drop}
-use Rattle.timecode.specs.Answers.{check, Result, success, refusal_result, time_values, Check, checks}
+use Rattle.report_log.specs.declared.Record.{Record}
+use Rattle.std.specs.Prelude.{Bool, true, cond, not, ◌&&◌, List, [], ◌∷◌, ◌++◌, ℕ, zero, suc, ◌+◌, ◌*◌, ◌/◌, ◌%◌, ◌^◌, leb, ltb, eqb, pos, get_or, length, take, drop, Result, Ok, Err, Option, Some, None}
+use Rattle.timecode.specs.Answers.{check, Outcome, success, refusal_result, time_values, Check, checks}
 use Rattle.timecode.specs.Formats.{last_day, last_year, in_range}
 use Rattle.timecode.specs.Frames.{no_time}
 use Rattle.timecode.specs.declared.Refusal.{Refusal}
 use Rattle.timecode.specs.declared.Refusal.TheVariants.{InvalidTime, ControlTooLong, StartPastEnd, InvalidYear, RecordCutShort, InvalidRecord}
-use Rattle.report_log.specs.declared.LogReading.{LogReading}
-use Rattle.report_log.specs.declared.LogReading.TheVariants.{Record}
-use Rattle.report_log.specs.declared.LogWritten.{LogWritten}
-use Rattle.report_log.specs.declared.LogWritten.TheVariants.{Next, LeftOut}
 use Rattle.report_log.specs.declared.Report.{Report}
 
 -- ---- numbers in bytes, lowest byte first
@@ -120,36 +117,50 @@ report_checks r =
 abbrev pub check_report : {Any : Type 0} → (Refusal → Any) → Report → Any → Any
 check_report refused r answer = checks refused (report_checks r) answer
 
+-- ---- the answers that are no refusal: reading gives a record and the next place, or the log's end; writing the next place, or the record is left out
+
+abbrev pub record_read : Report → ℕ → Result (Option Record) Refusal
+record_read r next = Ok (Some (record { report = r; next = next }))
+
+abbrev pub log_end : Result (Option Record) Refusal
+log_end = Ok None
+
+abbrev pub next_place : ℕ → Result (Option ℕ) Refusal
+next_place n = Ok (Some n)
+
+abbrev pub left_out : Result (Option ℕ) Refusal
+left_out = Ok None
+
 -- ---- reading
 
 -- The record at the start of some bytes, after the report p; the first byte's place in the log is `at`.
-unfoldable pub read_record : Report → List ℕ → ℕ → LogReading
+unfoldable pub read_record : Report → List ℕ → ℕ → Result (Option Record) Refusal
 read_record p bytes at =
     let map = get_or bytes 0 0 in
     let size = 1 + size_of (fields_after p) map in
     let fields = read_fields (fields_after p) map (drop 1 bytes) in
-    checks LogReading.Refused
+    checks Err
     ((RecordCutShort, leb size (length bytes))  -- 19
     ∷ (InvalidRecord, ltb map 16 && all_differ fields map)  -- 20
     ∷ report_checks (report_in fields))
-    (Record (report_in fields) (at + size))
+    (record_read (report_in fields) (at + size))
 
 -- Reading takes a place and the report before, and gives a report and the next place, or none at the log's end.
-unfoldable pub read_log : List ℕ → ℕ → Report → LogReading
+unfoldable pub read_log : List ℕ → ℕ → Report → Result (Option Record) Refusal
 read_log log at p =
-    check LogReading.Refused StartPastEnd (leb at (length log))  -- 12
-    (cond (eqb at (length log)) LogReading.None
+    check Err StartPastEnd (leb at (length log))  -- 12
+    (cond (eqb at (length log)) log_end
     (read_record p (drop at log) at))
 
 -- ---- writing
 
 -- a record that does not fit is left out
-unfoldable pub fit_of : List ℕ → ℕ → List ℕ → LogWritten
-fit_of log at bytes = cond (leb (at + length bytes) (length log)) (Next (at + length bytes)) LeftOut
+unfoldable pub fit_of : List ℕ → ℕ → List ℕ → Result (Option ℕ) Refusal
+fit_of log at bytes = cond (leb (at + length bytes) (length log)) (next_place (at + length bytes)) left_out
 
-unfoldable pub write_log : List ℕ → ℕ → Report → Report → LogWritten
+unfoldable pub write_log : List ℕ → ℕ → Report → Report → Result (Option ℕ) Refusal
 write_log log at p r =
-    checks LogWritten.Refused
+    checks Err
     ((StartPastEnd, leb at (length log))  -- 12
     ∷ report_checks r)
     (fit_of log at (record_of p r))
@@ -158,10 +169,10 @@ write_log log at p r =
 unfoldable pub put_at : List ℕ → ℕ → List ℕ → List ℕ
 put_at log at bytes = take at log ++ (bytes ++ drop (at + length bytes) log)
 
-abbrev pub put_by : LogWritten → List ℕ → List ℕ → List ℕ
-put_by (Next n) put log = put
-put_by LeftOut put log = log
-put_by (LogWritten.Refused x) put log = log
+abbrev pub put_by : Result (Option ℕ) Refusal → List ℕ → List ℕ → List ℕ
+put_by (Ok (Some n)) put log = put
+put_by (Ok None) put log = log
+put_by (Err x) put log = log
 
 -- the lent log after the call
 unfoldable pub log_left : List ℕ → ℕ → Report → Report → List ℕ
@@ -169,12 +180,12 @@ log_left log at p r = put_by (write_log log at p r) (put_at log at (record_of p 
 
 -- ---- what the answers say
 
-abbrev pub log_written_result : LogWritten → Result
-log_written_result (Next n) = success (pos n ∷ [])
-log_written_result LeftOut = success []
-log_written_result (LogWritten.Refused x) = refusal_result x
+abbrev pub log_written_result : Result (Option ℕ) Refusal → Outcome
+log_written_result (Ok (Some n)) = success (pos n ∷ [])
+log_written_result (Ok None) = success []
+log_written_result (Err x) = refusal_result x
 
-abbrev pub log_reading_result : LogReading → Result
-log_reading_result (Record r n) = success (time_values r.time (pos r.control ∷ pos n ∷ []))
-log_reading_result LogReading.None = success []
-log_reading_result (LogReading.Refused x) = refusal_result x
+abbrev pub log_reading_result : Result (Option Record) Refusal → Outcome
+log_reading_result (Ok (Some found)) = success (time_values found.report.time (pos found.report.control ∷ pos found.next ∷ []))
+log_reading_result (Ok None) = success []
+log_reading_result (Err x) = refusal_result x

@@ -1,6 +1,6 @@
 -- Worked rows for what no theorem fixes: the order of the bytes and of the map's bits, the ranges, the numbers and their order. What each call says; one theorem holds of all.
 use Rattle.std.specs.Prelude.{List, [], ◌∷◌, map, ℕ, ◌^◌, pos, replicate}
-use Rattle.timecode.specs.Answers.{Result, success, refusal_result}
+use Rattle.timecode.specs.Answers.{Outcome, success, refusal_result}
 use Rattle.timecode.specs.declared.Refusal.TheVariants.{InvalidTime, ControlTooLong, StartPastEnd, InvalidYear, RecordCutShort, InvalidRecord}
 use Rattle.report_log.specs.Log.{no_report, log_of, read_log, write_log, log_left, log_written_result, log_reading_result}
 use Rattle.report_log.specs.declared.Report.{Report}
@@ -12,7 +12,7 @@ pub data Call : Type 0 where
   left : ℕ → ℕ → Report → Report → Call
   read : List ℕ → ℕ → Report → Call
 
-abbrev pub result_of : Call → Result
+abbrev pub result_of : Call → Outcome
 result_of (log rs) = success (map pos (log_of rs))
 result_of (write k at p r) = log_written_result (write_log (replicate k 170) at p r)
 result_of (left k at p r) = success (map pos (log_left (replicate k 170) at p r))
@@ -31,7 +31,7 @@ second = report 24 191 5094000 0
 
 pub record Row : Type 0 where
   pub call : Call
-  pub result : Result
+  pub result : Outcome
 
 abbrev says : Call → List ℕ → Row
 says c values = record { call = c; result = success (map pos values) }
@@ -73,10 +73,10 @@ rows =
     ∷ record { call = read (8 ∷ 99 ∷ []) 0 (report 24 191 0 (2 ^ 48)); result = refusal_result ControlTooLong }
     ∷ []
 
-abbrev pub asked : List Row → List Result
+abbrev pub asked : List Row → List Outcome
 asked [] = []
 asked (r ∷ rs) = result_of r.call ∷ asked rs
 
-abbrev pub answered : List Row → List Result
+abbrev pub answered : List Row → List Outcome
 answered [] = []
 answered (r ∷ rs) = r.result ∷ answered rs

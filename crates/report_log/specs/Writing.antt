@@ -1,14 +1,13 @@
 -- Document 02's claims for the log writer: one record put in the middle of a lent log, and any list of reports that it is called with.
-use Rattle.std.specs.Prelude.{◌≡◌, List, [], ◌∷◌, ◌++◌, ℕ, ◌+◌, ◌-◌, ◌≤◌, take}
+use Rattle.timecode.specs.declared.Refusal.{Refusal}
+use Rattle.std.specs.Prelude.{◌≡◌, List, [], ◌∷◌, ◌++◌, ℕ, ◌+◌, ◌-◌, ◌≤◌, take, Result, Ok, Err, Option, Some, None}
 use Rattle.std.proofs.Common.{arith}
 use Rattle.std.proofs.Math.ListN.{length, drop}
 use Rattle.timecode.specs.Laws.Checks.{Taken}
 use Rattle.report_log.specs.Checks.{Valid}
 use Rattle.report_log.specs.declared.Report.{Report}
-use Rattle.report_log.specs.Log.{no_report, record_of, log_after, write_log, log_left}
+use Rattle.report_log.specs.Log.{no_report, record_of, log_after, write_log, log_left, next_place}
 use Rattle.report_log.specs.Logs.{AllValid}
-use Rattle.report_log.specs.declared.LogWritten.{LogWritten}
-use Rattle.report_log.specs.declared.LogWritten.TheVariants.{Next, LeftOut}
 
 -- ---- the answer
 
@@ -20,7 +19,7 @@ pub record Allowed (log : List ℕ) (at : ℕ) (r : Report) : Type 0 where
 pub no-path : ◌≡◌ {A = ℕ} 0 1 → ⊥
 no-path z = omega arith
 
-pub next : (n : ℕ) → Taken LogWritten.Refused (Next n)
+pub next : (n : ℕ) → Taken Err (next_place n)
 next n x h = no-path cc
 
 -- the record fits: the next place is behind it
@@ -35,19 +34,19 @@ pub record Recorder : Type 0 where
   pub place : ℕ
   pub last : Report
 
-abbrev pub after : LogWritten → Recorder → Report → Recorder
-after (Next n) s r = record { log = log_left s.log s.place s.last r; place = n; last = r }
-after LeftOut s r = record { log = log_left s.log s.place s.last r; place = s.place; last = s.last }
-after (LogWritten.Refused x) s r = record { log = log_left s.log s.place s.last r; place = s.place; last = s.last }
+abbrev pub after : Result (Option ℕ) Refusal → Recorder → Report → Recorder
+after (Ok (Some n)) s r = record { log = log_left s.log s.place s.last r; place = n; last = r }
+after (Ok None) s r = record { log = log_left s.log s.place s.last r; place = s.place; last = s.last }
+after (Err x) s r = record { log = log_left s.log s.place s.last r; place = s.place; last = s.last }
 
 unfoldable pub recorded : Recorder → List Report → Recorder
 recorded s [] = s
 recorded s (r ∷ rs) = recorded (after (write_log s.log s.place s.last r) s r) rs
 
-abbrev pub with_put : LogWritten → Report → List Report → List Report
-with_put (Next n) r rs = r ∷ rs
-with_put LeftOut r rs = rs
-with_put (LogWritten.Refused x) r rs = rs
+abbrev pub with_put : Result (Option ℕ) Refusal → Report → List Report → List Report
+with_put (Ok (Some n)) r rs = r ∷ rs
+with_put (Ok None) r rs = rs
+with_put (Err x) r rs = rs
 
 -- the reports put in
 unfoldable pub put_in : Recorder → List Report → List Report

@@ -2,11 +2,11 @@
 // The record of a report and the log of a list of reports are defined, and their theorems stand, in specs/.
 #![tactic(auto)]
 
-use timecode::{Refusal, Time};
+use timecode::Time;
 
 // What a stream reader reports: a time and a control word.
 #[repr(C)]
-#[derive(Clone, Copy)]
+#[derive(Clone, Copy, PartialEq, Eq, Default)]
 pub struct Report {
     pub time: Time,
     pub control: u64,
@@ -17,18 +17,9 @@ impl Report {
     pub const CONTROL_LIMIT: u64 = 281_474_976_710_656;
 }
 
-// Writing: the next place, or the record was left out because it does not fit.
-#[derive(Clone, Copy)]
-pub enum LogWritten {
-    Next(usize),
-    LeftOut,
-    Refused(Refusal),
-}
-
-// Reading: the report of a record and the next place, or none at the log's end.
-#[derive(Clone, Copy)]
-pub enum LogReading {
-    Record { report: Report, next: usize },
-    None,
-    Refused(Refusal),
+// The record at a place of a log: its report, and the place after it. Reading gives it.
+#[derive(Clone, Copy, PartialEq, Eq)]
+pub struct Record {
+    pub report: Report,
+    pub next: usize,
 }

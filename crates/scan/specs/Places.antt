@@ -1,5 +1,7 @@
 -- The places that Scan looks at, one turn after another: `lowest_of` where a frame fits, and where none fits any more.
-use Rattle.std.specs.Prelude.{◌≡◌, refl, Bool, true, false, List, eqb, length, take, drop}
+use Rattle.timecode.specs.declared.Found.{Found}
+use Rattle.timecode.specs.Answers.{accepted, found_frame, none_found}
+use Rattle.std.specs.Prelude.{◌≡◌, refl, Bool, true, false, List, eqb, length, take, drop, Result, Err, Option}
 use Rattle.std.proofs.Common.{sym, ap, ◌∙◌, add-zero, eq-eqb, get_or-take, get_or-drop, length-take-le}
 use Prim.Native.Nat.{ℕ, zero, suc, ◌+◌, ◌-◌, ◌<◌, ◌≤◌}
 use Rattle.std.proofs.Math.Numerals.{add-one}
@@ -14,11 +16,7 @@ use Rattle.timecode.proofs.Laws.Tests.{by-test, clash, and_right}
 use Rattle.timecode.proofs.Laws.Windows.{lead-one, lead-none}
 use Rattle.timecode.specs.Stream.{lead}
 use Rattle.timecode.specs.declared.Format.{Format}
-use Rattle.timecode.specs.declared.Reading.{Reading}
-use Rattle.timecode.specs.declared.Reading.TheVariants.{Accepted}
 use Rattle.timecode.specs.declared.Refusal.{Refusal}
-use Rattle.timecode.specs.declared.Scanned.{Scanned}
-use Rattle.timecode.specs.declared.Scanned.TheVariants.{Found, None}
 use Rattle.timecode.specs.declared.Time.{Time}
 use Rattle.openings.specs.Openings.{marks_meet, opens_at, meet-opens}
 use Rattle.scan.specs.Spoiled.{NoneSpoiled, never_spoiled, never-spoiled-inside, accepted-unspoiled}
@@ -27,7 +25,7 @@ use Rattle.scan.specs.Spoiled.{NoneSpoiled, never_spoiled, never-spoiled-inside,
 abbrev pub places_from : Format → List ℕ → ℕ → ℕ
 places_from f recording a = length recording + 1 - (a + size f)
 
-abbrev pub lowest_from : Format → List ℕ → ℕ → Scanned
+abbrev pub lowest_from : Format → List ℕ → ℕ → Result (Option Found) Refusal
 lowest_from f recording a = lowest_of f recording (places_from f recording a) a
 
 part-first : (f : Format) (recording : List ℕ) (a : ℕ) → get_or (part_at f recording a) 0 0 ≡ get_or recording a 0
@@ -56,14 +54,14 @@ module _ (f : Format) (recording : List ℕ) (a : ℕ) (room : a + size f ≤ le
   unfolding lowest_of
   turn = let k : places_from f recording a ≡ suc (places_from f recording (a + 1)) = omega arith in rw (k, ← add-one a)
 
-  pub refused-here : (x : Refusal) → read_of f (part_at f recording a) ≡ Reading.Refused x → lowest_from f recording a ≡ lowest_from f recording (a + 1)
+  pub refused-here : (x : Refusal) → read_of f (part_at f recording a) ≡ Err x → lowest_from f recording a ≡ lowest_from f recording (a + 1)
   refused-here x r = turn ∙ rw r (by-test (lead_at f recording a) (λ y. rw y) (λ m. rw m))
 
-  pub found_here : (m : ℕ) → m ≡ lead f → marks_meet m recording a ≡ true → (t : Time) (w : ℕ) → read_of f (part_at f recording a) ≡ Accepted t w → lowest_from f recording a ≡ Found a t w
+  pub found_here : (m : ℕ) → m ≡ lead f → marks_meet m recording a ≡ true → (t : Time) (w : ℕ) → read_of f (part_at f recording a) ≡ accepted t w → lowest_from f recording a ≡ found_frame a t w
   found_here m e y t w r = turn ∙ rw (lead-there f recording a (and_right (eqb (get_or recording a 0) 2) (eqb (get_or recording (a - lead f) 0) 2) (rw e at y)), r)
 
   -- no element of an accepted frame is spoiled, in X none before the missing pulses
-  front-unspoiled : (t : Time) (w : ℕ) → read_of f (part_at f recording a) ≡ Accepted t w → NoneSpoiled (take (never_spoiled f) (drop a recording))
+  front-unspoiled : (t : Time) (w : ℕ) → read_of f (part_at f recording a) ≡ accepted t w → NoneSpoiled (take (never_spoiled f) (drop a recording))
   unfolding part_at
   front-unspoiled t w r k h =
       let fits = never-spoiled-inside f in
@@ -101,6 +99,6 @@ skipped-to f recording a next l room none =
     let there : a + (next - a) ≡ next = omega arith in
     skipped f recording a (next - a) (omega arith) (λ j b c. none j b (omega arith)) ∙ ap (lowest_from f recording) there
 
-pub none_left : (f : Format) (recording : List ℕ) (a : ℕ) → length recording < a + size f → lowest_from f recording a ≡ None
+pub none_left : (f : Format) (recording : List ℕ) (a : ℕ) → length recording < a + size f → lowest_from f recording a ≡ none_found
 unfolding lowest_of
 none_left f recording a h = let k : places_from f recording a ≡ 0 = omega arith in rw k

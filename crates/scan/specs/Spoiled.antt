@@ -1,4 +1,5 @@
 -- No accepted frame has a spoiled element, symbol 3, except in X: there the last four are.
+use Rattle.timecode.specs.Answers.{accepted}
 use Rattle.std.specs.Prelude.{◌≡◌, refl, Bool, true, false, cond, ◌||◌, List, ℕ, ◌+◌, ◌-◌, ◌<◌, ◌≤◌, leb, get_or, length, take, drop}
 use Rattle.std.proofs.Common.{arith, leb-true}
 use Rattle.timecode.specs.Formats.{is_x, table, look_up, row_of, known, size, carries_control, carries_seconds, carries_year, control_places}
@@ -13,7 +14,6 @@ use Rattle.timecode.proofs.Laws.Tests.{by-test, or-other, below-every}
 use Rattle.timecode.proofs.Laws.Writing.{written_small}
 use Rattle.timecode.specs.Layout.{seconds, minutes, hours, days, tenths, hundredths_digit, has_seconds, straight_seconds, control, years, time_fields, fields, runs, numbers, all_digits, is_mark, filler}
 use Rattle.timecode.specs.declared.Format.{Format}
-use Rattle.timecode.specs.declared.Reading.TheVariants.{Accepted}
 use Rattle.timecode.specs.declared.Time.{Time}
 
 -- every element is a zero, a one or a mark
@@ -53,7 +53,7 @@ written-unspoiled f t w v k h =
     (λ y. omega (arith, symbol-covered (size f) (filler f) (runs f) xs (small-length (runs f) xs (written_small f t w v)) k y))
     (λ n. rw (symbol-free (size f) (filler f) (runs f) xs k n) (filler-low f v.format k h n)))
 
-pub accepted-unspoiled : (f : Format) (frame : List ℕ) (t : Time) (w : ℕ) → read_of f frame ≡ Accepted t w → (k : ℕ) → k < never_spoiled f → get_or frame k 0 ≤ 2
+pub accepted-unspoiled : (f : Format) (frame : List ℕ) (t : Time) (w : ℕ) → read_of f frame ≡ accepted t w → (k : ℕ) → k < never_spoiled f → get_or frame k 0 ≤ 2
 accepted-unspoiled f frame t w h k b =
     let p = accepted-was-written f frame t w h in
     rw (← p.1) (written-unspoiled f t w p.0 k b)

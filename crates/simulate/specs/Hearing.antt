@@ -1,27 +1,23 @@
 -- The listeners of a simulation before the first frame and after each; and the result of the call.
-use Rattle.std.specs.Prelude.{◌≡◌, refl, true, List, [], ◌∷◌, ◌++◌, map, ℕ, zero, suc, ◌+◌, ◌-◌, ◌<◌, ◌≤◌, get_or, length, set, replicate}
+use Rattle.timecode.specs.declared.Refusal.{Refusal}
+use Rattle.std.specs.Prelude.{◌≡◌, refl, true, List, [], ◌∷◌, ◌++◌, map, ℕ, zero, suc, ◌+◌, ◌-◌, ◌<◌, ◌≤◌, get_or, length, set, replicate, Result, Ok, Err}
 use Rattle.std.proofs.Common.{ap, subst, ◌∙◌, not-suc-le-zero, arith, length-set, get_or-set_same, get_or-set_other}
 use Rattle.std.proofs.Math.Decide.{ℕ_discrete}
 use Rattle.std.proofs.lemmas.List.{length-replicate, get_or-replicate}
-use Rattle.timecode.specs.Answers.{checks}
+use Rattle.timecode.specs.Answers.{checks, done}
 use Rattle.timecode.specs.Formats.{known}
 use Rattle.timecode.specs.Frames.{usual, step_of, Sent}
 use Rattle.timecode.specs.Stream.{is_setting}
 use Rattle.timecode.specs.declared.Format.{Format}
-use Rattle.timecode.specs.declared.Stepped.{Stepped}
-use Rattle.timecode.specs.declared.Stepped.TheVariants.{To}
 use Rattle.timecode.specs.declared.Time.{Time}
-use Rattle.timecode.specs.declared.Written.{Written}
-use Rattle.timecode.specs.declared.Written.TheVariants.{Done}
 use Rattle.simulation.specs.Lent.{start_of, listeners_of, list_checks}
-use Rattle.simulation.specs.Simulation.{run_of, heard, counts_of, Simulated, Heard}
+use Rattle.simulation.specs.Simulation.{run_of, heard, counts_of, Simulated}
 use Rattle.simulation.specs.declared.Counts.{Counts}
 use Rattle.stream.specs.declared.Reader.{Reader}
 use Rattle.listening.specs.FrameDamages.{RisingBetween}
 use Rattle.listening.specs.Frames.{Listens, HearsFrame}
 use Rattle.listening.specs.Runs.{AfterFrames}
 use Rattle.listening.specs.declared.Listening.{Listening}
-use Rattle.simulate.specs.declared.Simulation.{Simulation}
 
 abbrev pub no_counts : Counts
 no_counts = record { first = 0; reports = 0; wrong = 0 }
@@ -33,9 +29,9 @@ abbrev pub beginning : Reader → ℕ → Listening
 beginning r next = record { reader = r; counts = no_counts; next = next }
 
 -- the time of the next frame; where Step refuses, which it never does here, the same
-abbrev pub time_after : Stepped → Time → Time
-time_after (To u) t = u
-time_after (Stepped.Refused r) t = t
+abbrev pub time_after : Result Time Refusal → Time → Time
+time_after (Ok u) t = u
+time_after (Err r) t = t
 
 -- the first `count` listeners have begun
 pub record AllBegin (r : Reader) (settings ends : List ℕ) (count : ℕ) (all : List Listening) : Type 0 where
@@ -77,20 +73,20 @@ pub record CountsOf (all : List Listening) (count : ℕ) (counts : List Counts) 
 
 -- Step takes the time, with that length and a usual day
 abbrev pub Steps : Format → ℕ → Time → Type 0
-Steps f given t = (u : Time) × (step_of f t given usual ≡ To u)
+Steps f given t = (u : Time) × (step_of f t given usual ≡ Ok u)
 
 -- the answer of the call where the lists pass 26, 3 and 27, and where Step takes the start
 abbrev pub heard_all : Format → Time → ℕ → ℕ → List ℕ → List ℕ → List ℕ → List ℕ → Simulated
-heard_all f start frames given settings ends numbers symbols = Heard (map (λ l. counts_of f (run_of f given frames start) (heard f (run_of f given frames start) l)) (listeners_of settings ends numbers symbols))
+heard_all f start frames given settings ends numbers symbols = Ok (map (λ l. counts_of f (run_of f given frames start) (heard f (run_of f given frames start) l)) (listeners_of settings ends numbers symbols))
 
 unfoldable pub check_lent : Format → Time → ℕ → ℕ → List ℕ → List ℕ → List ℕ → List ℕ → Simulated
 check_lent f start frames given settings ends numbers symbols =
-    checks Simulated.Refused (list_checks settings ends numbers symbols) (heard_all f start frames given settings ends numbers symbols)
+    checks Err (list_checks settings ends numbers symbols) (heard_all f start frames given settings ends numbers symbols)
 
 -- the result of an answer: the counts, and zeros past the last listener or where it was refused
-abbrev pub result_of : Simulated → Simulation
-result_of (Heard cs) = record { answer = Done; counts = cs ++ replicate (8 - length cs) no_counts }
-result_of (Simulated.Refused r) = record { answer = Written.Refused r; counts = replicate 8 no_counts }
+abbrev pub result_of : Simulated → Simulated
+result_of (Ok cs) = Ok (cs ++ replicate (8 - length cs) no_counts)
+result_of (Err r) = Err r
 
 -- ---- laws
 

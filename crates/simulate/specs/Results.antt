@@ -1,5 +1,6 @@
 -- The lent lists that pass 26, 3 and 27, the run from frame to frame, and the result of the call.
-use Rattle.std.specs.Prelude.{◌≡◌, refl, Bool, cond, ◌&&◌, List, [], ◌∷◌, ◌++◌, map, ℕ, zero, suc, ◌+◌, ◌*◌, ◌-◌, ◌<◌, ◌≤◌, eqb, leb, ltb, get_or, length, take, drop, replicate}
+use Rattle.timecode.specs.Answers.{done}
+use Rattle.std.specs.Prelude.{◌≡◌, refl, Bool, cond, ◌&&◌, List, [], ◌∷◌, ◌++◌, map, ℕ, zero, suc, ◌+◌, ◌*◌, ◌-◌, ◌<◌, ◌≤◌, eqb, leb, ltb, get_or, length, take, drop, replicate, Result, Ok, Err}
 use Rattle.std.proofs.Common.{sym, ap, subst, ◌∙◌, not-suc-le-zero, mul-le-mul, add-one, arith, leb-true, ltb-true, le-ltb, eqb-true, length-append, length-drop, pow_pos, ext_get_or, get_or-take, get_or-append-add, length-take-le, take_at}
 use Rattle.std.proofs.Math.Bool.{true, false}
 use Rattle.std.proofs.Math.Decide.{dec_lt}
@@ -19,24 +20,19 @@ use Rattle.timecode.specs.Stream.{is_setting}
 use Rattle.timecode.specs.declared.Format.{Format}
 use Rattle.timecode.specs.declared.Refusal.{Refusal}
 use Rattle.timecode.specs.declared.Refusal.TheVariants.{WrongLength, InvalidSetting, InvalidListener}
-use Rattle.timecode.specs.declared.Stepped.{Stepped}
-use Rattle.timecode.specs.declared.Stepped.TheVariants.{To}
-use Rattle.timecode.specs.declared.Written.TheVariants.{Done}
 use Rattle.timecode.specs.declared.Time.{Time}
-use Rattle.simulation.specs.Lent.{damages_between, start_of, listener_at, listeners_of, ends_fit, are_lists, simulate_lent}
+use Rattle.simulation.specs.Lent.{start_of, listener_at, listeners_of, ends_fit, are_lists, simulate_lent}
 use Rattle.simulation.proofs.Run.{first-time, control-none, steps-at, length_run}
-use Rattle.simulation.specs.Simulation.{run_of, are_rising, have_symbols, Listener, heard, counts_of, Simulated, Heard, every, have_settings, are_listeners}
+use Rattle.simulation.specs.Simulation.{run_of, Listener, heard, counts_of, Simulated, have_settings, are_listeners}
 use Rattle.simulation.specs.declared.Counts.{Counts}
 use Rattle.receive_many.specs.ManySymbols.{SymbolsBelow}
 use Rattle.stream.specs.Feeding.{fresh_reader, made_of}
-use Rattle.stream.specs.declared.Made.{Made}
 use Rattle.stream.specs.declared.Reader.{Reader}
-use Rattle.listeners.specs.Indexes.{every_index, rises_at, damages_fit, damages-fit, settings-are, listeners-are, end-within, starts-before}
+use Rattle.listeners.specs.Indexes.{every_index, rises_at, damages_fit, settings-are, listeners-are, end-within, starts-before}
 use Rattle.listening.specs.FrameDamages.{RisingBetween}
-use Rattle.listening.specs.Frames.{Listens, HearsFrame}
-use Rattle.listening.specs.Runs.{AfterFrames, after_none, after-valid, after-few, after_frame, after-all}
+use Rattle.listening.specs.Runs.{after_none, after-valid, after-few, after_frame, after-all}
 use Rattle.listening.specs.declared.Listening.{Listening}
-use Rattle.simulate.specs.Hearing.{no_counts, with_setting, beginning, time_after, AllBegin, AllListen, HearsAll, Ground, AllAfter, Steps, CountsOf, heard_all, check_lent, result_of}
+use Rattle.simulate.specs.Hearing.{no_counts, beginning, time_after, AllBegin, AllListen, HearsAll, Ground, AllAfter, Steps, CountsOf, heard_all, check_lent, result_of}
 
 -- ---- the lists
 
@@ -182,13 +178,13 @@ module _ (f : Format) (given frames : ℕ) (start : Time) (settings ends numbers
           small = λ m x y. g.small j c m (omega (arith, a.lower)) y;
         }
 
-    time-more : (u : Time) → step_of f time given usual ≡ To u → (suc i < frames → u ≡ (sent_at sent (suc i)).time) × Steps f given u
+    time-more : (u : Time) → step_of f time given usual ≡ Ok u → (suc i < frames → u ≡ (sent_at sent (suc i)).time) × Steps f given u
     time-more u e = (λ b. let q = sym (rw (p.time_is h) at e) ∙ steps-at f given frames start first.0 first.1 i b in cc, (following f u (length_for f u given) usual, step-again f time u given usual e))
 
     pub run_more : {more : List Listening} → HearsAll all frame (size f) past time ends numbers symbols (length ends) more → (later : Time) → later ≡ time_after (step_of f time given usual) time → RunAt (i + 1) later (past + size f) more
     run_more {more} heard later is_later =
         let step = p.steps in
-        let next : later ≡ step.0 = is_later ∙ ap (λ (s : Stepped). time_after s time) step.1 in
+        let next : later ≡ step.0 = is_later ∙ ap (λ (s : Result Time Refusal). time_after s time) step.1 in
         let on = time-more step.0 step.1 in
         rw (add-one i, next)
         (record {
@@ -230,8 +226,8 @@ module _ (f : Format) (given frames : ℕ) (start : Time) (settings ends numbers
   one-counted c g (suc count) i zeros (suc j) b = let u : suc i + j ≡ i + suc j = omega arith in one-counted c g count (suc i) zeros j (omega arith) ∙ ap (λ (x : ℕ). c (g x)) u
 
   pub run-result : Ground f settings ends numbers symbols → Steps f given start → (all : List Listening) → AllAfter f sent settings ends numbers symbols frames all → (counts : List Counts) → CountsOf all (length settings) counts
-      → record { answer = Done; counts = counts } ≡ result_of (heard_all f start frames given settings ends numbers symbols)
-  run-result g first all after counts of = ap (λ (cs : List Counts). record { answer = Done; counts = cs }) same
+      → Ok counts ≡ result_of (heard_all f start frames given settings ends numbers symbols)
+  run-result g first all after counts of = ap (λ (cs : List Counts). Ok cs) same
     where
       ls : List Listener
       ls = listeners_of settings ends numbers symbols
@@ -262,13 +258,13 @@ module _ (f : Format) (given frames : ℕ) (start : Time) (settings ends numbers
 
 -- ---- a fresh reader of a known format
 
-pub made-fresh : (f : Format) (r : Reader) → known f ≡ true → made_of f 2 ≡ Made.Fresh r → r ≡ fresh_reader f 2
+pub made-fresh : (f : Format) (r : Reader) → known f ≡ true → made_of f 2 ≡ Ok r → r ≡ fresh_reader f 2
 unfolding made_of is_setting
-made-fresh f r k h = let e : Made.Fresh (fresh_reader f 2) ≡ Made.Fresh r = rw k at h in cc
+made-fresh f r k h = let e : Ok (fresh_reader f 2) ≡ Ok r = rw k at h in cc
 
-pub made-never-refused : {P : Type 0} (f : Format) (x : Refusal) → known f ≡ true → made_of f 2 ≡ Made.Refused x → P
+pub made-never-refused : {P : Type 0} (f : Format) (x : Refusal) → known f ≡ true → made_of f 2 ≡ Err x → P
 unfolding made_of is_setting
-made-never-refused f x k h = let e : Made.Fresh (fresh_reader f 2) ≡ Made.Refused x = rw k at h in let n : ◌≡◌ {A = ℕ} 0 1 = cc in let z : ⊥ = omega arith in absurd z
+made-never-refused f x k h = let e : Ok (fresh_reader f 2) ≡ Err x = rw k at h in let n : ◌≡◌ {A = ℕ} 0 1 = cc in let z : ⊥ = omega arith in absurd z
 
 -- ---- the checks of the call
 
@@ -283,15 +279,15 @@ module _ (f : Format) (start : Time) (frames given : ℕ) (settings ends numbers
   abbrev Damages : Bool → Type 0
   Damages b = (leb (length ends) 8 && every_index (λ j. damages_fit numbers symbols (start_of ends j) (get_or ends j 0)) (length ends - 0) 0) ≡ b
 
-  pub lent-setting : Settings false → check_lent f start frames given settings ends numbers symbols ≡ Simulated.Refused InvalidSetting
+  pub lent-setting : Settings false → check_lent f start frames given settings ends numbers symbols ≡ Err InvalidSetting
   unfolding check_lent
   lent-setting s = rw (settings-asked settings ends numbers symbols false s)
 
-  pub lent-lists : Settings true → are_lists settings ends numbers symbols ≡ false → check_lent f start frames given settings ends numbers symbols ≡ Simulated.Refused WrongLength
+  pub lent-lists : Settings true → are_lists settings ends numbers symbols ≡ false → check_lent f start frames given settings ends numbers symbols ≡ Err WrongLength
   unfolding check_lent
   lent-lists s l = rw (settings-asked settings ends numbers symbols true s, l)
 
-  pub lent-listeners : Settings true → are_lists settings ends numbers symbols ≡ true → Damages false → check_lent f start frames given settings ends numbers symbols ≡ Simulated.Refused InvalidListener
+  pub lent-listeners : Settings true → are_lists settings ends numbers symbols ≡ true → Damages false → check_lent f start frames given settings ends numbers symbols ≡ Err InvalidListener
   unfolding check_lent
   lent-listeners s l d = rw (settings-asked settings ends numbers symbols true s, l, listeners-asked settings ends numbers symbols false l d)
 
@@ -299,13 +295,13 @@ module _ (f : Format) (start : Time) (frames given : ℕ) (settings ends numbers
   unfolding check_lent
   lent-heard s l d = rw (settings-asked settings ends numbers symbols true s, l, listeners-asked settings ends numbers symbols true l d)
 
-  pub lent-stepped : (u : Time) → step_of f start given usual ≡ To u → simulate_lent f start frames given settings ends numbers symbols ≡ check_lent f start frames given settings ends numbers symbols
+  pub lent-stepped : (u : Time) → step_of f start given usual ≡ Ok u → simulate_lent f start frames given settings ends numbers symbols ≡ check_lent f start frames given settings ends numbers symbols
   unfolding simulate_lent check_lent
   lent-stepped u h = rw h
 
-  pub lent-refused : (x : Refusal) → step_of f start given usual ≡ Stepped.Refused x → simulate_lent f start frames given settings ends numbers symbols ≡ Simulated.Refused x
+  pub lent-refused : (x : Refusal) → step_of f start given usual ≡ Err x → simulate_lent f start frames given settings ends numbers symbols ≡ Err x
   unfolding simulate_lent
   lent-refused x h = rw h
 
-pub stepped-known : (f : Format) (start : Time) (given : ℕ) (u : Time) → step_of f start given usual ≡ To u → (known f ≡ true) × Steps f given start
+pub stepped-known : (f : Format) (start : Time) (given : ℕ) (u : Time) → step_of f start given usual ≡ Ok u → (known f ≡ true) × Steps f given start
 stepped-known f start given u h = ((went f start given usual u h).format, (u, h))

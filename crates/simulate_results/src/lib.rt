@@ -5,9 +5,9 @@
 ghost use Rattle.std.specs.Prelude.{◌≡◌};
 ghost use Rattle.simulate_results.specs.SimulateStructs.{struct_of};
 
-use ffi::write_result;
-use simulate::Simulation;
+use refusals::number_of;
 use simulation::Counts;
+use timecode::Refusal;
 
 // Counts of 0 past the last listener, and where it was refused.
 #[repr(C)]
@@ -17,14 +17,16 @@ pub struct SimulateResult {
     pub counts: [Counts; 8],
 }
 
-pub fn simulate_result(simulation: Simulation) -> SimulateResult
-    ensures { result ≡ struct_of simulation }
-{
-    let answer = simulation.answer;
-    let counts = simulation.counts;
-    let written = write_result(answer);
-    SimulateResult {
-        number: written.number,
-        counts: counts,
+impl From<Result<[Counts; 8], Refusal>> for SimulateResult {
+    ghost from_gives = { λ simulated r. r ≡ struct_of simulated };
+
+    fn from(simulated: Result<[Counts; 8], Refusal>) -> SimulateResult {
+        match simulated {
+            Ok(counts) => SimulateResult { number: 0, counts },
+            Err(refusal) => SimulateResult {
+                number: number_of(refusal),
+                counts: [Counts::default(); 8],
+            },
+        }
     }
 }

@@ -1,5 +1,5 @@
 -- What document 02 says of a simulation, for every format, start, number of frames, year length and list of listeners.
-use Rattle.std.specs.Prelude.{◌≡◌, Bool, true, false, ◌&&◌, ◌↔◌, ◌⊎◌, leb, length, get_or, take, set}
+use Rattle.std.specs.Prelude.{◌≡◌, Bool, true, false, ◌&&◌, ◌↔◌, ◌⊎◌, leb, length, get_or, take, set, Result, Ok, Err}
 use Rattle.std.proofs.Math.Path.{refl, sym}
 use Rattle.std.proofs.Common.{ap, ◌∙◌, inl, inr, not-suc-le-zero, zero-add, mul-le-mul_left, leb-true, length-set, ext_get_or, get_or-take, length-take-le, get_or-set_other}
 use mathlib.Core.List.{List, [], ◌∷◌, map}
@@ -24,8 +24,6 @@ use Rattle.timecode.specs.declared.Answer.TheVariants.{Quiet, Report}
 use Rattle.timecode.specs.declared.Format.{Format}
 use Rattle.timecode.specs.declared.Refusal.{Refusal}
 use Rattle.timecode.specs.declared.Refusal.TheVariants.{InvalidSetting, InvalidListener}
-use Rattle.timecode.specs.declared.Stepped.{Stepped}
-use Rattle.timecode.specs.declared.Stepped.TheVariants.{To}
 use Rattle.timecode.specs.declared.Time.{Time}
 use Rattle.simulation.specs.Counting.{PartOf}
 use Rattle.simulation.proofs.Counting.{none-false, first-is, fewer-reports, fewer-false, later_first}
@@ -33,7 +31,7 @@ use Rattle.simulation.specs.Damages.{places_of}
 use Rattle.simulation.proofs.Damages.{length-damaged, damaged-places, damaged-small}
 use Rattle.simulation.proofs.Run.{length_run, run-generator}
 use Rattle.simulation.specs.declared.Counts.{Counts}
-use Rattle.simulation.specs.Simulation.{run_of, replace_at, damaged, are_rising, have_symbols, is_report, first_report, Listener, heard, counts_of, Simulated, Heard, every, have_settings, are_listeners, stepped, simulate_of}
+use Rattle.simulation.specs.Simulation.{run_of, replace_at, damaged, are_rising, have_symbols, is_report, first_report, Listener, heard, counts_of, Simulated, every, have_settings, are_listeners, stepped, simulate_of}
 -- A report is right exactly where a frame of the generator ends with that element and its time is reported.
 pub use Rattle.simulation.proofs.Counting.{ends-exactly-when}
 use Rattle.simulation.specs.Demands.{damages_in, TookPlace, is_heard, counts_in, nobody, no_counts}
@@ -155,29 +153,29 @@ module _ (f : Format) (sent : List Sent) (low high : Listener) (a : is_setting l
 
 -- ---- the simulation
 
-no-counts : {P : Type 0} (r : Refusal) (cs : List Counts) → Simulated.Refused r ≡ Heard cs → P
-no-counts r cs h = clash {b = is_heard (Heard cs)} refl (sym (ap is_heard h))
+no-counts : {P : Type 0} (r : Refusal) (cs : List Counts) → Err r ≡ Ok cs → P
+no-counts r cs h = clash {b = is_heard (Ok cs)} refl (sym (ap is_heard h))
 
-step-passed : (s : Stepped) (a : Simulated) (cs : List Counts) → stepped s a ≡ Heard cs → (u : Time) × (s ≡ To u) × (a ≡ Heard cs)
-step-passed (To u) a cs h = (u, refl, h)
-step-passed (Stepped.Refused r) a cs h = no-counts r cs h
+step-passed : (s : Result Time Refusal) (a : Simulated) (cs : List Counts) → stepped s a ≡ Ok cs → (u : Time) × (s ≡ Ok u) × (a ≡ Ok cs)
+step-passed (Ok u) a cs h = (u, refl, h)
+step-passed (Err r) a cs h = no-counts r cs h
 
 module _ (f : Format) (start : Time) (frames given : ℕ) (ls : List Listener) (counts : List Counts) where
-  took-place : simulate_of f start frames given ls ≡ Heard counts → TookPlace f start frames given ls counts
+  took-place : simulate_of f start frames given ls ≡ Ok counts → TookPlace f start frames given ls counts
   unfolding simulate_of
   took-place h =
-      let answer = Heard (map (λ l. counts_of f (run_of f given frames start) (heard f (run_of f given frames start) l)) ls) in
+      let answer = Ok (map (λ l. counts_of f (run_of f given frames start) (heard f (run_of f given frames start) l)) ls) in
       let own : List Check = (InvalidSetting, have_settings ls) ∷ (InvalidListener, are_listeners ls) ∷ [] in
-      let a = step-passed (step_of f start given usual) (checks Simulated.Refused own answer) counts h in
-      let b = all-passed Simulated.Refused own answer (Heard counts) (λ r e. no-counts r counts e) a.2 in
+      let a = step-passed (step_of f start given usual) (checks Err own answer) counts h in
+      let b = all-passed Err own answer (Ok counts) (λ r e. no-counts r counts e) a.2 in
       record { after = a.0; steps = a.1; settings = b.0 0; listeners = b.0 1; are_plain = sym (ap counts_in b.1) }
 
-  gives-counts : TookPlace f start frames given ls counts → simulate_of f start frames given ls ≡ Heard counts
+  gives-counts : TookPlace f start frames given ls counts → simulate_of f start frames given ls ≡ Ok counts
   unfolding simulate_of
-  gives-counts r = rw (r.steps, r.settings, r.listeners) (ap Heard (sym r.are_plain))
+  gives-counts r = rw (r.steps, r.settings, r.listeners) (ap Ok (sym r.are_plain))
 
   -- It gives counts exactly when it takes place, and these are then the plain rule's over the damaged lists.
-  pub simulates-exactly-when : (simulate_of f start frames given ls ≡ Heard counts) ↔ TookPlace f start frames given ls counts
+  pub simulates-exactly-when : (simulate_of f start frames given ls ≡ Ok counts) ↔ TookPlace f start frames given ls counts
   simulates-exactly-when = (took-place, gives-counts)
 
   -- Its frames are a generator's, so many as are asked for.

@@ -1,12 +1,12 @@
 -- The listeners as they are lent to a program: a list of settings, and for all of them together one list of element numbers and one of symbols, with an end for each listener.
-use Rattle.std.specs.Prelude.{Bool, ◌&&◌, List, [], ◌∷◌, map, ℕ, zero, suc, ◌-◌, leb, eqb, get_or, length}
+use Rattle.std.specs.Prelude.{Bool, ◌&&◌, List, [], ◌∷◌, map, ℕ, zero, suc, ◌-◌, leb, eqb, get_or, length, Ok, Err}
 use Rattle.timecode.specs.Answers.{Check, checks}
 use Rattle.timecode.specs.Frames.{usual, step_of}
 use Rattle.timecode.specs.Layout.{tabulate}
 use Rattle.timecode.specs.declared.Format.{Format}
 use Rattle.timecode.specs.declared.Refusal.TheVariants.{WrongLength, InvalidSetting, InvalidListener}
 use Rattle.timecode.specs.declared.Time.{Time}
-use Rattle.simulation.specs.Simulation.{run_of, Damage, Listener, heard, counts_of, Simulated, Heard, Refused, have_settings, are_listeners, stepped}
+use Rattle.simulation.specs.Simulation.{run_of, Damage, Listener, heard, counts_of, Simulated, have_settings, are_listeners, stepped}
 
 -- one of the damages, and those from one index up to another
 abbrev pub damage_at : List ℕ → List ℕ → ℕ → Damage
@@ -46,5 +46,5 @@ list_checks settings ends numbers symbols =
 unfoldable pub simulate_lent : Format → Time → ℕ → ℕ → List ℕ → List ℕ → List ℕ → List ℕ → Simulated
 simulate_lent f start frames length settings ends numbers symbols =
     stepped (step_of f start length usual)
-    (checks Refused (list_checks settings ends numbers symbols)
-    (Heard (map (λ l. counts_of f (run_of f length frames start) (heard f (run_of f length frames start) l)) (listeners_of settings ends numbers symbols))))
+    (checks Err (list_checks settings ends numbers symbols)
+    (Ok (map (λ l. counts_of f (run_of f length frames start) (heard f (run_of f length frames start) l)) (listeners_of settings ends numbers symbols))))

@@ -1,11 +1,11 @@
 -- Worked runs: what each listener counts, and each refusal in its order.
-use Rattle.std.specs.Prelude.{List, [], ◌∷◌, map, ℕ}
+use Rattle.std.specs.Prelude.{List, [], ◌∷◌, map, ℕ, Ok, Err}
 use Rattle.timecode.specs.Answers.{refusal_number}
 use Rattle.timecode.specs.Formats.{H, X}
 use Rattle.timecode.specs.declared.Format.{Format}
 use Rattle.timecode.specs.declared.Time.{Time}
 use Rattle.simulation.specs.declared.Counts.{Counts}
-use Rattle.simulation.specs.Simulation.{Damage, Listener, Simulated, Heard, simulate_of}
+use Rattle.simulation.specs.Simulation.{Damage, Listener, Simulated, simulate_of}
 
 abbrev x2 : Format
 x2 = record { letter = X; expression = 2 }
@@ -27,8 +27,8 @@ abbrev figures : Counts → List ℕ
 figures c = c.first ∷ c.reports ∷ c.wrong ∷ []
 
 abbrev pub result : Simulated → List (List ℕ)
-result (Heard cs) = map figures cs
-result (Simulated.Refused r) = (refusal_number r ∷ []) ∷ []
+result (Ok cs) = map figures cs
+result (Err r) = (refusal_number r ∷ []) ∷ []
 
 unfoldable pub simulations : List Simulated
 simulations =

@@ -1,6 +1,6 @@
 -- Document 02, "Trying the confirmation setting", from "Then simulate": a generator, listeners with their own setting k and their own damages, and what each counts.
 -- Elements are numbered from 1.
-use Rattle.std.specs.Prelude.{Bool, true, false, cond, not, ◌&&◌, List, [], ◌∷◌, map, ℕ, zero, suc, ◌-◌, ◌/◌, ◌%◌, leb, ltb, eqb, length, set}
+use Rattle.std.specs.Prelude.{Bool, true, false, cond, not, ◌&&◌, List, [], ◌∷◌, map, ℕ, zero, suc, ◌-◌, ◌/◌, ◌%◌, leb, ltb, eqb, length, set, Result, Ok, Err}
 use Rattle.timecode.specs.Answers.{checks}
 use Rattle.timecode.specs.Formats.{is_symbol, size}
 use Rattle.timecode.specs.Frames.{usual, same_time, step_of, Sent, elements, sent_at}
@@ -10,17 +10,15 @@ use Rattle.timecode.specs.declared.Answer.TheVariants.{Quiet, Report}
 use Rattle.timecode.specs.declared.Format.{Format}
 use Rattle.timecode.specs.declared.Refusal.{Refusal}
 use Rattle.timecode.specs.declared.Refusal.TheVariants.{InvalidSetting, InvalidListener}
-use Rattle.timecode.specs.declared.Stepped.{Stepped}
-use Rattle.timecode.specs.declared.Stepped.TheVariants.{To}
 use Rattle.timecode.specs.declared.Time.{Time}
 use Rattle.simulation.specs.declared.Counts.{Counts}
 
 -- ---- the generator
 
 -- frames from t on, in years of one length given and usual days, control words 0; where Step refuses it ends, which it never does once it took the first time
-abbrev goes_on : Stepped → (Time → List Sent) → List Sent
-goes_on (To u) later = later u
-goes_on (Stepped.Refused r) later = []
+abbrev goes_on : Result Time Refusal → (Time → List Sent) → List Sent
+goes_on (Ok u) later = later u
+goes_on (Err r) later = []
 
 unfoldable pub run_of : Format → ℕ → ℕ → Time → List Sent
 run_of f length zero t = []
@@ -96,9 +94,8 @@ unfoldable pub counts_of : Format → List Sent → List Answer → Counts
 counts_of f sent answers = record { first = first_report 0 answers; reports = report_count answers; wrong = false_count f sent 0 answers }
 
 -- Simulate answers each listener's counts, or refuses.
-pub data Simulated : Type 0 where
-  Heard : List Counts → Simulated
-  Refused : Refusal → Simulated
+abbrev pub Simulated : Type 0
+Simulated = Result (List Counts) Refusal
 
 abbrev pub every : (Listener → Bool) → List Listener → Bool
 every p [] = true
@@ -112,16 +109,16 @@ have_settings ls = every (λ l. is_setting l.setting) ls
 unfoldable pub are_listeners : List Listener → Bool
 are_listeners ls = leb (length ls) 8 && every (λ l. are_rising l.damages && have_symbols l.damages) ls
 
-abbrev pub stepped : Stepped → Simulated → Simulated
-stepped (To u) answer = answer
-stepped (Stepped.Refused r) answer = Refused r
+abbrev pub stepped : Result Time Refusal → Simulated → Simulated
+stepped (Ok u) answer = answer
+stepped (Err r) answer = Err r
 
 -- Simulate checks 1, 17, 2, 14, 11, 15 as Step does for the start, then 26, 27.
 unfoldable pub simulate_of : Format → Time → ℕ → ℕ → List Listener → Simulated
 simulate_of f start frames length ls =
     stepped (step_of f start length usual)  -- 1, 17, 2, 14, 11, 15
-    (checks Refused
+    (checks Err
     ((InvalidSetting, have_settings ls)  -- 26
     ∷ (InvalidListener, are_listeners ls)  -- 27
     ∷ [])
-    (Heard (map (λ l. counts_of f (run_of f length frames start) (heard f (run_of f length frames start) l)) ls)))
+    (Ok (map (λ l. counts_of f (run_of f length frames start) (heard f (run_of f length frames start) l)) ls)))

@@ -4,7 +4,7 @@
 
 // The number of the first element that brought a report, from 1, and 0 where none did; the number of reports; and that of those which did not give the time of a generator frame that ends there.
 #[repr(C)]
-#[derive(Clone, Copy)]
+#[derive(Clone, Copy, PartialEq, Eq, Default)]
 pub struct Counts {
     pub first: u64,
     pub reports: u64,

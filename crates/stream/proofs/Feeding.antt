@@ -1,17 +1,17 @@
 -- What the program's reader is, and what a Feed makes of it, for every reader and symbol.
-use Rattle.std.specs.Prelude.{◌≡◌, refl, true, ◌<◌, ltb}
+use Rattle.timecode.specs.declared.Refusal.{Refusal}
+use Rattle.timecode.specs.declared.Reading.{Reading}
+use Rattle.std.specs.Prelude.{◌≡◌, refl, true, ◌<◌, ltb, Result, Ok, Err}
 use Rattle.std.proofs.Common.{ltb-true}
 use Rattle.timecode.specs.Formats.{known, size}
 use Rattle.timecode.proofs.Laws.Tests.{and_right}
-use Rattle.timecode.specs.declared.Reading.{Reading}
-use Rattle.timecode.specs.declared.Reading.TheVariants.{Accepted}
 use Rattle.stream.specs.declared.Reader.{Reader}
 use Rattle.stream.specs.Feeding.{is_valid, row_in, row_with, reader_with_row, reader_with_reading}
 
-pub with-row-reading : (r : Reader) (reading : Reading) → reader_with_row r (row_with r.format (row_in r) reading) ≡ reader_with_reading r reading
+pub with-row-reading : (r : Reader) (reading : Result Reading Refusal) → reader_with_row r (row_with r.format (row_in r) reading) ≡ reader_with_reading r reading
 unfolding row_with reader_with_reading
-with-row-reading r (Accepted t w) = refl
-with-row-reading r (Reading.Refused x) = refl
+with-row-reading r (Ok read) = refl
+with-row-reading r (Err x) = refl
 
 -- a valid reader's place is below n
 pub valid-place : (r : Reader) → is_valid r ≡ true → r.place < size r.format

@@ -1,21 +1,20 @@
 -- What the program's reader is, and what a Feed makes of it, for every reader and symbol.
-use Rattle.std.specs.Prelude.{Bool, cond, ◌&&◌, [], ◌∷◌, ℕ, ◌+◌, ◌%◌, leb, eqb, ltb}
-use Rattle.timecode.specs.Answers.{Result, success, refusal_result, checks}
+use Rattle.timecode.specs.declared.Refusal.{Refusal}
+use Rattle.timecode.specs.declared.Reading.{Reading}
+use Rattle.std.specs.Prelude.{Bool, cond, ◌&&◌, [], ◌∷◌, ℕ, ◌+◌, ◌%◌, leb, eqb, ltb, Result, Ok, Err}
+use Rattle.timecode.specs.Answers.{Outcome, success, refusal_result, checks}
 use Rattle.timecode.specs.Formats.{is_symbol, known, size}
 use Rattle.timecode.specs.Frames.{no_time, read_of}
 use Rattle.timecode.specs.Stream.{is_setting}
 use Rattle.timecode.specs.declared.Answer.{Answer}
 use Rattle.timecode.specs.declared.Answer.TheVariants.{Quiet, Report}
 use Rattle.timecode.specs.declared.Format.{Format}
-use Rattle.timecode.specs.declared.Reading.{Reading}
-use Rattle.timecode.specs.declared.Reading.TheVariants.{Accepted}
 use Rattle.timecode.specs.declared.Time.{Time}
 use Rattle.timecode.specs.declared.Refusal.TheVariants.{UnknownFormat, UnknownSymbol, InvalidReader, InvalidSetting}
 use Rattle.following.specs.Following.{row_after}
 use Rattle.register.specs.Receiving.{receive_of, frame_of}
 use Rattle.register.specs.declared.Register.{Register}
 use Rattle.stream.specs.declared.Fed.{Fed}
-use Rattle.stream.specs.declared.Made.{Made}
 use Rattle.stream.specs.declared.Reader.{Reader}
 use Rattle.stream.specs.declared.FrameRow.{FrameRow}
 
@@ -27,18 +26,18 @@ abbrev pub fresh_reader : Format → ℕ → Reader
 fresh_reader f k = record { format = f; setting = k; place = 0; received = fresh_register; time = no_time; control = 0 }
 
 -- Making a fresh reader checks 1, 26.
-unfoldable pub made_of : Format → ℕ → Made
+unfoldable pub made_of : Format → ℕ → Result Reader Refusal
 made_of f k =
-    checks Made.Refused
+    checks Err
     ((UnknownFormat, known f)  -- 1
     ∷ (InvalidSetting, is_setting k)  -- 26
     ∷ [])
-    (Made.Fresh (fresh_reader f k))
+    (Ok (fresh_reader f k))
 
 -- the result of making a reader: document 01 gives no value with it
-abbrev pub made_result : Made → Result
-made_result (Made.Fresh r) = success []
-made_result (Made.Refused x) = refusal_result x
+abbrev pub made_result : Result Reader Refusal → Outcome
+made_result (Ok r) = success []
+made_result (Err x) = refusal_result x
 
 -- number 13: letter and expression are known, the place is below n
 unfoldable pub is_valid : Reader → Bool
@@ -57,17 +56,17 @@ frame_row_of count time control = record { count = count; time = time; control =
 abbrev pub row_in : Reader → FrameRow
 row_in r = frame_row_of r.received.row r.time r.control
 
-unfoldable pub row_with : Format → FrameRow → Reading → FrameRow
-row_with f q (Accepted t w) = frame_row_of (row_after f q.count q.time t) t w
-row_with f q (Reading.Refused x) = frame_row_of 0 q.time q.control
+unfoldable pub row_with : Format → FrameRow → Result Reading Refusal → FrameRow
+row_with f q (Ok read) = frame_row_of (row_after f q.count q.time read.time) read.time read.control
+row_with f q (Err x) = frame_row_of 0 q.time q.control
 
 abbrev pub reader_with_row : Reader → FrameRow → Reader
 reader_with_row r q = record { format = r.format; setting = r.setting; place = r.place; received = with_row r.received q.count; time = q.time; control = q.control }
 
 -- the frame is whole
-unfoldable pub reader_with_reading : Reader → Reading → Reader
-reader_with_reading r (Accepted t w) = record { format = r.format; setting = r.setting; place = r.place; received = with_row r.received (row_after r.format r.received.row r.time t); time = t; control = w }
-reader_with_reading r (Reading.Refused x) = record { format = r.format; setting = r.setting; place = r.place; received = with_row r.received 0; time = r.time; control = r.control }
+unfoldable pub reader_with_reading : Reader → Result Reading Refusal → Reader
+reader_with_reading r (Ok read) = record { format = r.format; setting = r.setting; place = r.place; received = with_row r.received (row_after r.format r.received.row r.time read.time); time = read.time; control = read.control }
+reader_with_reading r (Err x) = record { format = r.format; setting = r.setting; place = r.place; received = with_row r.received 0; time = r.time; control = r.control }
 
 unfoldable pub when_whole : Reader → Reader
 when_whole r = cond (eqb r.received.count (size r.format)) (reader_with_reading r (read_of r.format (frame_of r.received (size r.format)))) r

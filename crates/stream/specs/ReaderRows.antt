@@ -1,6 +1,6 @@
 -- Document 01's example of number 13, that of 1 for a fresh reader and that of 4 for Feed, document 02's 26, and the order of the checks.
 use Rattle.std.specs.Prelude.{List, [], ◌∷◌, ℕ}
-use Rattle.timecode.specs.Answers.{Result, success, refusal_result, answer_result}
+use Rattle.timecode.specs.Answers.{Outcome, success, refusal_result, answer_result}
 use Rattle.timecode.specs.Formats.{D, H}
 use Rattle.timecode.specs.Frames.{no_time}
 use Rattle.timecode.specs.declared.Format.{Format}
@@ -15,7 +15,7 @@ format letter expression = record { letter = letter; expression = expression }
 abbrev at : Format → ℕ → ℕ → Reader
 at f k place = record { format = f; setting = k; place = place; received = fresh_register; time = no_time; control = 0 }
 
-abbrev pub results : List Result
+abbrev pub results : List Outcome
 results =
     made_result (made_of (format D 0) 2)
     ∷ made_result (made_of (format D 0) 1)
@@ -31,7 +31,7 @@ results =
     ∷ answer_result (answer_of (at (format H 1) 1 0) 0)
     ∷ []
 
-abbrev pub expected : List Result
+abbrev pub expected : List Outcome
 expected =
     refusal_result UnknownFormat
     ∷ refusal_result UnknownFormat

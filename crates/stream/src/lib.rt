@@ -20,7 +20,7 @@ use tape::{word_fits, word_meaning};
 use timecode::{Answer, Format, Reading, Refusal, SPOILED, Time};
 
 // The place is document 01's: the number of symbols accepted so far, modulo n. Time and control word are those of the row's last frame.
-#[derive(Clone, Copy)]
+#[derive(Clone, Copy, PartialEq, Eq)]
 pub struct Reader {
     pub format: Format,
     pub setting: u8,
@@ -31,22 +31,15 @@ pub struct Reader {
 }
 
 // The accepted frames in a row that end with the last whole frame: how many they are, and the last one's time and control word.
-#[derive(Clone, Copy)]
+#[derive(Clone, Copy, PartialEq, Eq)]
 pub struct FrameRow {
     pub count: usize,
     pub time: Time,
     pub control: u64,
 }
 
-// A fresh reader, or why there is none.
-#[derive(Clone, Copy)]
-pub enum Made {
-    Fresh(Reader),
-    Refused(Refusal),
-}
-
 // The reader handed back, with the answer.
-#[derive(Clone, Copy)]
+#[derive(Clone, Copy, PartialEq, Eq)]
 pub struct Fed {
     pub reader: Reader,
     pub answer: Answer,
@@ -60,58 +53,49 @@ const GREATEST_SETTING: u8 = 5;
 const LONGEST_ROW: usize = 5;
 
 // Number 26.
+#[tactic(auto, unfolding(timecode::specs::Stream::is_setting))]
 pub fn is_setting(setting: u8) -> bool
     ensures { result ≡ is_setting setting }
 {
-    if LEAST_SETTING <= setting {
-        return setting <= GREATEST_SETTING;
-    }
-    false
+    LEAST_SETTING <= setting && setting <= GREATEST_SETTING
 }
 
 impl Reader {
-    // A fresh reader has received nothing: no frame is under way, and the newest symbol is no mark.
-    pub fn fresh(format: Format, setting: u8) -> Made
+    // Makes a fresh reader, which has received nothing: no frame is under way, and the newest symbol is no mark.
+    pub fn fresh(format: Format, setting: u8) -> Result<Reader, Refusal>
         ensures { result ≡ made_of format setting }
     {
-        if is_known(format) {
-            if is_setting(setting) {
-                let received = Register {
-                    count: 0,
-                    newest: 18_446_744_073_709_551_615,
-                    word0: 0,
-                    word1: 0,
-                    word2: 0,
-                    row: 0,
-                };
-                let time = Time {
-                    year: 0,
-                    day: 0,
-                    hundredths: 0,
-                };
-                return Made::Fresh(Reader {
-                    format: format,
-                    setting: setting,
-                    place: 0,
-                    received: received,
-                    time: time,
-                    control: 0,
-                });
-            }
-            return Made::Refused(Refusal::InvalidSetting);
+        if !is_known(format) {
+            return Err(Refusal::UnknownFormat);
         }
-        Made::Refused(Refusal::UnknownFormat)
+        if !is_setting(setting) {
+            return Err(Refusal::InvalidSetting);
+        }
+        let received = Register {
+            count: 0,
+            newest: u64::MAX,
+            word0: 0,
+            word1: 0,
+            word2: 0,
+            row: 0,
+        };
+        Ok(Reader {
+            format,
+            setting,
+            place: 0,
+            received,
+            time: Time::default(),
+            control: 0,
+        })
     }
 }
 
 // Number 13: the format is known, and the place is below n.
+#[tactic(auto, unfolding(crate::specs::Feeding::is_valid))]
 pub fn is_valid(reader: Reader) -> bool
     ensures { result ≡ is_valid reader }
 {
-    if is_known(reader.format) {
-        return reader.place < frame_size(reader.format);
-    }
-    false
+    is_known(reader.format) && reader.place < frame_size(reader.format)
 }
 
 pub fn place_after(place: usize, n: usize) -> usize
@@ -128,55 +112,35 @@ pub fn place_after(place: usize, n: usize) -> usize
 pub fn is_tape(format: Format, n: usize) -> bool
     ensures { result ≡ is_tape format n }
 {
-    if format.letter == b'X' {
-        if format.expression == 2 {
-            return n == 25;
-        }
-    }
-    false
+    format.letter == b'X' && format.expression == 2 && n == 25
 }
 
 // Day 1 and no year, as in every time of letter X.
 fn is_first_day(time: Time) -> bool
     ensures { result ≡ is_first_day time }
 {
-    if time.year == 0 {
-        return time.day == 1;
-    }
-    false
+    time.year == 0 && time.day == 1
 }
 
 // A whole second, and the next one of the same day.
 fn are_seconds(before: u32, after: u32) -> bool
     ensures { result ≡ are_seconds before after }
 {
-    if before < 8_639_900 {
-        if before % 100 == 0 {
-            return after == before + 100;
-        }
-    }
-    false
+    before < 8_639_900 && before % 100 == 0 && after == before + 100
 }
 
 fn is_second_later(before: Time, time: Time) -> bool
     ensures { result ≡ is_second_later before time }
 {
-    if is_first_day(before) {
-        if is_first_day(time) {
-            return are_seconds(before.hundredths, time.hundredths);
-        }
-    }
-    false
+    is_first_day(before) && is_first_day(time) && are_seconds(before.hundredths, time.hundredths)
 }
 
 // The time is next after the one before. In X the next second of the day is, and nothing else needs to be asked.
 fn is_next(format: Format, before: Time, time: Time) -> bool
     ensures { result ≡ next_after format before time }
 {
-    if is_tape(format, 25) {
-        if is_second_later(before, time) {
-            return true;
-        }
+    if is_tape(format, 25) && is_second_later(before, time) {
+        return true;
     }
     next_after(format, before, time)
 }
@@ -201,20 +165,20 @@ fn frame_row(count: usize, time: Time, control: u64) -> FrameRow
     ensures { result ≡ frame_row_of count time control }
 {
     FrameRow {
-        count: count,
-        time: time,
-        control: control,
+        count,
+        time,
+        control,
     }
 }
 
-fn read_part(format: Format, bytes: &[u8], n: usize) -> Reading
+fn read_part(format: Format, bytes: &[u8], n: usize) -> Result<Reading, Refusal>
     requires { (length bytes.now ≡ 160) × (n ≤ 100) }
     ensures { result ≡ read_of format (take n (drop 32 bytes.now)) }
 {
     read(format, &bytes[32..32 + n])
 }
 
-fn read_received(format: Format, register: Register, n: usize) -> Reading
+fn read_received(format: Format, register: Register, n: usize) -> Result<Reading, Refusal>
     requires { n ≤ 100 }
     ensures { result ≡ read_of format (frame_of register n) }
 {
@@ -223,16 +187,19 @@ fn read_received(format: Format, register: Register, n: usize) -> Reading
 }
 
 // A whole frame's reading: accepted, it joins the row; refused, it ends it.
-pub fn row_with_reading(format: Format, row: FrameRow, reading: Reading) -> FrameRow
+pub fn row_with_reading(
+    format: Format,
+    row: FrameRow,
+    reading: Result<Reading, Refusal>,
+) -> FrameRow
     ensures { result ≡ row_with format row reading }
 {
-    let before = row.time;
     match reading {
-        Reading::Accepted { time, control } => {
-            let count = row_after(format, row.count, before, time);
+        Ok(Reading { time, control }) => {
+            let count = row_after(format, row.count, row.time, time);
             frame_row(count, time, control)
         }
-        Reading::Refused(_) => frame_row(0, before, row.control),
+        Err(_) => frame_row(0, row.time, row.control),
     }
 }
 
@@ -244,8 +211,7 @@ pub fn row_with_tape(format: Format, row: FrameRow, word: u64) -> FrameRow
     if word_fits(word) {
         return row_with_reading(format, row, word_meaning(word));
     }
-    let time = row.time;
-    frame_row(0, time, row.control)
+    frame_row(0, row.time, row.control)
 }
 
 // A whole frame is read, once.
@@ -263,41 +229,27 @@ pub fn row_with_frame(format: Format, row: FrameRow, received: Register, n: usiz
 fn row_in(reader: Reader) -> FrameRow
     ensures { result ≡ row_in reader }
 {
-    let received = reader.received;
-    let time = reader.time;
-    frame_row(received.row, time, reader.control)
+    frame_row(reader.received.row, reader.time, reader.control)
 }
 
 fn register_with_row(register: Register, row: usize) -> Register
     ensures { result ≡ with_row register row }
 {
-    Register {
-        count: register.count,
-        newest: register.newest,
-        word0: register.word0,
-        word1: register.word1,
-        word2: register.word2,
-        row: row,
-    }
+    Register { row, ..register }
 }
 
 fn with_row(reader: Reader, row: FrameRow) -> Reader
     ensures { result ≡ reader_with_row reader row }
 {
-    let format = reader.format;
-    let received = register_with_row(reader.received, row.count);
-    let time = row.time;
     Reader {
-        format: format,
-        setting: reader.setting,
-        place: reader.place,
-        received: received,
-        time: time,
+        received: register_with_row(reader.received, row.count),
+        time: row.time,
         control: row.control,
+        ..reader
     }
 }
 
-pub fn reader_with_reading(reader: Reader, reading: Reading) -> Reader
+pub fn reader_with_reading(reader: Reader, reading: Result<Reading, Refusal>) -> Reader
     ensures { result ≡ reader_with_reading reader reading }
 {
     let row = row_with_reading(reader.format, row_in(reader), reading);
@@ -315,15 +267,10 @@ fn with_reading(reader: Reader, n: usize) -> Reader
 pub fn with_register(reader: Reader, place: usize, received: Register) -> Reader
     ensures { result ≡ with_register reader place received }
 {
-    let format = reader.format;
-    let time = reader.time;
     Reader {
-        format: format,
-        setting: reader.setting,
-        place: place,
-        received: received,
-        time: time,
-        control: reader.control,
+        place,
+        received,
+        ..reader
     }
 }
 
@@ -332,8 +279,7 @@ pub fn when_whole(reader: Reader, n: usize) -> Reader
     requires { (n ≡ size reader.format) × (n ≤ 100) }
     ensures { result ≡ when_whole reader }
 {
-    let received = reader.received;
-    if received.count == n {
+    if reader.received.count == n {
         return with_reading(reader, n);
     }
     reader
@@ -343,9 +289,8 @@ fn with_symbol(reader: Reader, symbol: u8) -> Reader
     requires { is_valid reader ≡ true }
     ensures { result ≡ with_symbol_of reader symbol }
 {
-    let format = reader.format;
-    let n = frame_size(format);
-    let received = receive(format, n, reader.received, symbol);
+    let n = frame_size(reader.format);
+    let received = receive(reader.format, n, reader.received, symbol);
     let place = place_after(reader.place, n);
     let next = with_register(reader, place, received);
     when_whole(next, n)
@@ -404,23 +349,10 @@ pub fn feed(reader: Reader, symbol: u8) -> Fed
     ensures { result ≡ feed_of reader symbol }
 {
     let next = next_reader(reader, symbol);
-    let answer = answer_to(reader, symbol, next);
     Fed {
         reader: next,
-        answer: answer,
+        answer: answer_to(reader, symbol, next),
     }
-}
-
-fn reader_of(fed: Fed) -> Reader
-    ensures { result ≡ fed.reader }
-{
-    fed.reader
-}
-
-fn answer_of(fed: Fed) -> Answer
-    ensures { result ≡ fed.answer }
-{
-    fed.answer
 }
 
 // Feeds the recorder's own reader, which is changed in place: one Feed.
@@ -428,6 +360,6 @@ pub fn feed_in_place(reader: &mut Reader, symbol: u8) -> Answer
     ensures { (result ≡ (feed_of reader.old symbol).answer) × (reader.new ≡ (feed_of reader.old symbol).reader) }
 {
     let fed = feed(*reader, symbol);
-    *reader = reader_of(fed);
-    answer_of(fed)
+    *reader = fed.reader;
+    fed.answer
 }

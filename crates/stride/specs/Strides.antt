@@ -1,5 +1,7 @@
 -- A stride of a list of symbols: no frame is whole before its last symbol, so that only the last can report.
-use Rattle.std.specs.Prelude.{◌≡◌, refl, false, cond, List, [], ◌∷◌, ◌++◌, ℕ, zero, suc, ◌+◌, ◌-◌, ◌%◌, ◌<◌, ◌≤◌, eqb}
+use Rattle.timecode.specs.declared.Refusal.{Refusal}
+use Rattle.timecode.specs.declared.Reading.{Reading}
+use Rattle.std.specs.Prelude.{◌≡◌, refl, false, cond, List, [], ◌∷◌, ◌++◌, ℕ, zero, suc, ◌+◌, ◌-◌, ◌%◌, ◌<◌, ◌≤◌, eqb, Result}
 use Rattle.std.proofs.Math.Path.{sym, ap}
 use Rattle.std.proofs.Common.{subst, ◌∙◌, add-zero, mod-eq_of_lt, eqb-true, eq-eqb, ne_eqb}
 use Rattle.std.proofs.Math.Bool.{true}
@@ -14,7 +16,6 @@ use Rattle.timecode.proofs.Laws.Tests.{by-test}
 use Rattle.timecode.specs.declared.Answer.{Answer}
 use Rattle.timecode.specs.declared.Answer.TheVariants.{Quiet}
 use Rattle.timecode.specs.declared.Format.{Format}
-use Rattle.timecode.specs.declared.Reading.{Reading}
 use Rattle.following.specs.Rows.{opens_frame}
 use Rattle.register.specs.Receiving.{push_of, continued_of, begun_of, receive_of, frame_of}
 use Rattle.register.specs.Contents.{pushed-low, receive-newest}
@@ -327,7 +328,7 @@ module _ (r : Reader) (ss : List ℕ) (from end to n : ℕ) (first received : Re
 
 -- ---- the ways out of the functions
 
-pub whole-way : (r : Reader) (n : ℕ) (whole : List ℕ) (reading : Reading) (result : Reader) → n ≡ size r.format → r.received.count ≡ n → frame_of r.received n ≡ whole → reading ≡ read_of r.format whole → result ≡ reader_with_reading r reading → result ≡ when_whole r
+pub whole-way : (r : Reader) (n : ℕ) (whole : List ℕ) (reading : Result Reading Refusal) (result : Reader) → n ≡ size r.format → r.received.count ≡ n → frame_of r.received n ≡ whole → reading ≡ read_of r.format whole → result ≡ reader_with_reading r reading → result ≡ when_whole r
 unfolding when_whole
 whole-way r n whole reading result e c f rd j =
     let same : read_of r.format whole ≡ read_of r.format (frame_of r.received (size r.format)) = ap (read_of r.format) (sym f ∙ ap (frame_of r.received) e) in

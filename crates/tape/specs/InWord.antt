@@ -1,11 +1,11 @@
 -- The frame of letter X in a word, two bits for each element, the last one lowest; what Read says of it, and when one comparison tells that every element fits.
-use Rattle.std.specs.Prelude.{◌≡◌, refl, Bool, true, false, cond, not, ◌&&◌, List, ◌⊎◌, ℕ, zero, suc, ◌+◌, ◌*◌, ◌-◌, ◌/◌, ◌%◌, ◌^◌, ◌<◌, ◌≤◌, eqb, get_or, length}
+use Rattle.timecode.specs.declared.Reading.{Reading}
+use Rattle.std.specs.Prelude.{◌≡◌, refl, Bool, true, false, cond, not, ◌&&◌, List, ◌⊎◌, ℕ, zero, suc, ◌+◌, ◌*◌, ◌-◌, ◌/◌, ◌%◌, ◌^◌, ◌<◌, ◌≤◌, eqb, get_or, length, Result, Err}
 use Rattle.std.proofs.Common.{sym, ap, ◌∙◌, inl, inr, zero-add, div-one, pow-suc, arith, le-leb, eqb-true, eq-eqb, pow-add}
 use Rattle.std.proofs.Math.Nat.{div-div-eq-div-mul}
 use Rattle.std.proofs.lemmas.Bool.{eqb-false}
 use Rattle.std.specs.Int.Bits.{bit_and}
 use Rattle.std.proofs.lemmas.Nat.{and_shr, and_mod, and_le_r}
-use Rattle.timecode.specs.Answers.{check}
 use Rattle.timecode.specs.Formats.{is_x, known}
 use Rattle.timecode.specs.Frames.{are_symbols, read_of}
 use Rattle.timecode.proofs.Laws.Runs.{get_d_tabulate, length-tabulate}
@@ -13,7 +13,6 @@ use Rattle.timecode.specs.Laws.Tests.{every_below}
 use Rattle.timecode.proofs.Laws.Tests.{by-test, clash, and_left, and_right, below-every}
 use Rattle.timecode.specs.Layout.{tabulate}
 use Rattle.timecode.specs.declared.Format.{Format}
-use Rattle.timecode.specs.declared.Reading.{Reading}
 use Rattle.timecode.specs.declared.Refusal.{Refusal}
 use Rattle.timecode.specs.declared.Refusal.TheVariants.{MisplacedMark, InvalidElement}
 use Rattle.tape.specs.Readings.{meaning_of, mark_fits, element_is, check_from, reads_so, misplaced, invalid, fits-here, checked-all}
@@ -107,7 +106,7 @@ by_bits (suc k) x y a b h =
     below : (z : ℕ) → z < 4 ^ suc k → z / 4 < 4 ^ k
     below z l = omega (arith, pow-suc 4 k)
 
-module _ (word : ℕ) (answer : Reading) where
+module _ (word : ℕ) (answer : Result Reading Refusal) where
   fits-from : bit_and word fixed_bits ≡ fixed → (k i : ℕ) → i + k ≡ 25 → check_from (elements_in word) i answer ≡ answer
   fits-from same zero i q = checked-all (elements_in word) i answer (omega (arith, word-long word))
   fits-from same (suc k) i q =
@@ -119,7 +118,7 @@ module _ (word : ℕ) (answer : Reading) where
 
   -- what offends, or every element from i on fits
   abbrev FromOn : ℕ → Type 0
-  FromOn i = ((x : Refusal) × (check_from (elements_in word) i answer ≡ Reading.Refused x)) ⊎ ((j : ℕ) → i ≤ j → j < 25 → element_is j (element_in word j) ≡ true)
+  FromOn i = ((x : Refusal) × (check_from (elements_in word) i answer ≡ Err x)) ⊎ ((j : ℕ) → i ≤ j → j < 25 → element_is j (element_in word j) ≡ true)
 
   from_on : (k i : ℕ) → i + k ≡ 25 → FromOn i
   from_on zero i q = inr (λ j a b. let no : ⊥ = omega arith in absurd no)
@@ -149,9 +148,9 @@ all-bits word g =
 pub reads-fitting : (f : Format) (word : ℕ) → is_x f ≡ true → known f ≡ true → word_fits word ≡ true → read_of f (elements_in word) ≡ meaning_of (elements_in word)
 reads-fitting f word x k y = reads_word f word x k ∙ fits-from word (meaning_of (elements_in word)) (eqb-true (bit_and word fixed_bits) fixed y) 25 0 refl
 
-pub reads_other : (f : Format) (word : ℕ) → is_x f ≡ true → known f ≡ true → word_fits word ≡ false → (r : Refusal) × (read_of f (elements_in word) ≡ Reading.Refused r)
+pub reads_other : (f : Format) (word : ℕ) → is_x f ≡ true → known f ≡ true → word_fits word ≡ false → (r : Refusal) × (read_of f (elements_in word) ≡ Err r)
 reads_other f word x k n = decide (from_on word (meaning_of (elements_in word)) 25 0 refl)
   where
-    decide : FromOn word (meaning_of (elements_in word)) 0 → (r : Refusal) × (read_of f (elements_in word) ≡ Reading.Refused r)
+    decide : FromOn word (meaning_of (elements_in word)) 0 → (r : Refusal) × (read_of f (elements_in word) ≡ Err r)
     decide (inl (r, e)) = (r, reads_word f word x k ∙ e)
     decide (inr g) = clash (eq-eqb (bit_and word fixed_bits) fixed (all-bits word g)) n

@@ -1,5 +1,5 @@
 -- Whether every element of a frame of letter X fits and the lowest index that offends, each gathered over all of them, and what Read says by the two.
-use Rattle.std.specs.Prelude.{◌≡◌, refl, Bool, true, false, cond, ◌&&◌, List, [], ◌∷◌, ℕ, zero, suc, ◌+◌, ◌<◌, ◌≤◌, leb, ltb, eqb, get_or, length}
+use Rattle.std.specs.Prelude.{◌≡◌, refl, Bool, true, false, cond, ◌&&◌, List, [], ◌∷◌, ℕ, zero, suc, ◌+◌, ◌<◌, ◌≤◌, leb, ltb, eqb, get_or, length, Err}
 use Rattle.std.proofs.Common.{ap, ◌∙◌, not-suc-le-zero, add-one, arith, eqb-true, ne_eqb, le-leb, ltb-true, ltb-false, lt-ltb, le-ltb}
 use Rattle.std.proofs.lemmas.Bool.{eqb-false}
 use Rattle.timecode.specs.Formats.{is_x, known}
@@ -7,7 +7,6 @@ use Rattle.timecode.specs.Frames.{are_symbols, read_of}
 use Rattle.timecode.specs.Laws.Tests.{every_below}
 use Rattle.timecode.proofs.Laws.Tests.{by-test, clash, below-every}
 use Rattle.timecode.specs.declared.Format.{Format}
-use Rattle.timecode.specs.declared.Reading.{Reading}
 use Rattle.timecode.specs.declared.Refusal.{Refusal}
 use Rattle.timecode.specs.declared.Refusal.TheVariants.{MisplacedMark, InvalidElement}
 use Rattle.tape.specs.Readings.{meaning_of, mark_fits, element_is, check_from, reads_so, misplaced, invalid, fits-here, checked-all}
@@ -109,7 +108,7 @@ module _ (f : Format) (frame : List ℕ) (x : is_x f ≡ true) (k : known f ≡ 
       let symbols = symbols-all frame (λ j l. fits-symbol j (get_or frame j 0) (fit j (omega arith))) in
       reads_so f frame x k long ∙ rw symbols (fits-to 25 (omega arith) fit ∙ checked-all frame 25 (meaning_of frame) (omega arith))
 
-  pub reads-offence : (low : ℕ) → LowestBelow frame 25 low → (low ≡ 255 → ⊥) → are_symbols frame ≡ true → read_of f frame ≡ Reading.Refused (offence_at low (get_or frame low 0))
+  pub reads-offence : (low : ℕ) → LowestBelow frame 25 low → (low ≡ 255 → ⊥) → are_symbols frame ≡ true → read_of f frame ≡ Err (offence_at low (get_or frame low 0))
   reads-offence low lowest some symbols =
       let found = lowest.offends some in
       reads_so f frame x k long

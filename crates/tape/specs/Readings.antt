@@ -1,17 +1,17 @@
 -- What Read says of a frame of letter X: the lowest element that offends, or the time that its digits say.
-use Rattle.std.specs.Prelude.{◌≡◌, Bool, true, false, cond, not, ◌&&◌, List, ℕ, zero, suc, ◌+◌, ◌*◌, ◌-◌, ◌^◌, ◌<◌, ◌≤◌, leb, ltb, eqb, get_or, length, drop}
+use Rattle.timecode.specs.declared.Refusal.{Refusal}
+use Rattle.timecode.specs.declared.Reading.{Reading}
+use Rattle.std.specs.Prelude.{◌≡◌, Bool, true, false, cond, not, ◌&&◌, List, ℕ, zero, suc, ◌+◌, ◌*◌, ◌-◌, ◌^◌, ◌<◌, ◌≤◌, leb, ltb, eqb, get_or, length, drop, Result, Err}
 use Rattle.std.proofs.Math.Path.{refl}
 use Rattle.std.proofs.Common.{sym, ap, ◌∙◌, zero-add, add-one, arith, leb-true, le-leb, eq-eqb, ne_eqb, drop_of_length-le, pow_mono, drop-cons}
 use Rattle.std.proofs.Math.Nat.{two-pow-succ}
-use Rattle.timecode.specs.Answers.{check}
+use Rattle.timecode.specs.Answers.{check, accepted}
 use Rattle.timecode.specs.Formats.{table, look_up, row_of, known, size, is_x, carries_control, carries_seconds, carries_year, carries_leap, control_places, last_day_in}
 use Rattle.timecode.specs.Frames.{are_symbols, covered, marks_agree, element_fits, check_elements, last_second, day_in, is_time, time_in, seconds_agree, read_of}
 use Rattle.timecode.proofs.Laws.Runs.{get_d_tabulate}
 use Rattle.timecode.proofs.Laws.Tests.{by-test, and_left, and_right}
 use Rattle.timecode.specs.Layout.{seconds, minutes, hours, days, tenths, hundredths_digit, has_seconds, straight_seconds, control, years, time_fields, fields, runs, filler, tabulate, value, digit_in}
 use Rattle.timecode.specs.declared.Format.{Format}
-use Rattle.timecode.specs.declared.Reading.{Reading}
-use Rattle.timecode.specs.declared.Reading.TheVariants.{Accepted}
 use Rattle.timecode.specs.declared.Refusal.TheVariants.{UnknownSymbol, MisplacedMark, InvalidElement, InvalidDigit}
 use Rattle.timecode.specs.declared.Time.{Time}
 use Rattle.tape.specs.Tape.{tape, is-tape, falling_run}
@@ -63,12 +63,12 @@ daytime hours minutes seconds = record { year = 0; day = 1; hundredths = ((hours
 abbrev pub daytime_in : List ℕ → Time
 daytime_in frame = daytime (digit_of frame 3 4 + 10 * digit_of frame 1 2) (digit_of frame 10 4 + 10 * digit_of frame 7 3) (digit_of frame 17 4 + 10 * digit_of frame 14 3)
 
-abbrev pub digits_meaning : ℕ → ℕ → ℕ → ℕ → ℕ → ℕ → Reading
-digits_meaning ht hu mt mu st su = check Reading.Refused InvalidDigit (is_number ht hu 23 && (is_number mt mu 59 && is_number st su 59)) (Accepted (daytime (hu + 10 * ht) (mu + 10 * mt) (su + 10 * st)) 0)
+abbrev pub digits_meaning : ℕ → ℕ → ℕ → ℕ → ℕ → ℕ → Result Reading Refusal
+digits_meaning ht hu mt mu st su = check Err InvalidDigit (is_number ht hu 23 && (is_number mt mu 59 && is_number st su 59)) (accepted (daytime (hu + 10 * ht) (mu + 10 * mt) (su + 10 * st)) 0)
 
 -- 7, or the time
-abbrev pub meaning_of : List ℕ → Reading
-meaning_of frame = check Reading.Refused InvalidDigit (is_daytime frame) (Accepted (daytime_in frame) 0)
+abbrev pub meaning_of : List ℕ → Result Reading Refusal
+meaning_of frame = check Err InvalidDigit (is_daytime frame) (accepted (daytime_in frame) 0)
 
 both_ways : (a b : Bool) → (a ≡ true → b ≡ true) → (b ≡ true → a ≡ true) → a ≡ b
 both_ways true b h k = sym (h refl)
@@ -137,12 +137,12 @@ unfolding time_in day_in value seconds minutes hours days tenths hundredths_digi
 time-in frame = ap (λ (c : ℕ). record { year = 0; day = 1; hundredths = c }) (omega arith)
 
 -- Read of 25 elements checks 4, then the elements, then 7.
-read-tape : (frame : List ℕ) → length frame ≡ 25 → read_of tape frame ≡ check Reading.Refused UnknownSymbol (are_symbols frame) (check_elements (filler tape) (runs tape) 0 frame (meaning_of frame))
+read-tape : (frame : List ℕ) → length frame ≡ 25 → read_of tape frame ≡ check Err UnknownSymbol (are_symbols frame) (check_elements (filler tape) (runs tape) 0 frame (meaning_of frame))
 unfolding read_of known size row_of look_up table seconds_agree has_seconds carries_seconds control carries_control carries_year control_places is_x
 read-tape frame long = rw (eq-eqb (length frame) 25 long, is-time frame, same_test (digit_of frame 17 4) (digit_of frame 14 3) (digit_of frame 10 4) (digit_of frame 7 3) (digit_of frame 3 4) (digit_of frame 1 2), time-in frame) refl
 
 -- the same of every format of letter X
-pub reads_so : (f : Format) (frame : List ℕ) → is_x f ≡ true → known f ≡ true → length frame ≡ 25 → read_of f frame ≡ check Reading.Refused UnknownSymbol (are_symbols frame) (check_elements (filler tape) (runs tape) 0 frame (meaning_of frame))
+pub reads_so : (f : Format) (frame : List ℕ) → is_x f ≡ true → known f ≡ true → length frame ≡ 25 → read_of f frame ≡ check Err UnknownSymbol (are_symbols frame) (check_elements (filler tape) (runs tape) 0 frame (meaning_of frame))
 reads_so f frame x k long = ap (λ (g : Format). read_of g frame) (is-tape f x k) ∙ read-tape frame long
 
 -- ---- which element offends
@@ -178,24 +178,24 @@ elements_are zero s h = rw (covered-at 0 h) refl
 elements_are (suc i) s h = rw (covered-at (suc i) h, le-leb 1 (suc i) (omega arith), ne_eqb (suc i) 0 (λ e. omega arith)) (by-test (leb (suc i) 20) (λ y. rw y) (λ m. rw m))
 
 -- the elements from i on
-abbrev pub check_from : List ℕ → ℕ → Reading → Reading
+abbrev pub check_from : List ℕ → ℕ → Result Reading Refusal → Result Reading Refusal
 check_from frame i answer = check_elements (filler tape) (runs tape) i (drop i frame) answer
 
-module _ (frame : List ℕ) (i : ℕ) (answer : Reading) (long : length frame ≡ 25) (below : i < 25) where
-  turn : check_from frame i answer ≡ check Reading.Refused (MisplacedMark i) (mark_fits i (get_or frame i 0)) (check Reading.Refused (InvalidElement i) (element_is i (get_or frame i 0)) (check_from frame (suc i) answer))
+module _ (frame : List ℕ) (i : ℕ) (answer : Result Reading Refusal) (long : length frame ≡ 25) (below : i < 25) where
+  turn : check_from frame i answer ≡ check Err (MisplacedMark i) (mark_fits i (get_or frame i 0)) (check Err (InvalidElement i) (element_is i (get_or frame i 0)) (check_from frame (suc i) answer))
   unfolding check_elements
   turn = rw (drop-cons frame i 0 (omega arith), marks_are i (get_or frame i 0) below, elements_are i (get_or frame i 0) below) refl
 
-  pub misplaced : mark_fits i (get_or frame i 0) ≡ false → check_from frame i answer ≡ Reading.Refused (MisplacedMark i)
+  pub misplaced : mark_fits i (get_or frame i 0) ≡ false → check_from frame i answer ≡ Err (MisplacedMark i)
   misplaced m = turn ∙ rw m refl
 
-  pub invalid : mark_fits i (get_or frame i 0) ≡ true → element_is i (get_or frame i 0) ≡ false → check_from frame i answer ≡ Reading.Refused (InvalidElement i)
+  pub invalid : mark_fits i (get_or frame i 0) ≡ true → element_is i (get_or frame i 0) ≡ false → check_from frame i answer ≡ Err (InvalidElement i)
   invalid m e = turn ∙ rw (m, e) refl
 
   pub fits-here : mark_fits i (get_or frame i 0) ≡ true → element_is i (get_or frame i 0) ≡ true → check_from frame i answer ≡ check_from frame (i + 1) answer
   fits-here m e = turn ∙ rw (m, e, add-one i) refl
 
-pub checked-all : (frame : List ℕ) (i : ℕ) (answer : Reading) → length frame ≤ i → check_from frame i answer ≡ answer
+pub checked-all : (frame : List ℕ) (i : ℕ) (answer : Result Reading Refusal) → length frame ≤ i → check_from frame i answer ≡ answer
 unfolding check_elements
 checked-all frame i answer h = rw (drop_of_length-le frame {i = i} h) refl
 

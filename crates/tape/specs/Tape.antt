@@ -1,13 +1,13 @@
 -- The one format of letter X, and its frame as it is written: run by run over what fills the rest.
-use Rattle.std.specs.Prelude.{◌≡◌, refl, true, false, cond, ◌&&◌, List, [], ◌∷◌, ℕ, ◌+◌, ◌-◌, ◌/◌, ◌%◌, ◌^◌, ◌<◌, ◌≤◌, leb, ltb, eqb, get_or, length, set}
+use Rattle.std.specs.Prelude.{◌≡◌, refl, true, false, cond, ◌&&◌, List, [], ◌∷◌, ℕ, ◌+◌, ◌-◌, ◌/◌, ◌%◌, ◌^◌, ◌<◌, leb, ltb, eqb, get_or, length, set}
 use Rattle.std.proofs.Common.{sym, ap, ◌∙◌, zero-add, arith, eqb-true, leb-true, le-leb, ltb-true, ltb-false, lt-ltb, le-ltb, length-set, ext_get_or, get_or-set_same, get_or-set_other}
-use Rattle.std.proofs.lemmas.Bool.{eqb-false, lt-leb}
+use Rattle.std.proofs.lemmas.Bool.{eqb-false}
 use Rattle.timecode.specs.Formats.{member, X, table, look_up, row_of, known, size, is_x, carries_control, carries_seconds, carries_year, control_places, day_length, carries_leap}
 use Rattle.timecode.specs.Frames.{written, Valid}
 use Rattle.timecode.proofs.Laws.Runs.{get_d-encode, length-encode, get_d_tabulate, length-tabulate}
 use Rattle.timecode.proofs.Laws.Tests.{by-test, clash}
 use Rattle.timecode.proofs.Laws.Times.{none-added}
-use Rattle.timecode.specs.Layout.{Run, seconds, minutes, hours, days, tenths, hundredths_digit, has_seconds, straight_seconds, control, years, time_fields, fields, runs, day_carried, time_numbers, numbers, in_run, bit_of, filler, symbol_at, tabulate, encode}
+use Rattle.timecode.specs.Layout.{Run, seconds, minutes, hours, days, tenths, hundredths_digit, has_seconds, straight_seconds, control, years, time_fields, fields, runs, day_carried, time_numbers, numbers, filler, symbol_at, tabulate, encode}
 use Rattle.timecode.specs.declared.Format.{Format}
 use Rattle.timecode.specs.declared.Time.{Time}
 

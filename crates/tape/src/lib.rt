@@ -30,10 +30,8 @@ fn put_digit(frame: &mut [u8], start: usize, width: usize, digit: u32)
     requires { (start + width ≤ length frame.old) × (width ≤ 4) }
     ensures { DigitPut start width digit frame.old width frame.new }
 {
-    let mut j = 0;
-    while j < width {
+    for j in 0..width {
         frame[start + j] = bit(digit, width - 1 - j);
-        j += 1;
     }
 }
 
@@ -49,10 +47,7 @@ fn put_number(frame: &mut [u8], start: usize, tens: usize, number: u32)
 fn blank_at(index: usize) -> u8
     ensures { result ≡ blank_at index }
 {
-    if index == 0 {
-        return MARK;
-    }
-    SPOILED
+    if index == 0 { MARK } else { SPOILED }
 }
 
 // What stands where no digit does.
@@ -60,10 +55,8 @@ fn put_blank(frame: &mut [u8])
     requires { length frame.old ≡ 25 }
     ensures { frame.new ≡ blank }
 {
-    let mut i = 0;
-    while i < ELEMENTS {
+    for i in 0..ELEMENTS {
         frame[i] = blank_at(i);
-        i += 1;
     }
 }
 
@@ -79,22 +72,14 @@ pub fn write_tape(time: Time, frame: &mut [u8])
     put_number(frame, 14, 3, seconds % 60);
 }
 
-fn wide(x: u8) -> u32
-    ensures { (result ≡ x) × (result ≤ 255) }
-{
-    x as u32
-}
-
 // The digit that stands there.
 fn digit_at(frame: &[u8], start: usize, width: usize) -> u32
     requires { (start + width ≤ length frame.now) × (width ≤ 4) }
     ensures { (result ≡ digit_of frame.now start width) × (result ≤ 3825) }
 {
     let mut digit = 0u32;
-    let mut j = 0;
-    while j < width {
-        digit = wide(frame[start + j]) + 2 * digit;
-        j += 1;
+    for j in 0..width {
+        digit = u32::from(frame[start + j]) + 2 * digit;
     }
     digit
 }
@@ -104,10 +89,7 @@ fn is_number(tens: u32, units: u32, last: u32) -> bool
     requires { (tens ≤ 3825) × (units ≤ 3825) }
     ensures { result ≡ is_number tens units last }
 {
-    if units <= 9 {
-        return units + 10 * tens <= last;
-    }
-    false
+    units <= 9 && units + 10 * tens <= last
 }
 
 fn time_of(hours: u32, minutes: u32, seconds: u32) -> Time
@@ -129,29 +111,29 @@ fn meaning_of(
     minute_units: u32,
     second_tens: u32,
     second_units: u32,
-) -> Reading
+) -> Result<Reading, Refusal>
     requires { (hour_tens ≤ 3825) × (hour_units ≤ 3825) × (minute_tens ≤ 3825) × (minute_units ≤ 3825) × (second_tens ≤ 3825) × (second_units ≤ 3825) }
     ensures { result ≡ digits_meaning hour_tens hour_units minute_tens minute_units second_tens second_units }
 {
     if !is_number(hour_tens, hour_units, 23) {
-        return Reading::Refused(Refusal::InvalidDigit);
+        return Err(Refusal::InvalidDigit);
     }
     if !is_number(minute_tens, minute_units, 59) {
-        return Reading::Refused(Refusal::InvalidDigit);
+        return Err(Refusal::InvalidDigit);
     }
     if !is_number(second_tens, second_units, 59) {
-        return Reading::Refused(Refusal::InvalidDigit);
+        return Err(Refusal::InvalidDigit);
     }
     let hours = hour_units + 10 * hour_tens;
     let minutes = minute_units + 10 * minute_tens;
     let seconds = second_units + 10 * second_tens;
-    Reading::Accepted {
+    Ok(Reading {
         time: time_of(hours, minutes, seconds),
         control: 0,
-    }
+    })
 }
 
-fn meaning(frame: &[u8]) -> Reading
+fn meaning(frame: &[u8]) -> Result<Reading, Refusal>
     requires { length frame.now ≡ 25 }
     ensures { result ≡ meaning_of frame.now }
 {
@@ -170,30 +152,20 @@ fn mark_fits(index: usize, symbol: u8) -> bool
     ensures { result ≡ mark_fits index symbol }
 {
     if index == 0 {
-        return symbol == MARK;
+        symbol == MARK
+    } else {
+        symbol != MARK
     }
-    symbol != MARK
 }
 
 fn element_is(index: usize, symbol: u8) -> bool
     ensures { result ≡ element_is index symbol }
 {
-    if index == 0 {
-        return symbol == MARK;
+    match index {
+        0 => symbol == MARK,
+        1..=20 => symbol < MARK,
+        _ => symbol == SPOILED,
     }
-    if index <= 20 {
-        return symbol < MARK;
-    }
-    symbol == SPOILED
-}
-
-fn both(first: bool, second: bool) -> bool
-    ensures { result ≡ (first && second) }
-{
-    if first {
-        return second;
-    }
-    false
 }
 
 // Every element fits. It looks at each of them: a loop that never ends early is compiled to take many at a time.
@@ -202,10 +174,8 @@ fn all_fit(frame: &[u8]) -> bool
     ensures { result ≡ all_fit frame.now 25 }
 {
     let mut all = true;
-    let mut index = 0;
-    while index < ELEMENTS {
-        all = both(element_is(index, frame[index]), all);
-        index += 1;
+    for index in 0..ELEMENTS {
+        all &= element_is(index, frame[index]);
     }
     all
 }
@@ -216,21 +186,10 @@ fn are_symbols(frame: &[u8]) -> bool
     ensures { result ≡ are_symbols frame.now }
 {
     let mut all = true;
-    let mut i = 0;
-    while i < ELEMENTS {
-        all = both(all, frame[i] <= SPOILED);
-        i += 1;
+    for i in 0..ELEMENTS {
+        all &= frame[i] <= SPOILED;
     }
     all
-}
-
-fn lesser(first: u8, second: u8) -> u8
-    ensures { result ≡ cond (ltb first second) first second }
-{
-    if first < second {
-        return first;
-    }
-    second
 }
 
 // The index where its element offends, else no index.
@@ -239,9 +198,10 @@ fn place(index: usize, symbol: u8) -> u8
     ensures { result ≡ cond (element_is index symbol) 255 index }
 {
     if element_is(index, symbol) {
-        return NOWHERE;
+        NOWHERE
+    } else {
+        index as u8
     }
-    index as u8
 }
 
 // The lowest index that offends. Like `all_fit` it looks at every element.
@@ -250,10 +210,8 @@ fn lowest_offending(frame: &[u8]) -> u8
     ensures { LowestBelow frame.now 25 result }
 {
     let mut lowest = NOWHERE;
-    let mut index = 0;
-    while index < ELEMENTS {
-        lowest = lesser(lowest, place(index, frame[index]));
-        index += 1;
+    for index in 0..ELEMENTS {
+        lowest = lowest.min(place(index, frame[index]));
     }
     lowest
 }
@@ -269,7 +227,7 @@ fn offence_at(index: usize, symbol: u8) -> Refusal
 }
 
 // The time that the frame's elements say.
-pub fn read_tape(frame: &[u8]) -> Reading
+pub fn read_tape(frame: &[u8]) -> Result<Reading, Refusal>
     requires { length frame.now ≡ 25 }
     ensures { (f : Format) → is_x f ≡ true → known f ≡ true → result ≡ read_of f frame.now }
 {
@@ -277,10 +235,10 @@ pub fn read_tape(frame: &[u8]) -> Reading
         return meaning(frame);
     }
     if !are_symbols(frame) {
-        return Reading::Refused(Refusal::UnknownSymbol);
+        return Err(Refusal::UnknownSymbol);
     }
     let index = lowest_offending(frame) as usize;
-    Reading::Refused(offence_at(index, frame[index]))
+    Err(offence_at(index, frame[index]))
 }
 
 // An element of the frame in a word, two bits for each, the last one lowest.
@@ -296,10 +254,8 @@ fn digit_in(word: u64, start: usize, width: usize) -> u32
     ensures { (result ≡ digit_of (elements_in word) start width) × (result ≤ 3825) }
 {
     let mut digit = 0u32;
-    let mut j = 0;
-    while j < width {
-        digit = wide(element_in(word, start + j)) + 2 * digit;
-        j += 1;
+    for j in 0..width {
+        digit = u32::from(element_in(word, start + j)) + 2 * digit;
     }
     digit
 }
@@ -318,7 +274,7 @@ pub fn word_fits(word: u64) -> bool
 }
 
 // What the digits of the frame in a word say: where every element fits, Read's answer.
-pub fn word_meaning(word: u64) -> Reading
+pub fn word_meaning(word: u64) -> Result<Reading, Refusal>
     ensures { result ≡ meaning_of (elements_in word) }
 {
     meaning_of(

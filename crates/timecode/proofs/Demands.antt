@@ -1,16 +1,16 @@
 -- The demands, stated over the definitions and proved for every format, time, control word, list and length.
-use Rattle.std.specs.Prelude.{◌≡◌, refl, true, false, List, [], ◌∷◌, ◌++◌, ℕ, suc, ◌-◌, ◌/◌, ◌%◌, ◌^◌, ◌<◌, ◌≤◌, ℤ, get_or, length, take, drop, replicate, ◌↔◌, ◌⊎◌}
+use Rattle.std.specs.Prelude.{◌≡◌, refl, true, false, List, [], ◌∷◌, ◌++◌, ℕ, suc, ◌-◌, ◌/◌, ◌%◌, ◌^◌, ◌<◌, ◌≤◌, ℤ, get_or, length, take, drop, replicate, ◌↔◌, ◌⊎◌, Ok, Err, None}
 use Rattle.std.proofs.Common.{sym, ap, ◌∙◌, subst, inl, inr, arith}
 use Rattle.std.proofs.lemmas.List.{length-replicate}
 use Rattle.std.proofs.Math.Nat.{zero-mod}
-use Rattle.timecode.specs.Answers.{refusal_number}
+use Rattle.timecode.specs.Answers.{refusal_number, accepted, done}
 use Rattle.timecode.specs.Calls.{classify_list_of, symbols_left, deviations_left}
 use Rattle.timecode.specs.Editions.{with_year, without_year, time_in_year, nine_bits, forward_of, forward_leaves, backward_of, backward_leaves}
 use Rattle.timecode.specs.Formats.{member, is_x, row_of, known, size, interval, carries_year, last_hundredth, day_length, year_carried, on_format, carries_leap, second_carried}
 use Rattle.timecode.specs.Frames.{new_year, turn_day, year_lengths, length_in, usual, kinds, day_end, same_day, next_day, step_of, Follows, next_after, step_back_of, Precedes, write_of, write_leaves, read_of, Sent, Generator, sent_at, day_before, year_of_time_before, following, preceding, on_day, time_in, frame_checks, digit_checks}
 use Rattle.timecode.specs.Laws.Back.{length_before}
 use Rattle.timecode.proofs.Laws.Back.{step_back, checks-alike, back_step, back-on-format, follows-precedes, precedes-follows, any-length-back}
-use Rattle.timecode.proofs.Laws.Checks.{accepted, by-reading, all-refused-up-to}
+use Rattle.timecode.proofs.Laws.Checks.{accepted-taken, by-reading, all-refused-up-to}
 use Rattle.timecode.proofs.Laws.Editions.{forward-done, forward-leaves, forward-reads, forward-back, back-forward, forward-keeps, backward-keeps, backward-year, with-without}
 use Rattle.timecode.specs.Laws.Existence.{frames}
 use Rattle.timecode.proofs.Laws.Existence.{length-frames, control-at, first-time, generator, goes_on}
@@ -23,15 +23,10 @@ use Rattle.timecode.proofs.Laws.Writing.{written-is-accepted, taken, takes, leav
 use Rattle.timecode.specs.Layout.{second, minute, hour, filler, runs, control, number_in}
 use Rattle.timecode.specs.declared.Format.{Format}
 use Rattle.timecode.specs.declared.Reading.{Reading}
-use Rattle.timecode.specs.declared.Reading.TheVariants.{Accepted}
 use Rattle.timecode.specs.declared.Refusal.TheVariants.{InvalidYearLength}
 use Rattle.timecode.specs.declared.Refusal.{Refusal}
-use Rattle.timecode.specs.declared.Stepped.{Stepped}
-use Rattle.timecode.specs.declared.Stepped.TheVariants.{To}
 use Rattle.timecode.specs.declared.Time.{Time}
 use Rattle.timecode.specs.declared.WidthSettings.{WidthSettings}
-use Rattle.timecode.specs.declared.Written.{Written}
-use Rattle.timecode.specs.declared.Written.TheVariants.{Done}
 -- Theorems that stand whole in Laws, passed on.
 -- Two times that follow one are the same, or day 1 and day 366 at midnight, or 23:59:59 or 23:59:60 and midnight in A, B or G.
 pub use Rattle.timecode.proofs.Laws.Stepping.{two-that-follow}
@@ -47,26 +42,26 @@ use Rattle.timecode.specs.Demands.{Writes}
 
 -- ---- Demand 1: a refusal leaves lent memory with the contents it had. Write, the converters and the classifier over lists set lent memory; Read, Step, Difference, the classifier for one pulse and Scan set none.
 
-pub refused-write-leaves : (f : Format) (t : Time) (w : ℕ) (lent : List ℕ) (r : Refusal) → write_of f t w lent ≡ Written.Refused r → write_leaves f t w lent ≡ lent
+pub refused-write-leaves : (f : Format) (t : Time) (w : ℕ) (lent : List ℕ) (r : Refusal) → write_of f t w lent ≡ Err r → write_leaves f t w lent ≡ lent
 unfolding write_leaves
 refused-write-leaves f t w lent r h = rw h
 
-pub refused-forward-leaves : (f : Format) (frame : List ℕ) (year : ℕ) (lent : List ℕ) (r : Refusal) → forward_of f frame year lent ≡ Written.Refused r → forward_leaves f frame year lent ≡ lent
+pub refused-forward-leaves : (f : Format) (frame : List ℕ) (year : ℕ) (lent : List ℕ) (r : Refusal) → forward_of f frame year lent ≡ Err r → forward_leaves f frame year lent ≡ lent
 unfolding forward_leaves
 refused-forward-leaves f frame year lent r h = rw h
 
-pub refused-backward-leaves : (f : Format) (frame lent : List ℕ) (r : Refusal) → backward_of f frame lent ≡ Written.Refused r → backward_leaves f frame lent ≡ lent
+pub refused-backward-leaves : (f : Format) (frame lent : List ℕ) (r : Refusal) → backward_of f frame lent ≡ Err r → backward_leaves f frame lent ≡ lent
 unfolding backward_leaves
 refused-backward-leaves f frame lent r h = rw h
 
-pub refused-list-leaves : (s : WidthSettings) (T : ℕ) (widths periods symbols : List ℕ) (deviations : List ℤ) (r : Refusal) → classify_list_of s T widths periods symbols deviations ≡ Written.Refused r
+pub refused-list-leaves : (s : WidthSettings) (T : ℕ) (widths periods symbols : List ℕ) (deviations : List ℤ) (r : Refusal) → classify_list_of s T widths periods symbols deviations ≡ Err r
     → (symbols_left s T widths periods symbols deviations ≡ symbols) × (deviations_left s T widths periods symbols deviations ≡ deviations)
 unfolding symbols_left deviations_left
 refused-list-leaves s T widths periods symbols deviations r h = (rw h, rw h)
 
 -- ---- Demand 2: a frame is accepted exactly when some time and control word are written so, and those are then the reading.
 
-pub accepted-exactly-when-written : (f : Format) (bytes : List ℕ) (t : Time) (w : ℕ) → (read_of f bytes ≡ Accepted t w) ↔ Writes f t w bytes
+pub accepted-exactly-when-written : (f : Format) (bytes : List ℕ) (t : Time) (w : ℕ) → (read_of f bytes ≡ accepted t w) ↔ Writes f t w bytes
 accepted-exactly-when-written f bytes t w = (
   λ h.
       let p = accepted-was-written f bytes t w h in
@@ -79,20 +74,20 @@ accepted-exactly-when-written f bytes t w = (
 )
 
 -- Read refuses exactly if no time and control word are written as those bytes.
-pub refused-exactly-when-unwritten : (f : Format) (bytes : List ℕ) → ((r : Refusal) × (read_of f bytes ≡ Reading.Refused r)) ↔ ((t : Time) (w : ℕ) → Writes f t w bytes → ⊥)
+pub refused-exactly-when-unwritten : (f : Format) (bytes : List ℕ) → ((r : Refusal) × (read_of f bytes ≡ Err r)) ↔ ((t : Time) (w : ℕ) → Writes f t w bytes → ⊥)
 refused-exactly-when-unwritten f bytes = (
-  λ refused t w writes. accepted t w refused.0 (sym refused.1 ∙ (accepted-exactly-when-written f bytes t w).1 writes),
+  λ refused t w writes. accepted-taken t w refused.0 (sym refused.1 ∙ (accepted-exactly-when-written f bytes t w).1 writes),
   λ none. by-reading (read_of f bytes) (λ x h. (x, h)) (λ t w h. absurd (none t w ((accepted-exactly-when-written f bytes t w).0 h))),
 )
 
 -- Read refuses with numbers up to 8 alone, never with 14.
-pub read-refuses-up-to-8 : (f : Format) (frame : List ℕ) (r : Refusal) → read_of f frame ≡ Reading.Refused r → refusal_number r ≤ 8
+pub read-refuses-up-to-8 : (f : Format) (frame : List ℕ) (r : Refusal) → read_of f frame ≡ Err r → refusal_number r ≤ 8
 unfolding read_of
 read-refuses-up-to-8 f frame r =
     all-refused-up-to 8 (frame_checks f frame) _ r refl
     (elements-up-to (filler f) (runs f) frame 0 _ r
     (all-refused-up-to 8 (digit_checks f frame) _ r refl
-    (λ h. absurd (accepted (time_in f frame) (number_in frame (control f)) r (sym h)))))
+    (λ h. absurd (accepted-taken (time_in f frame) (number_in frame (control f)) r (sym h)))))
 
 -- The added second is written and read as 23:59:60 and SBS 86,400.
 pub added-second-is-the-61st : (c : ℕ) → day_length ≤ c → c ≤ last_hundredth → (hour c ≡ 23) × (minute c ≡ 59) × (second c ≡ 60) × (c / 100 ≡ 86400)
@@ -105,7 +100,7 @@ other-seconds-are-usual c h = let d = none-added c h in (d.2, d.1, d.0)
 -- ---- Generators. What demand 3 says of them stands in Demand3.
 
 -- Generators there are: of every format, from every first time and with all control words that Write takes.
-pub generators-exist : (f : Format) (t : Time) (ws : List ℕ) → ((j : ℕ) → j < length ws → (lent : List ℕ) → length lent ≡ size f → write_of f t (get_or ws j 0) lent ≡ Done)
+pub generators-exist : (f : Format) (t : Time) (ws : List ℕ) → ((j : ℕ) → j < length ws → (lent : List ℕ) → length lent ≡ size f → write_of f t (get_or ws j 0) lent ≡ done)
     → (sent : List Sent) × Generator f sent × (length sent ≡ length ws) × (0 < length ws → (sent_at sent 0).time ≡ t) × ((j : ℕ) → (sent_at sent j).control ≡ get_or ws j 0)
 generators-exist f t ws h = (
   frames f t ws,
@@ -117,7 +112,7 @@ generators-exist f t ws h = (
 
 -- Each goes on with any time that follows its last one, so with any year length and kind that Step takes, and with any control word that Write takes.
 pub generators-go-on : (f : Format) (sent : List Sent) (s : Sent) → Generator f sent → 0 < length sent → Follows f (sent_at sent (length sent - 1)).time s.time
-    → ((lent : List ℕ) → length lent ≡ size f → write_of f (sent_at sent 0).time s.control lent ≡ Done) → Generator f (sent ++ (s ∷ []))
+    → ((lent : List ℕ) → length lent ≡ size f → write_of f (sent_at sent 0).time s.control lent ≡ done) → Generator f (sent ++ (s ∷ []))
 generators-go-on f sent s = goes_on sent s f
 
 -- ---- Step, for every kind of day: a step is a time that Write takes; next after is some step; the times that follow one, and how they differ.
@@ -152,18 +147,18 @@ three-may-follow f t u s = go (lands f t length s.1 u w) (year_is length w.lengt
 
 -- ---- Step back, for every format, time, year length and kind of day that the first call takes: a step and then a step back returns the time, and so does the other order.
 
-pub step-then-back : (f : Format) (t u : Time) (given kind : ℕ) → step_of f t given kind ≡ To u → step_back_of f u given kind ≡ To t
+pub step-then-back : (f : Format) (t u : Time) (given kind : ℕ) → step_of f t given kind ≡ Ok u → step_back_of f u given kind ≡ Ok t
 step-then-back f t u given kind = step_back f t given kind u
 
-pub back-then-step : (f : Format) (t u : Time) (given kind : ℕ) → step_back_of f u given kind ≡ To t → step_of f t given kind ≡ To u
+pub back-then-step : (f : Format) (t u : Time) (given kind : ℕ) → step_back_of f u given kind ≡ Ok t → step_of f t given kind ≡ Ok u
 back-then-step f t u given kind = back_step f u given kind t
 
 -- The checks are the step's: both refuse the same, with the same number.
-pub back-refuses-as-step : (f : Format) (t : Time) (given kind : ℕ) (r : Refusal) → (step_back_of f t given kind ≡ Stepped.Refused r) ↔ (step_of f t given kind ≡ Stepped.Refused r)
+pub back-refuses-as-step : (f : Format) (t : Time) (given kind : ℕ) (r : Refusal) → (step_back_of f t given kind ≡ Err r) ↔ (step_of f t given kind ≡ Err r)
 unfolding step_of step_back_of
 back-refuses-as-step f t given kind r = (
-  λ h. refuses-alike f t after kind (preceding f t before kind) r (sym (checks-alike f t given kind (To (preceding f t before kind))) ∙ h) (To (following f t after kind)),
-  λ h. checks-alike f t given kind (To (preceding f t before kind)) ∙ refuses-alike f t after kind (following f t after kind) r h (To (preceding f t before kind)),
+  λ h. refuses-alike f t after kind (preceding f t before kind) r (sym (checks-alike f t given kind (Ok (preceding f t before kind))) ∙ h) (Ok (following f t after kind)),
+  λ h. checks-alike f t given kind (Ok (preceding f t before kind)) ∙ refuses-alike f t after kind (following f t after kind) r h (Ok (preceding f t before kind)),
 )
   where
     before : ℕ
@@ -175,14 +170,14 @@ back-refuses-as-step f t given kind r = (
 -- Day 1, c 0 goes to the last frame of the year before, whose length is the one given, or where the format carries the year its own; in X to the last frame of day 1.
 pub first-frame-back-to-last : (f : Format) (year given kind : ℕ) → known f ≡ true → year_carried f year ≡ true → member given year_lengths ≡ true → member kind kinds ≡ true
     → step_back_of f (new_year year) given kind
-    ≡ To (record { year = year_of_time_before f (new_year year); day = turn_day f (length_in f (year_of_time_before f (new_year year)) given); hundredths = day_end f kind - interval f })
+    ≡ Ok (record { year = year_of_time_before f (new_year year); day = turn_day f (length_in f (year_of_time_before f (new_year year)) given); hundredths = day_end f kind - interval f })
 unfolding step_back_of preceding day_before
 first-frame-back-to-last f year given kind k y l m =
     let length = length-in f (year_of_time_before f (new_year year)) given l in
     step-answers f (new_year year) (length_before f (new_year year) given) kind k
     (record { year_is = y; first = omega arith; within_year = omega (arith, last-range f year); last = omega arith; below = omega arith; grid = zero-mod (interval f); carried = λ n. omega arith })
     length (year-range (length_before f (new_year year) given) length).0 m (omega (arith, day-end-range f kind))
-    (To (record { year = year_of_time_before f (new_year year); day = turn_day f (length_before f (new_year year) given); hundredths = day_end f kind - interval f }))
+    (Ok (record { year = year_of_time_before f (new_year year); day = turn_day f (length_before f (new_year year) given); hundredths = day_end f kind - interval f }))
 
 -- Next after, read backwards, is some step back.
 pub next-after-backwards : (f : Format) (t u : Time) → (next_after f t u ≡ true) ↔ Precedes f t u
@@ -208,7 +203,7 @@ pub given-length-ignored : (f : Format) (t : Time) (a b kind : ℕ) → carries_
 given-length-ignored f t a b kind y = (any-length f t a b kind y, any-length-back f t a b kind y)
 
 -- So 11 never occurs there.
-pub year-length-never-refused : (f : Format) (t : Time) (given kind : ℕ) → carries_year f ≡ true → step_of f t given kind ≡ Stepped.Refused InvalidYearLength → ⊥
+pub year-length-never-refused : (f : Format) (t : Time) (given kind : ℕ) → carries_year f ≡ true → step_of f t given kind ≡ Err InvalidYearLength → ⊥
 year-length-never-refused = never-refuses-length
 
 -- No false year with one element replaced: Demand3.no-false-year-with-one-replaced.
@@ -216,7 +211,7 @@ year-length-never-refused = never-refuses-length
 -- ---- X. Demand 2, demand 3 and the theorems on both steps hold for every format, so for X too.
 
 -- What Read gives of an X frame: day 1 always, no year, no control bits.
-pub x-is-day-1 : (f : Format) (bytes : List ℕ) (t : Time) (w : ℕ) → is_x f ≡ true → read_of f bytes ≡ Accepted t w → (t.year ≡ 0) × (t.day ≡ 1) × (w ≡ 0)
+pub x-is-day-1 : (f : Format) (bytes : List ℕ) (t : Time) (w : ℕ) → is_x f ≡ true → read_of f bytes ≡ accepted t w → (t.year ≡ 0) × (t.day ≡ 1) × (w ≡ 0)
 x-is-day-1 f bytes t w x h =
     let v = (accepted-was-written f bytes t w h).0 in
     let room : w < 2 ^ 0 = rw (x-no-control f v.format x) at v.room in
@@ -229,36 +224,36 @@ x-steps-to-day-1 f t u x = (λ s. only-day f u (step-on-format f t u s) x, λ s.
 -- ---- Converters. What they read, where they are done, stands in the frame that they leave.
 
 -- Forward keeps every element but 50 to 58, so the 18 later control bits in place; the frame is read as the same day and hundredths in the year given.
-pub forward-keeps-the-rest : (f : Format) (frame : List ℕ) (year : ℕ) (lent : List ℕ) → forward_of f frame year lent ≡ Done
+pub forward-keeps-the-rest : (f : Format) (frame : List ℕ) (year : ℕ) (lent : List ℕ) → forward_of f frame year lent ≡ done
     → (take 50 (forward_leaves f frame year lent) ≡ take 50 frame) × (drop 59 (forward_leaves f frame year lent) ≡ drop 59 frame)
 forward-keeps-the-rest = forward-keeps
 
-pub forward-is-read : (f : Format) (frame : List ℕ) (year : ℕ) (lent : List ℕ) → forward_of f frame year lent ≡ Done
-    → (t : Time) × (w : ℕ) × (read_of f frame ≡ Accepted t w) × (read_of (with_year f) (forward_leaves f frame year lent) ≡ Accepted (time_in_year t year) (w / nine_bits))
+pub forward-is-read : (f : Format) (frame : List ℕ) (year : ℕ) (lent : List ℕ) → forward_of f frame year lent ≡ done
+    → (t : Time) × (w : ℕ) × (read_of f frame ≡ accepted t w) × (read_of (with_year f) (forward_leaves f frame year lent) ≡ accepted (time_in_year t year) (w / nine_bits))
 forward-is-read f frame year lent h =
     let d = forward-done f frame year lent h in
     (d.time, d.word, d.reads, ap (read_of (with_year f)) (forward-leaves f frame year lent h d) ∙ forward-reads f frame year d)
 
 -- Backward keeps every element but 50 to 58, and leaves these zero.
-pub backward-keeps-the-rest : (f : Format) (frame lent : List ℕ) → backward_of f frame lent ≡ Done
+pub backward-keeps-the-rest : (f : Format) (frame lent : List ℕ) → backward_of f frame lent ≡ done
     → (take 50 (backward_leaves f frame lent) ≡ take 50 frame) × (drop 59 (backward_leaves f frame lent) ≡ drop 59 frame) × (take 9 (drop 50 (backward_leaves f frame lent)) ≡ replicate 9 0)
 backward-keeps-the-rest f frame lent h =
     let g = with-without f (backward-year f frame lent h) in
-    subst (λ (x : Format). backward_of x frame lent ≡ Done
+    subst (λ (x : Format). backward_of x frame lent ≡ done
     → (take 50 (backward_leaves x frame lent) ≡ take 50 frame) × (drop 59 (backward_leaves x frame lent) ≡ drop 59 frame) × (take 9 (drop 50 (backward_leaves x frame lent)) ≡ replicate 9 0))
     g.1 (backward-keeps (without_year f) frame lent g.0) h
 
 -- Forward and back gives the same frame,
-pub forward-then-back : (f : Format) (frame : List ℕ) (year : ℕ) (lent again : List ℕ) → forward_of f frame year lent ≡ Done → length again ≡ size f
-    → (backward_of (with_year f) (forward_leaves f frame year lent) again ≡ Done) × (backward_leaves (with_year f) (forward_leaves f frame year lent) again ≡ frame)
+pub forward-then-back : (f : Format) (frame : List ℕ) (year : ℕ) (lent again : List ℕ) → forward_of f frame year lent ≡ done → length again ≡ size f
+    → (backward_of (with_year f) (forward_leaves f frame year lent) again ≡ done) × (backward_leaves (with_year f) (forward_leaves f frame year lent) again ≡ frame)
 forward-then-back = forward-back
 
 -- and so do back and forward, with the year that was dropped.
-pub back-then-forward : (f : Format) (frame lent again : List ℕ) (t : Time) (w : ℕ) → read_of f frame ≡ Accepted t w → backward_of f frame lent ≡ Done → length again ≡ size f
-    → (forward_of (without_year f) (backward_leaves f frame lent) t.year again ≡ Done) × (forward_leaves (without_year f) (backward_leaves f frame lent) t.year again ≡ frame)
+pub back-then-forward : (f : Format) (frame lent again : List ℕ) (t : Time) (w : ℕ) → read_of f frame ≡ accepted t w → backward_of f frame lent ≡ done → length again ≡ size f
+    → (forward_of (without_year f) (backward_leaves f frame lent) t.year again ≡ done) × (forward_leaves (without_year f) (backward_leaves f frame lent) t.year again ≡ frame)
 unfolding size row_of
 back-then-forward f frame lent again t w reads h n =
     let g = with-without f (backward-year f frame lent h) in
-    subst (λ (x : Format). read_of x frame ≡ Accepted t w → backward_of x frame lent ≡ Done
-    → (forward_of (without_year f) (backward_leaves x frame lent) t.year again ≡ Done) × (forward_leaves (without_year f) (backward_leaves x frame lent) t.year again ≡ frame))
+    subst (λ (x : Format). read_of x frame ≡ accepted t w → backward_of x frame lent ≡ done
+    → (forward_of (without_year f) (backward_leaves x frame lent) t.year again ≡ done) × (forward_leaves (without_year f) (backward_leaves x frame lent) t.year again ≡ frame))
     g.1 (λ r d. back-forward (without_year f) frame lent again t w g.0 r d n) reads h

@@ -1,11 +1,10 @@
 -- Document 01, "Numbers a call refuses with": the number and the values of each case of each answer. From 14 on they are document 02's.
-use Rattle.std.specs.Prelude.{Bool, true, false, List, [], ◌∷◌, ℕ, ℤ, pos}
+use Rattle.timecode.specs.declared.Pulse.{Pulse}
+use Rattle.timecode.specs.declared.Found.{Found}
+use Rattle.std.specs.Prelude.{Bool, true, false, List, [], ◌∷◌, ℕ, ℤ, pos, Result, Ok, Err, Option, Some, None}
 use Rattle.timecode.specs.declared.Answer.{Answer}
 use Rattle.timecode.specs.declared.Answer.TheVariants.{Quiet, Report}
-use Rattle.timecode.specs.declared.Classified.{Classified}
-use Rattle.timecode.specs.declared.Classified.TheVariants.{Symbol}
 use Rattle.timecode.specs.declared.Reading.{Reading}
-use Rattle.timecode.specs.declared.Reading.TheVariants.{Accepted}
 use Rattle.timecode.specs.declared.Refusal.{Refusal}
 use Rattle.timecode.specs.declared.Refusal.TheVariants.{
   UnknownFormat,
@@ -36,15 +35,7 @@ use Rattle.timecode.specs.declared.Refusal.TheVariants.{
   InvalidSetting,
   InvalidListener,
 }
-use Rattle.timecode.specs.declared.Scanned.{Scanned}
-use Rattle.timecode.specs.declared.Scanned.TheVariants.{Found, None}
-use Rattle.timecode.specs.declared.Stepped.{Stepped}
-use Rattle.timecode.specs.declared.Stepped.TheVariants.{To}
-use Rattle.timecode.specs.declared.Subtracted.{Subtracted}
-use Rattle.timecode.specs.declared.Subtracted.TheVariants.{Hundredths}
 use Rattle.timecode.specs.declared.Time.{Time}
-use Rattle.timecode.specs.declared.Written.{Written}
-use Rattle.timecode.specs.declared.Written.TheVariants.{Done}
 
 -- the number of a refusal
 abbrev pub refusal_number : Refusal → ℕ
@@ -76,6 +67,19 @@ refusal_number (UnknownCycle i) = 25
 refusal_number InvalidSetting = 26
 refusal_number InvalidListener = 27
 
+-- The answers of Write and the converters where they are done, of Read where it accepts, and of Scan where it finds a frame and where there is none.
+abbrev pub done : Result Unit Refusal
+done = Ok tt
+
+abbrev pub accepted : Time → ℕ → Result Reading Refusal
+accepted t w = Ok (record { time = t; control = w })
+
+abbrev pub found_frame : ℕ → Time → ℕ → Result (Option Found) Refusal
+found_frame a t w = Ok (Some (record { start = a; reading = record { time = t; control = w } }))
+
+abbrev pub none_found : Result (Option Found) Refusal
+none_found = Ok None
+
 -- One check of a call: the answer goes on where it passes, and is that refusal where it fails.
 abbrev pub check : {Any : Type 0} → (Refusal → Any) → Refusal → Bool → Any → Any
 check refused r true answer = answer
@@ -89,8 +93,8 @@ abbrev pub checks : {Any : Type 0} → (Refusal → Any) → List Check → Any 
 checks refused [] answer = answer
 checks refused ((r, test) ∷ cs) answer = check refused r test (checks refused cs answer)
 
--- The result of an answer: 0 and its values, or the number of a refusal and the value beside it.
-pub record Result : Type 0 where
+-- The outcome of a call: 0 and the answer's values, or the number of a refusal and the value beside it.
+pub record Outcome : Type 0 where
   pub number : ℕ
   pub values : List ℤ
 
@@ -125,42 +129,42 @@ index InvalidSetting = []
 index InvalidListener = []
 
 -- a refusal carries its number, with 5, 6 and 25 the index, and no value beside
-abbrev pub refusal_result : Refusal → Result
+abbrev pub refusal_result : Refusal → Outcome
 refusal_result r = record { number = refusal_number r; values = index r }
 
-abbrev pub success : List ℤ → Result
+abbrev pub success : List ℤ → Outcome
 success vs = record { number = 0; values = vs }
 
 -- the values of a time, before others
 abbrev pub time_values : Time → List ℤ → List ℤ
 time_values t vs = pos t.year ∷ pos t.day ∷ pos t.hundredths ∷ vs
 
-abbrev pub written_result : Written → Result
-written_result Done = success []
-written_result (Written.Refused r) = refusal_result r
+abbrev pub written_result : Result Unit Refusal → Outcome
+written_result (Ok u) = success []
+written_result (Err r) = refusal_result r
 
-abbrev pub reading_result : Reading → Result
-reading_result (Accepted t w) = success (time_values t (pos w ∷ []))
-reading_result (Reading.Refused r) = refusal_result r
+abbrev pub reading_result : Result Reading Refusal → Outcome
+reading_result (Ok read) = success (time_values read.time (pos read.control ∷ []))
+reading_result (Err r) = refusal_result r
 
-abbrev pub stepped_result : Stepped → Result
-stepped_result (To t) = success (time_values t [])
-stepped_result (Stepped.Refused r) = refusal_result r
+abbrev pub stepped_result : Result Time Refusal → Outcome
+stepped_result (Ok t) = success (time_values t [])
+stepped_result (Err r) = refusal_result r
 
-abbrev pub subtracted_result : Subtracted → Result
-subtracted_result (Hundredths d) = success (d ∷ [])
-subtracted_result (Subtracted.Refused r) = refusal_result r
+abbrev pub subtracted_result : Result ℤ Refusal → Outcome
+subtracted_result (Ok d) = success (d ∷ [])
+subtracted_result (Err r) = refusal_result r
 
-abbrev pub classified_result : Classified → Result
-classified_result (Symbol s d) = success (pos s ∷ d ∷ [])
-classified_result (Classified.Refused r) = refusal_result r
+abbrev pub classified_result : Result Pulse Refusal → Outcome
+classified_result (Ok pulse) = success (pos pulse.symbol ∷ pulse.deviation ∷ [])
+classified_result (Err r) = refusal_result r
 
-abbrev pub scanned_result : Scanned → Result
-scanned_result (Found a t w) = success (pos a ∷ time_values t (pos w ∷ []))
-scanned_result None = success []
-scanned_result (Scanned.Refused r) = refusal_result r
+abbrev pub scanned_result : Result (Option Found) Refusal → Outcome
+scanned_result (Ok (Some f)) = success (pos f.start ∷ time_values f.reading.time (pos f.reading.control ∷ []))
+scanned_result (Ok None) = success []
+scanned_result (Err r) = refusal_result r
 
-abbrev pub answer_result : Answer → Result
+abbrev pub answer_result : Answer → Outcome
 answer_result Quiet = success []
 answer_result (Report t w) = success (time_values t (pos w ∷ []))
 answer_result (Answer.Refused r) = refusal_result r

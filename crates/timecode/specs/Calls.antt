@@ -1,25 +1,18 @@
 -- Document 01, "Classifier, difference, scan, program": what the classifier, Difference and Scan answer.
-use Rattle.std.specs.Prelude.{◌≡◌, Bool, true, false, cond, ◌&&◌, List, [], ◌∷◌, ◌++◌, map, ℕ, zero, suc, ◌+◌, ◌*◌, ◌-◌, ◌<◌, ◌≤◌, leb, eqb, ℤ, pos, ◌+ℤ◌, ◌-ℤ◌, ◌*ℤ◌, get_or, length, take, drop}
-use Rattle.timecode.specs.Answers.{Check, check, checks}
+use Rattle.timecode.specs.declared.Found.{Found}
+use Rattle.timecode.specs.declared.Refusal.{Refusal}
+use Rattle.std.specs.Prelude.{◌≡◌, Bool, true, false, cond, ◌&&◌, List, [], ◌∷◌, ◌++◌, map, ℕ, zero, suc, ◌+◌, ◌*◌, ◌-◌, ◌<◌, ◌≤◌, leb, eqb, ℤ, pos, ◌+ℤ◌, ◌-ℤ◌, ◌*ℤ◌, get_or, length, take, drop, Result, Ok, Err, Option}
+use Rattle.timecode.specs.Answers.{Check, check, checks, accepted, done, found_frame, none_found}
 use Rattle.timecode.specs.Formats.{is_x, known, size, last_day, day_length, in_range}
 use Rattle.timecode.specs.Frames.{left, read_of}
 use Rattle.timecode.specs.Stream.{lead}
-use Rattle.timecode.specs.declared.Classified.{Classified}
-use Rattle.timecode.specs.declared.Classified.TheVariants.{Symbol}
 use Rattle.timecode.specs.declared.Format.{Format}
 use Rattle.timecode.specs.declared.Pulse.{Pulse}
 use Rattle.timecode.specs.declared.Reading.{Reading}
-use Rattle.timecode.specs.declared.Reading.TheVariants.{Accepted}
 use Rattle.timecode.specs.declared.Refusal.TheVariants.{UnknownFormat, InvalidTime, WrongLength, InvalidInterval, StartPastEnd, InvalidWidthSetting}
-use Rattle.timecode.specs.declared.Scanned.{Scanned}
-use Rattle.timecode.specs.declared.Scanned.TheVariants.{Found, None}
-use Rattle.timecode.specs.declared.Subtracted.{Subtracted}
-use Rattle.timecode.specs.declared.Subtracted.TheVariants.{Hundredths}
 use Rattle.timecode.specs.declared.Time.{Time}
 use Rattle.timecode.specs.declared.WidthClass.{WidthClass}
 use Rattle.timecode.specs.declared.WidthSettings.{WidthSettings}
-use Rattle.timecode.specs.declared.Written.{Written}
-use Rattle.timecode.specs.declared.Written.TheVariants.{Done}
 
 -- ---- Classifier, with document 02's width settings and deviation
 
@@ -72,8 +65,8 @@ pulse_checks s T =
     ∷ (InvalidWidthSetting, are_width_settings s)  -- 16
     ∷ []
 
-unfoldable pub classify_of : WidthSettings → ℕ → ℕ → ℕ → Classified
-classify_of s T width period = checks Classified.Refused (pulse_checks s T) (Symbol (pulse_of s T width period).symbol (pulse_of s T width period).deviation)
+unfoldable pub classify_of : WidthSettings → ℕ → ℕ → ℕ → Result Pulse Refusal
+classify_of s T width period = checks Err (pulse_checks s T) (Ok (pulse_of s T width period))
 
 -- pulse by pulse
 unfoldable pub pulses_of : WidthSettings → ℕ → List ℕ → List ℕ → List Pulse
@@ -88,8 +81,8 @@ pulse_list_checks s T widths periods symbols deviations =
     ++ ((WrongLength, eqb (length widths) (length symbols) && (eqb (length periods) (length symbols) && eqb (length deviations) (length symbols)))  -- 3
     ∷ [])
 
-unfoldable pub classify_list_of : WidthSettings → ℕ → List ℕ → List ℕ → List ℕ → List ℤ → Written
-classify_list_of s T widths periods symbols deviations = checks Written.Refused (pulse_list_checks s T widths periods symbols deviations) Done
+unfoldable pub classify_list_of : WidthSettings → ℕ → List ℕ → List ℕ → List ℕ → List ℤ → Result Unit Refusal
+classify_list_of s T widths periods symbols deviations = checks Err (pulse_list_checks s T widths periods symbols deviations) done
 
 -- the lent symbols and the lent deviations afterwards
 unfoldable pub symbols_left : WidthSettings → ℕ → List ℕ → List ℕ → List ℕ → List ℤ → List ℕ
@@ -113,10 +106,10 @@ five_percent = record { zeros = 5; ones = 5; marks = 5 }
 
 -- ---- Difference: 8,640,000 times the days' difference, plus the c's; number 2 for a range, never for a grid. It passes over the years.
 
-unfoldable pub difference_of : Time → Time → Subtracted
+unfoldable pub difference_of : Time → Time → Result ℤ Refusal
 difference_of t u =
-    check Subtracted.Refused InvalidTime (in_range last_day t && in_range last_day u)  -- 2
-    (Hundredths (pos day_length *ℤ (pos t.day -ℤ pos u.day) +ℤ (pos t.hundredths -ℤ pos u.hundredths)))
+    check Err InvalidTime (in_range last_day t && in_range last_day u)  -- 2
+    (Ok (pos day_length *ℤ (pos t.day -ℤ pos u.day) +ℤ (pos t.hundredths -ℤ pos u.hundredths)))
 
 -- ---- Scan
 
@@ -129,14 +122,14 @@ unfoldable pub lead_at : Format → List ℕ → ℕ → Bool
 lead_at f recording a = cond (is_x f) true (eqb (get_or recording (a - 1) 0) 2)
 
 -- a is found where its lead stands and the frame beginning at a is accepted; else the places after it are looked at
-abbrev pub found : Bool → Reading → ℕ → Scanned → Scanned
-found true (Accepted t w) a after = Found a t w
-found true (Reading.Refused r) a after = after
+abbrev pub found : Bool → Result Reading Refusal → ℕ → Result (Option Found) Refusal → Result (Option Found) Refusal
+found true (Ok read) a after = found_frame a read.time read.control
+found true (Err r) a after = after
 found false reading a after = after
 
 -- the lowest of k places, a the first of them
-unfoldable pub lowest_of : Format → List ℕ → ℕ → ℕ → Scanned
-lowest_of f recording zero a = None
+unfoldable pub lowest_of : Format → List ℕ → ℕ → ℕ → Result (Option Found) Refusal
+lowest_of f recording zero a = none_found
 lowest_of f recording (suc k) a = found (lead_at f recording a) (read_of f (part_at f recording a)) a (lowest_of f recording k (suc a))
 
 -- at least 1 (in X 0), so that there is room for the lead, and at least the start
@@ -150,13 +143,13 @@ scan_checks f recording start =
     ∷ (StartPastEnd, leb start (length recording))  -- 12
     ∷ []
 
-unfoldable pub scan_of : Format → List ℕ → ℕ → Scanned
-scan_of f recording start = checks Scanned.Refused (scan_checks f recording start) (lowest_of f recording (length recording + 1 - (first_place f start + size f)) (first_place f start))
+unfoldable pub scan_of : Format → List ℕ → ℕ → Result (Option Found) Refusal
+scan_of f recording start = checks Err (scan_checks f recording start) (lowest_of f recording (length recording + 1 - (first_place f start + size f)) (first_place f start))
 
 -- element a - 1 is a mark, except in X, and the frame beginning at a is accepted
 pub record FrameAt (f : Format) (recording : List ℕ) (a : ℕ) (t : Time) (w : ℕ) : Type 0 where
   pub lead_stands : lead_at f recording a ≡ true
-  pub frame : read_of f (part_at f recording a) ≡ Accepted t w
+  pub frame : read_of f (part_at f recording a) ≡ accepted t w
 
 -- a is at least 1 (in X 0) and at least the start, and a frame is found there
 pub record FoundAt (f : Format) (recording : List ℕ) (start a : ℕ) (t : Time) (w : ℕ) : Type 0 where

@@ -1,15 +1,13 @@
 -- Document 02, "The year on the wire": frames of A and B converted between the editions without the year and with it.
-use Rattle.std.specs.Prelude.{Bool, ◌&&◌, List, [], ◌∷◌, ℕ, ◌+◌, ◌-◌, ◌*◌, ◌/◌, ◌%◌, leb, eqb, length}
-use Rattle.timecode.specs.Answers.{Check, checks}
+use Rattle.timecode.specs.declared.Refusal.{Refusal}
+use Rattle.std.specs.Prelude.{Bool, ◌&&◌, List, [], ◌∷◌, ℕ, ◌+◌, ◌-◌, ◌*◌, ◌/◌, ◌%◌, leb, eqb, length, Result, Ok, Err}
+use Rattle.timecode.specs.Answers.{Check, checks, done}
 use Rattle.timecode.specs.Formats.{A, B, member, size, carries_year, last_year, days_in}
 use Rattle.timecode.specs.Frames.{written, left, read_of}
 use Rattle.timecode.specs.declared.Format.{Format}
 use Rattle.timecode.specs.declared.Reading.{Reading}
-use Rattle.timecode.specs.declared.Reading.TheVariants.{Accepted}
 use Rattle.timecode.specs.declared.Refusal.TheVariants.{UnknownFormat, InvalidTime, WrongLength, InvalidYear, YearPlaceTaken}
 use Rattle.timecode.specs.declared.Time.{Time}
-use Rattle.timecode.specs.declared.Written.{Written}
-use Rattle.timecode.specs.declared.Written.TheVariants.{Done}
 
 -- 4 to 7 are 0 to 3 with the year
 abbrev pub with_year : Format → Format
@@ -51,17 +49,17 @@ forward_checks year t w =
     ∷ (YearPlaceTaken, eqb (w % nine_bits) 0)  -- 18
     ∷ []
 
-unfoldable pub check_forward : ℕ → Reading → Written
-check_forward year (Accepted t w) = checks Written.Refused (forward_checks year t w) Done
-check_forward year (Reading.Refused r) = Written.Refused r
+unfoldable pub check_forward : ℕ → Result Reading Refusal → Result Unit Refusal
+check_forward year (Ok read) = checks Err (forward_checks year read.time read.control) done
+check_forward year (Err r) = Err r
 
-unfoldable pub forward_of : Format → List ℕ → ℕ → List ℕ → Written
-forward_of f frame year lent = checks Written.Refused (edition_checks f (is_earlier f) frame lent) (check_forward year (read_of f frame))
+unfoldable pub forward_of : Format → List ℕ → ℕ → List ℕ → Result Unit Refusal
+forward_of f frame year lent = checks Err (edition_checks f (is_earlier f) frame lent) (check_forward year (read_of f frame))
 
 -- the time in that year, and the 18 later control bits in place
-abbrev pub forwarded : Format → ℕ → Reading → List ℕ → List ℕ
-forwarded f year (Accepted t w) lent = written (with_year f) (time_in_year t year) (w / nine_bits)
-forwarded f year (Reading.Refused r) lent = lent
+abbrev pub forwarded : Format → ℕ → Result Reading Refusal → List ℕ → List ℕ
+forwarded f year (Ok read) lent = written (with_year f) (time_in_year read.time year) (read.control / nine_bits)
+forwarded f year (Err r) lent = lent
 
 -- the lent frame afterwards
 unfoldable pub forward_leaves : Format → List ℕ → ℕ → List ℕ → List ℕ
@@ -69,17 +67,17 @@ forward_leaves f frame year lent = left (forward_of f frame year lent) (forwarde
 
 -- ---- backward
 
-abbrev pub check_backward : Reading → Written
-check_backward (Accepted t w) = Done
-check_backward (Reading.Refused r) = Written.Refused r
+abbrev pub check_backward : Result Reading Refusal → Result Unit Refusal
+check_backward (Ok read) = done
+check_backward (Err r) = Err r
 
-unfoldable pub backward_of : Format → List ℕ → List ℕ → Written
-backward_of f frame lent = checks Written.Refused (edition_checks f (carries_year f) frame lent) (check_backward (read_of f frame))
+unfoldable pub backward_of : Format → List ℕ → List ℕ → Result Unit Refusal
+backward_of f frame lent = checks Err (edition_checks f (carries_year f) frame lent) (check_backward (read_of f frame))
 
 -- the time without the year, and control bits 1 to 9 zero
-abbrev pub backwarded : Format → Reading → List ℕ → List ℕ
-backwarded f (Accepted t w) lent = written (without_year f) (time_in_year t 0) (w * nine_bits)
-backwarded f (Reading.Refused r) lent = lent
+abbrev pub backwarded : Format → Result Reading Refusal → List ℕ → List ℕ
+backwarded f (Ok read) lent = written (without_year f) (time_in_year read.time 0) (read.control * nine_bits)
+backwarded f (Err r) lent = lent
 
 unfoldable pub backward_leaves : Format → List ℕ → List ℕ → List ℕ
 backward_leaves f frame lent = left (backward_of f frame lent) (backwarded f (read_of f frame) lent) lent

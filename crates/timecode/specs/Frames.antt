@@ -1,18 +1,14 @@
 -- Document 01, "Stepping, writing, reading": Step and next after, Write, Read, and the generator.
 -- Document 02: the step back; both steps are given the kind of the earlier time's day, and 23:59:60 is read where it is carried. Where the format carries the year, it gives the year's length. In X every day is day 1.
-use Rattle.std.specs.Prelude.{◌≡◌, Bool, true, false, cond, not, ◌&&◌, ◌||◌, List, [], ◌∷◌, ◌++◌, ◌⊎◌, ℕ, suc, ◌+◌, ◌-◌, ◌*◌, ◌/◌, ◌^◌, ◌<◌, leb, ltb, eqb, get_or, length}
-use Rattle.timecode.specs.Answers.{Check, check, checks}
+use Rattle.timecode.specs.declared.Refusal.{Refusal}
+use Rattle.std.specs.Prelude.{◌≡◌, Bool, true, false, cond, not, ◌&&◌, ◌||◌, List, [], ◌∷◌, ◌++◌, ◌⊎◌, ℕ, suc, ◌+◌, ◌-◌, ◌*◌, ◌/◌, ◌^◌, ◌<◌, leb, ltb, eqb, get_or, length, Result, Ok, Err}
+use Rattle.timecode.specs.Answers.{Check, check, checks, accepted, done}
 use Rattle.timecode.specs.Formats.{member, is_symbol, is_x, known, size, interval, carries_year, day_length, last_year, days_in, year_carried, last_day_in, on_format, carries_leap, second_carried, OnFormat}
 use Rattle.timecode.specs.Layout.{Run, Field, seconds, minutes, hours, days, tenths, hundredths_digit, has_seconds, straight_seconds, control, years, time_fields, fields, flatten, runs, numbers, all_digits, in_run, filler, encode, digit_in, number_in}
 use Rattle.timecode.specs.declared.Format.{Format}
 use Rattle.timecode.specs.declared.Reading.{Reading}
-use Rattle.timecode.specs.declared.Reading.TheVariants.{Accepted}
 use Rattle.timecode.specs.declared.Refusal.TheVariants.{UnknownFormat, InvalidTime, WrongLength, UnknownSymbol, MisplacedMark, InvalidElement, InvalidDigit, SecondsDiffer, ControlTooLong, InvalidYearLength, SecondNotCarried, InvalidKind, InvalidYear}
-use Rattle.timecode.specs.declared.Stepped.{Stepped}
-use Rattle.timecode.specs.declared.Stepped.TheVariants.{To}
 use Rattle.timecode.specs.declared.Time.{Time}
-use Rattle.timecode.specs.declared.Written.{Written}
-use Rattle.timecode.specs.declared.Written.TheVariants.{Done}
 
 -- ---- times
 
@@ -114,24 +110,24 @@ step_checks f t length kind =
     ∷ (InvalidKind, on_day f t kind)  -- 15
     ∷ [])
 
-abbrev pub check_step : Format → Time → ℕ → ℕ → Stepped → Stepped
-check_step f t length kind answer = checks Stepped.Refused (step_checks f t length kind) answer
+abbrev pub check_step : Format → Time → ℕ → ℕ → Result Time Refusal → Result Time Refusal
+check_step f t length kind answer = checks Err (step_checks f t length kind) answer
 
 -- Step in a year of that length
-abbrev pub step_by : Format → Time → ℕ → ℕ → Stepped
-step_by f t length kind = check_step f t length kind (To (following f t length kind))
+abbrev pub step_by : Format → Time → ℕ → ℕ → Result Time Refusal
+step_by f t length kind = check_step f t length kind (Ok (following f t length kind))
 
 -- The length is that of the time's year.
-unfoldable pub step_of : Format → Time → ℕ → ℕ → Stepped
+unfoldable pub step_of : Format → Time → ℕ → ℕ → Result Time Refusal
 step_of f t given kind = step_by f t (length_in f t.year given) kind
 
 -- u is the step of t for a year length and a kind that Step takes
 abbrev pub Follows : Format → Time → Time → Type 0
-Follows f t u = (length : ℕ) × (kind : ℕ) × (step_of f t length kind ≡ To u)
+Follows f t u = (length : ℕ) × (kind : ℕ) × (step_of f t length kind ≡ Ok u)
 
-abbrev pub steps_to : Stepped → Time → Bool
-steps_to (To v) u = same_time v u
-steps_to (Stepped.Refused r) u = false
+abbrev pub steps_to : Result Time Refusal → Time → Bool
+steps_to (Ok v) u = same_time v u
+steps_to (Err r) u = false
 
 abbrev pub any : (ℕ → Bool) → List ℕ → Bool
 any p [] = false
@@ -184,15 +180,15 @@ unfoldable pub preceding : Format → Time → ℕ → ℕ → Time
 preceding f t length kind = cond (eqb t.hundredths 0) (last_before f t length kind) (same_day_before f t)
 
 -- The length and the kind are those of the time before; the checks are Step's.
-abbrev pub step_back_by : Format → Time → ℕ → ℕ → Stepped
-step_back_by f t length kind = check_step f t length kind (To (preceding f t length kind))
+abbrev pub step_back_by : Format → Time → ℕ → ℕ → Result Time Refusal
+step_back_by f t length kind = check_step f t length kind (Ok (preceding f t length kind))
 
-unfoldable pub step_back_of : Format → Time → ℕ → ℕ → Stepped
+unfoldable pub step_back_of : Format → Time → ℕ → ℕ → Result Time Refusal
 step_back_of f t given kind = step_back_by f t (length_in f (year_of_time_before f t) given) kind
 
 -- t is the step back of u for a year length and a kind that it takes
 abbrev pub Precedes : Format → Time → Time → Type 0
-Precedes f t u = (length : ℕ) × (kind : ℕ) × (step_back_of f u length kind ≡ To t)
+Precedes f t u = (length : ℕ) × (kind : ℕ) × (step_back_of f u length kind ≡ Ok t)
 
 -- ---- Write
 
@@ -223,13 +219,13 @@ write_checks f t w lent =
     ∷ (WrongLength, eqb (length lent) (size f))  -- 3
     ∷ [])
 
-unfoldable pub write_of : Format → Time → ℕ → List ℕ → Written
-write_of f t w lent = checks Written.Refused (write_checks f t w lent) Done
+unfoldable pub write_of : Format → Time → ℕ → List ℕ → Result Unit Refusal
+write_of f t w lent = checks Err (write_checks f t w lent) done
 
 -- lent memory after a call: new contents where it was done, and the old where it was refused
-abbrev pub left : {Any : Type 0} → Written → List Any → List Any → List Any
-left Done new old = new
-left (Written.Refused r) new old = old
+abbrev pub left : {Any : Type 0} → Result Unit Refusal → List Any → List Any → List Any
+left (Ok u) new old = new
+left (Err r) new old = old
 
 -- the lent frame after Write: every byte is set, or none
 unfoldable pub write_leaves : Format → Time → ℕ → List ℕ → List ℕ
@@ -265,11 +261,11 @@ unfoldable pub element_fits : (ℕ → ℕ) → List Run → ℕ → ℕ → Boo
 element_fits fillers rs i s = cond (covered rs i) (ltb s 2) (eqb s (fillers i))
 
 -- The lowest index that offends, counted from i on, decides.
-unfoldable pub check_elements : (ℕ → ℕ) → List Run → ℕ → List ℕ → Reading → Reading
+unfoldable pub check_elements : (ℕ → ℕ) → List Run → ℕ → List ℕ → Result Reading Refusal → Result Reading Refusal
 check_elements fillers rs i [] answer = answer
 check_elements fillers rs i (s ∷ ss) answer =
-    check Reading.Refused (MisplacedMark i) (marks_agree fillers rs i s)  -- 5
-    (check Reading.Refused (InvalidElement i) (element_fits fillers rs i s)  -- 6
+    check Err (MisplacedMark i) (marks_agree fillers rs i s)  -- 5
+    (check Err (InvalidElement i) (element_fits fillers rs i s)  -- 6
     (check_elements fillers rs (suc i) ss answer))
 
 -- every digit is at most 9
@@ -321,12 +317,12 @@ digit_checks f frame =
     ∷ (SecondsDiffer, seconds_agree f frame)  -- 8
     ∷ []
 
-unfoldable pub read_of : Format → List ℕ → Reading
+unfoldable pub read_of : Format → List ℕ → Result Reading Refusal
 read_of f frame =
-    checks Reading.Refused (frame_checks f frame)
+    checks Err (frame_checks f frame)
     (check_elements (filler f) (runs f) 0 frame
-    (checks Reading.Refused (digit_checks f frame)
-    (Accepted (time_in f frame) (number_in frame (control f)))))
+    (checks Err (digit_checks f frame)
+    (accepted (time_in f frame) (number_in frame (control f)))))
 
 -- ---- Generator
 
@@ -341,7 +337,7 @@ no_frame = record { time = no_time; control = 0 }
 
 -- Its first time and all its control words are any that Write takes. Each time is the step of the last for a year length and a kind that Step takes, chosen anew at each step.
 pub record Generator (f : Format) (sent : List Sent) : Type 0 where
-  pub takes : (j : ℕ) → j < length sent → (lent : List ℕ) → length lent ≡ size f → write_of f (get_or sent 0 no_frame).time (get_or sent j no_frame).control lent ≡ Done
+  pub takes : (j : ℕ) → j < length sent → (lent : List ℕ) → length lent ≡ size f → write_of f (get_or sent 0 no_frame).time (get_or sent j no_frame).control lent ≡ done
   pub steps : (j : ℕ) → suc j < length sent → Follows f (get_or sent j no_frame).time (get_or sent (suc j) no_frame).time
 
 -- Its elements are the bytes of its frames, one after another.

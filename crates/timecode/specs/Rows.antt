@@ -1,6 +1,7 @@
 -- Document 01's starred rows, and rows for what no theorem fixes: the table, the places, the ends of ranges, the numbers and their order. What each call says; one theorem holds of all.
-use Rattle.std.specs.Prelude.{cond, List, [], ◌∷◌, ◌++◌, map, ℕ, zero, suc, eqb, ℤ, pos, negsuc, length, drop, set, replicate}
-use Rattle.timecode.specs.Answers.{Result, refusal_result, written_result, reading_result, stepped_result, subtracted_result, classified_result, scanned_result, answer_result}
+use Rattle.timecode.specs.declared.Refusal.{Refusal}
+use Rattle.std.specs.Prelude.{cond, List, [], ◌∷◌, ◌++◌, map, ℕ, zero, suc, eqb, ℤ, pos, negsuc, length, drop, set, replicate, Result, Ok, Err}
+use Rattle.timecode.specs.Answers.{Outcome, refusal_result, written_result, reading_result, stepped_result, subtracted_result, classified_result, scanned_result, answer_result}
 use Rattle.timecode.specs.Calls.{five_percent, classify_of, classify_list_of, symbols_left, deviations_left, difference_of, scan_of}
 use Rattle.timecode.specs.Editions.{forward_of, forward_leaves, backward_of, backward_leaves}
 use Rattle.timecode.specs.Formats.{A, B, D, E, G, H, X, size}
@@ -9,8 +10,6 @@ use Rattle.timecode.specs.Stream.{two_frames, plain_answer}
 use Rattle.timecode.specs.declared.Format.{Format}
 use Rattle.timecode.specs.declared.Time.{Time}
 use Rattle.timecode.specs.declared.WidthSettings.{WidthSettings}
-use Rattle.timecode.specs.declared.Written.{Written}
-use Rattle.timecode.specs.declared.Written.TheVariants.{Done}
 
 -- a call: Step; the step back; Write into a frame of n zeros (or of k), by its answer, by the bytes that it leaves, or by the indices from k on where it leaves a one; the formats that Write takes; Read; the answer to the last of a list of symbols; Difference; the classifier; the classifier over lists into so many zeros and so many deviations of 0, by its answer, or by the symbols and then the deviations that it leaves; Scan; the converters into k zeros, by the bytes that they leave
 pub data Call : Type 0 where
@@ -55,11 +54,11 @@ formats_from letter zero = []
 formats_from letter (suc k) = expressions_from letter 9 0 ++ formats_from (suc letter) k
 
 -- the bytes that a call leaves, or its refusal
-abbrev left_result : Written → List ℕ → Result
-left_result Done bytes = record { number = 0; values = map pos bytes }
-left_result (Written.Refused r) bytes = refusal_result r
+abbrev left_result : Result Unit Refusal → List ℕ → Outcome
+left_result (Ok u) bytes = record { number = 0; values = map pos bytes }
+left_result (Err r) bytes = refusal_result r
 
-abbrev pub result_of : Call → Result
+abbrev pub result_of : Call → Outcome
 result_of (step f t year kind) = stepped_result (step_of f t year kind)
 result_of (back f t year kind) = stepped_result (step_back_of f t year kind)
 result_of (write f t w) = written_result (write_of f t w (lent f))
@@ -79,7 +78,7 @@ result_of (backward k f bytes) = left_result (backward_of f bytes (replicate k 0
 
 pub record Line : Type 0 where
   pub call : Call
-  pub result : Result
+  pub result : Outcome
 
 -- the call gives numbers, or is refused with one
 abbrev ◌gives◌ : Call → List ℤ → Line

@@ -1,12 +1,13 @@
 -- Document 01, "Stream reader", with document 02's setting k: the plain machine, fed one symbol and a list of them.
-use Rattle.std.specs.Prelude.{◌≡◌, Bool, true, false, cond, ◌&&◌, List, [], ◌∷◌, ◌++◌, ℕ, zero, suc, ◌+◌, ◌*◌, ◌-◌, ◌<◌, ◌≤◌, leb, ltb, eqb, get_or, length, take, drop, replicate}
+use Rattle.timecode.specs.declared.Refusal.{Refusal}
+use Rattle.timecode.specs.Answers.{accepted}
+use Rattle.std.specs.Prelude.{◌≡◌, Bool, true, false, cond, ◌&&◌, List, [], ◌∷◌, ◌++◌, ℕ, zero, suc, ◌+◌, ◌*◌, ◌-◌, ◌<◌, ◌≤◌, leb, ltb, eqb, get_or, length, take, drop, replicate, Result, Ok, Err}
 use Rattle.timecode.specs.Formats.{member, is_symbol, is_x, size}
 use Rattle.timecode.specs.Frames.{next_after, read_of}
 use Rattle.timecode.specs.declared.Answer.{Answer}
 use Rattle.timecode.specs.declared.Answer.TheVariants.{Quiet, Report}
 use Rattle.timecode.specs.declared.Format.{Format}
 use Rattle.timecode.specs.declared.Reading.{Reading}
-use Rattle.timecode.specs.declared.Reading.TheVariants.{Accepted}
 use Rattle.timecode.specs.declared.Refusal.TheVariants.{UnknownSymbol}
 use Rattle.timecode.specs.declared.Time.{Time}
 
@@ -36,14 +37,14 @@ unfoldable pub frame_in : Format → List ℕ → ℕ → List ℕ
 frame_in f window j = take (size f) (drop (lead f + size f * j) window)
 
 -- The first frame of a row: where it is accepted, the answer carries what Read gives for it.
-abbrev pub first_in_row : Reading → Answer
-first_in_row (Accepted t w) = Report t w
-first_in_row (Reading.Refused r) = Quiet
+abbrev pub first_in_row : Result Reading Refusal → Answer
+first_in_row (Ok read) = Report read.time read.control
+first_in_row (Err r) = Quiet
 
 -- One frame more: where it is accepted, its time next after the one before, the answer carries what Read gives for it.
-unfoldable pub next_in_row : Format → Answer → Reading → Answer
-next_in_row f (Report t v) (Accepted u w) = cond (next_after f t u) (Report u w) Quiet
-next_in_row f (Report t v) (Reading.Refused r) = Quiet
+unfoldable pub next_in_row : Format → Answer → Result Reading Refusal → Answer
+next_in_row f (Report t v) (Ok read) = cond (next_after f t read.time) (Report read.time read.control) Quiet
+next_in_row f (Report t v) (Err r) = Quiet
 next_in_row f Quiet reading = Quiet
 next_in_row f (Answer.Refused r) reading = Quiet
 
@@ -59,10 +60,10 @@ window_answer f k window = cond (opens f window) (in_row f window k) Quiet
 
 -- Document 01's two frames: Report if both are accepted and the second's time is next after the first's; it carries what Read gives for the second.
 -- It is the row of two (Laws.Windows.two-frames).
-unfoldable pub confirm : Format → Reading → Reading → Answer
-confirm f (Accepted s v) (Accepted t w) = cond (next_after f s t) (Report t w) Quiet
-confirm f (Accepted s v) (Reading.Refused r) = Quiet
-confirm f (Reading.Refused r) second = Quiet
+unfoldable pub confirm : Format → Result Reading Refusal → Result Reading Refusal → Answer
+confirm f (Ok read) (Ok second) = cond (next_after f read.time second.time) (Report second.time second.control) Quiet
+confirm f (Ok read) (Err r) = Quiet
+confirm f (Err r) second = Quiet
 
 -- the last n of a list
 unfoldable pub last_of : ℕ → List ℕ → List ℕ
@@ -127,7 +128,7 @@ pub record EndsInFrames (f : Format) (k : ℕ) (received : List ℕ) (t : Time) 
   pub times : ℕ → Time
   pub controls : ℕ → ℕ
   pub received_is : received ≡ before ++ (replicate (lead f) 2 ++ joined frames k)
-  pub accepted : (j : ℕ) → j < k → read_of f (frames j) ≡ Accepted (times j) (controls j)
+  pub accepted : (j : ℕ) → j < k → read_of f (frames j) ≡ accepted (times j) (controls j)
   pub next : (j : ℕ) → suc j < k → next_after f (times j) (times (suc j)) ≡ true
   pub last_time : (j : ℕ) → suc j ≡ k → times j ≡ t
   pub last_control : (j : ℕ) → suc j ≡ k → controls j ≡ w

@@ -4,7 +4,7 @@
 
 // A rate letter, in capital ASCII, and a coded expression.
 #[repr(C)]
-#[derive(Clone, Copy)]
+#[derive(Clone, Copy, PartialEq, Eq)]
 pub struct Format {
     pub letter: u8,
     pub expression: u8,
@@ -21,7 +21,7 @@ pub const SPOILED: u8 = 3;
 
 // The year, 0 to 99 for 2000 to 2099 and 0 in a format without one; the day of the year; and document 01's c: hundredths of a second since midnight.
 #[repr(C)]
-#[derive(Clone, Copy)]
+#[derive(Clone, Copy, PartialEq, Eq, Default)]
 pub struct Time {
     pub year: u8,
     pub day: u16,
@@ -53,7 +53,7 @@ impl Time {
 
 // How far the widths of zeros, ones and marks may lie from their centres, in percent of the nominal interval.
 #[repr(C)]
-#[derive(Clone, Copy)]
+#[derive(Clone, Copy, PartialEq, Eq)]
 pub struct WidthSettings {
     pub zeros: u8,
     pub ones: u8,
@@ -67,7 +67,7 @@ impl WidthSettings {
 }
 
 // A class of widths: its symbol, and in percent of the nominal interval its centre and the setting, how far from the centre it reaches.
-#[derive(Clone, Copy)]
+#[derive(Clone, Copy, PartialEq, Eq)]
 pub struct WidthClass {
     pub symbol: u8,
     pub centre: u8,
@@ -75,14 +75,14 @@ pub struct WidthClass {
 }
 
 // A pulse: its symbol, and 100 times its width less its class's centre times the interval; 0 for a spoiled element.
-#[derive(Clone, Copy)]
+#[derive(Clone, Copy, PartialEq, Eq)]
 pub struct Pulse {
     pub symbol: u8,
     pub deviation: i32,
 }
 
 // Document 01's thirteen numbers and document 02's from 14 on, in their order. With 5 and 6 goes the index of the element, with 25 that of the cycle.
-#[derive(Clone, Copy)]
+#[derive(Clone, Copy, PartialEq, Eq)]
 pub enum Refusal {
     UnknownFormat,
     InvalidTime,
@@ -113,55 +113,22 @@ pub enum Refusal {
     InvalidListener,
 }
 
-// Write, the converters, and the classifier over lists: whether the lent memory was written.
-#[derive(Clone, Copy)]
-pub enum Written {
-    Done,
-    Refused(Refusal),
+// What a frame says: its time and its control word. Read gives it.
+#[derive(Clone, Copy, PartialEq, Eq)]
+pub struct Reading {
+    pub time: Time,
+    pub control: u64,
 }
 
-// Read: the time and the control word.
-#[derive(Clone, Copy)]
-pub enum Reading {
-    Accepted { time: Time, control: u64 },
-    Refused(Refusal),
+// Where a frame begins in a recording, and what it says. Scan gives it.
+#[derive(Clone, Copy, PartialEq, Eq)]
+pub struct Found {
+    pub start: usize,
+    pub reading: Reading,
 }
 
-// Step and step back: the next time, or the time before.
-#[derive(Clone, Copy)]
-pub enum Stepped {
-    To(Time),
-    Refused(Refusal),
-}
-
-// Difference: signed hundredths.
-#[derive(Clone, Copy)]
-pub enum Subtracted {
-    Hundredths(i64),
-    Refused(Refusal),
-}
-
-// The classifier, for one pulse: its symbol and its deviation.
-#[derive(Clone, Copy)]
-pub enum Classified {
-    Symbol { symbol: u8, deviation: i32 },
-    Refused(Refusal),
-}
-
-// Scan: where the frame begins, its time and its control word.
-#[derive(Clone, Copy)]
-pub enum Scanned {
-    Found {
-        start: usize,
-        time: Time,
-        control: u64,
-    },
-    None,
-    Refused(Refusal),
-}
-
-// Feed: what one symbol brought.
-#[derive(Clone, Copy)]
+// Feed: what one symbol brought. Document 01 asks for this enum, with the time in its report and the refusal in its last case.
+#[derive(Clone, Copy, PartialEq, Eq)]
 pub enum Answer {
     Quiet,
     Report { time: Time, control: u64 },

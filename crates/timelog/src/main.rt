@@ -5,84 +5,48 @@
 mod making;
 mod printing;
 
-use arguments::{Number, decimal_in};
-use making::Year;
-use program_io::{argument, argument_count, tell};
+use arguments::decimal_in;
+use making::Making;
+use printing::Printing;
+use program_io::{argument_as, argument_count, tell};
 use version::print_version;
 
+// A log printed, or one made: of reports with their own years, or all with a given year.
 #[derive(Clone, Copy)]
 enum Asked {
     Print,
-    Make(Year),
-    Malformed,
+    Make(Option<u8>),
 }
 
-fn is_make(text: &[u8]) -> bool {
-    if text.len() != 4 {
-        return false;
-    }
-    text[0] == b'm' && text[1] == b'a' && text[2] == b'k' && text[3] == b'e'
-}
-
-fn make_argument(rt: &HostRuntime) -> bool {
-    let mut text = [0u8; 4096];
-    match argument(rt, 1, &mut text) {
-        Some(bytes) => is_make(bytes),
-        None => false,
-    }
+// Whether the first argument is the word.
+fn is_make(rt: &HostRuntime) -> bool {
+    argument_as(rt, 1, |word| Some(word == b"make".as_slice())).unwrap_or(false)
 }
 
 // A number past the end of its type becomes the type's last, which is no year either.
-fn given_year(number: Number) -> Asked {
-    match number {
-        Number::Value(year) => {
-            if year <= 255 {
-                return Asked::Make(Year::Given((year % 256) as u8));
-            }
-            Asked::Make(Year::Given(255))
-        }
-        Number::Malformed => Asked::Malformed,
-    }
+fn year_argument(rt: &HostRuntime) -> Option<u8> {
+    argument_as(rt, 2, decimal_in).map(|year| u8::try_from(year).unwrap_or(u8::MAX))
 }
 
-fn year_argument(rt: &HostRuntime) -> Asked {
-    let mut text = [0u8; 4096];
-    match argument(rt, 2, &mut text) {
-        Some(bytes) => given_year(decimal_in(bytes)),
-        None => Asked::Malformed,
+fn asked_for(rt: &HostRuntime) -> Option<Asked> {
+    match argument_count(rt) {
+        0 | 1 => Some(Asked::Print),
+        2 if is_make(rt) => Some(Asked::Make(None)),
+        3 if is_make(rt) => Some(Asked::Make(Some(year_argument(rt)?))),
+        _ => None,
     }
-}
-
-fn asked_for(rt: &HostRuntime) -> Asked {
-    let count = argument_count(rt);
-    if count < 2 {
-        return Asked::Print;
-    }
-    if 3 < count {
-        return Asked::Malformed;
-    }
-    if !make_argument(rt) {
-        return Asked::Malformed;
-    }
-    if count == 2 {
-        return Asked::Make(Year::First);
-    }
-    year_argument(rt)
 }
 
 fn main(rt: HostRuntime) {
     if print_version(&rt, b"timelog") {
         return;
     }
-    let asked = asked_for(&rt);
-    match asked {
-        Asked::Print => printing::print_log(&rt),
-        Asked::Make(year) => making::make_log(&rt, year),
-        Asked::Malformed => {
-            tell(
-                &rt,
-                b"usage: timelog < LOG, or timelog make [YEAR] < LINES > LOG\n",
-            );
-        }
+    match asked_for(&rt) {
+        Some(Asked::Print) => Printing::new(&rt).print(),
+        Some(Asked::Make(year)) => Making::new(&rt, year).make(),
+        None => tell(
+            &rt,
+            b"usage: timelog < LOG, or timelog make [YEAR] < LINES > LOG\n",
+        ),
     }
 }

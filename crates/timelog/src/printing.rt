@@ -1,257 +1,167 @@
 // The log on standard input printed: its bytes are held in a buffer and read on whenever the next record may not be whole.
+// A method gives nothing where no more is to be printed.
+ghost use Rattle.std.specs.Prelude.{◌≤◌};
+
+use arrayvec::ArrayVec;
 use log_lines::{log_line, no_report};
 use log_read::read_report;
-use output::write_first;
-use program_io::{print, print_number, read};
+use program_io::{print, print_number, read_bytes, write};
 use refusals::number_of;
-use report_log::{LogReading, Report};
-use std::num::{wrapping_add_u64, wrapping_add_usize};
+use report_log::{Record, Report};
+use std::num::wrapping_add_u64;
 use timecode::Refusal;
 
 // No record is longer.
 const LONGEST_RECORD: usize = 13;
-// A line fits while no more than this is filled.
-const LAST_WITH_ROOM: usize = 65_472;
+// No line is longer.
+const LONGEST_LINE: usize = 64;
 
-// How many bytes of the log stood before those that are held, how many are held, and the place among them; how much of
-// the output is filled; the last report and how many there were; and whether there is more to do.
-#[derive(Clone, Copy)]
-struct Listing {
-    gone: u64,
+// The bytes of the log that are held, how many they are, the place among them, and how many stood before them; the lines
+// that are not yet written; and the last report and how many there were.
+#[derive(Drop)]
+pub struct Printing<'a> {
+    rt: &'a HostRuntime,
+    log: [u8; 65536],
     held: usize,
     place: usize,
-    filled: usize,
+    gone: u64,
+    out: ArrayVec<u8, 65536>,
     last: Report,
     reports: u64,
-    more: bool,
+    ghost within: { (place ≤ held) × (held ≤ 65536) },
 }
 
-fn put(out: &mut [u8; 65536], at: usize, byte: u8) -> usize {
-    if at < 65_536 {
-        out[at] = byte;
-        return at + 1;
-    }
-    at
-}
-
-fn put_line(out: &mut [u8; 65536], at: usize, line: &[u8; 64], length: usize) -> usize {
-    let mut at = at;
-    let mut i = 0;
-    while i < 64 {
-        if i < length {
-            at = put(out, at, line[i]);
+impl<'a> Printing<'a> {
+    pub fn new(rt: &'a HostRuntime) -> Self {
+        Printing {
+            rt,
+            log: [0; 65536],
+            held: 0,
+            place: 0,
+            gone: 0,
+            out: ArrayVec::new(),
+            last: no_report(),
+            reports: 0,
         }
-        i += 1;
     }
-    at
-}
 
-fn put_report(out: &mut [u8; 65536], at: usize, report: Report) -> usize {
-    let mut line = [0u8; 64];
-    let length = log_line(&mut line, report);
-    put_line(out, at, &line, length)
-}
-
-fn place_in_log(listing: Listing) -> u64 {
-    wrapping_add_u64(listing.gone, listing.place as u64)
-}
-
-// Writes what is filled; nothing more is done where that fails.
-fn write_filled(rt: &HostRuntime, out: &mut [u8; 65536], listing: Listing) -> Listing {
-    let mut written = listing;
-    written.more = write_first(rt, out, listing.filled);
-    written.filled = 0;
-    written
-}
-
-fn with_room(rt: &HostRuntime, out: &mut [u8; 65536], listing: Listing) -> Listing {
-    if listing.filled <= LAST_WITH_ROOM {
-        return listing;
+    fn place_in_log(&self) -> u64 {
+        wrapping_add_u64(self.gone, self.place as u64)
     }
-    write_filled(rt, out, listing)
-}
 
-// The last line where the log breaks off: the number of the refusal, and the place of the record that has it.
-fn print_refusal(
-    rt: &HostRuntime,
-    out: &mut [u8; 65536],
-    listing: Listing,
-    refusal: Refusal,
-) -> Listing {
-    let mut last = write_filled(rt, out, listing);
-    if last.more {
-        print(rt, b"refused ");
-        print_number(rt, number_of(refusal) as u64);
-        print(rt, b" at ");
-        print_number(rt, place_in_log(last));
-        print(rt, b"\n");
+    // Writes the lines that are not yet written; nothing more is done where that fails.
+    fn write_lines(&mut self) -> Option<()> {
+        let written = write(self.rt, self.out.as_slice());
+        self.out.clear();
+        written.then_some(())
     }
-    last.more = false;
-    last
-}
 
-// The last line of a whole log: its bytes and its reports.
-fn print_counts(rt: &HostRuntime, out: &mut [u8; 65536], listing: Listing) -> Listing {
-    let mut last = write_filled(rt, out, listing);
-    if last.more {
-        print(rt, b"bytes ");
-        print_number(rt, place_in_log(last));
-        print(rt, b" reports ");
-        print_number(rt, last.reports);
-        print(rt, b"\n");
-    }
-    last.more = false;
-    last
-}
-
-fn list_record(rt: &HostRuntime, log: &[u8], out: &mut [u8; 65536], listing: Listing) -> Listing {
-    if !listing.more {
-        return listing;
-    }
-    let reading = read_report(log, listing.place, listing.last);
-    match reading {
-        LogReading::Record { report, next } => {
-            let mut after = listing;
-            after.filled = put_report(out, listing.filled, report);
-            after.place = next;
-            after.last = report;
-            after.reports = wrapping_add_u64(listing.reports, 1);
-            after
+    fn put_report(&mut self, report: Report) -> Option<()> {
+        if self.out.remaining_capacity() < LONGEST_LINE {
+            self.write_lines()?;
         }
-        LogReading::None => listing,
-        LogReading::Refused(refusal) => print_refusal(rt, out, listing, refusal),
+        let mut line = [0; LONGEST_LINE];
+        let length = log_line(&mut line, report);
+        self.out.try_extend_from_slice(&line[..length]).ok()
     }
-}
 
-// The next record is held whole, or what is held of it is all that there is.
-fn is_readable(listing: Listing, held: usize, ending: bool) -> bool {
-    if held <= listing.place {
-        return false;
-    }
-    if ending {
-        return true;
-    }
-    LONGEST_RECORD <= held - listing.place
-}
-
-// A record has at least a byte, so that there are no more turns than bytes.
-fn list_records(
-    rt: &HostRuntime,
-    log: &[u8],
-    ending: bool,
-    out: &mut [u8; 65536],
-    listing: Listing,
-) -> Listing {
-    let mut current = listing;
-    let mut left = log.len();
-    while 0 < left && current.more {
-        if !is_readable(current, log.len(), ending) {
-            return current;
+    // The last line: two words, with a number behind each.
+    fn print_last(&mut self, word: &[u8], number: u64, second_word: &[u8], second_number: u64) {
+        if self.write_lines().is_some() {
+            print(self.rt, word);
+            print_number(self.rt, number);
+            print(self.rt, second_word);
+            print_number(self.rt, second_number);
+            print(self.rt, b"\n");
         }
-        current = with_room(rt, out, current);
-        current = list_record(rt, log, out, current);
-        left -= 1;
     }
-    current
-}
 
-fn list_part(
-    rt: &HostRuntime,
-    log: &[u8],
-    ending: bool,
-    out: &mut [u8; 65536],
-    listing: Listing,
-) -> Listing {
-    let held = listing.held;
-    if held < log.len() {
-        return list_records(rt, &log[0..held], ending, out, listing);
+    // Where the log breaks off: the number of the refusal, and the place of the record that has it.
+    fn print_refusal(&mut self, refusal: Refusal) {
+        let place = self.place_in_log();
+        self.print_last(b"refused ", number_of(refusal) as u64, b" at ", place);
     }
-    list_records(rt, log, ending, out, listing)
-}
 
-// The array keeps its length where a caller changed it, so that the caller proves nothing.
-fn list_held(
-    rt: &HostRuntime,
-    log: &[u8; 65536],
-    ending: bool,
-    out: &mut [u8; 65536],
-    listing: Listing,
-) -> Listing {
-    list_part(rt, log, ending, out, listing)
-}
+    // Of a whole log: its bytes and its reports.
+    fn print_counts(&mut self) {
+        let place = self.place_in_log();
+        let reports = self.reports;
+        self.print_last(b"bytes ", place, b" reports ", reports);
+    }
 
-// Moves the bytes from the place on to the start; how many they are.
-fn move_rest(log: &mut [u8; 65536], place: usize, held: usize) -> usize {
-    let mut n = 0;
-    let mut i = place;
-    while i < held {
-        if i < 65_536 {
-            let byte = log[i];
-            n = put(log, n, byte);
+    fn list_record(&mut self) -> Option<()> {
+        let reading = read_report(&self.log[..self.held], self.place, self.last);
+        match reading {
+            Ok(Some(Record { report, next })) => {
+                self.put_report(report)?;
+                // A record ends within the bytes that are held.
+                self.place = next.min(self.held);
+                self.last = report;
+                self.reports = wrapping_add_u64(self.reports, 1);
+                Some(())
+            }
+            Ok(None) => Some(()),
+            Err(refusal) => {
+                self.print_refusal(refusal);
+                None
+            }
         }
-        i += 1;
     }
-    n
-}
 
-fn read_behind(rt: &HostRuntime, log: &mut [u8], held: usize) -> isize {
-    if held < log.len() {
-        return read(rt, &mut rt.stdin(), &mut log[held..]);
+    // The next record is held whole, or what is held of it is all that there is.
+    fn is_readable(&self, ending: bool) -> bool {
+        let rest = self.held - self.place;
+        LONGEST_RECORD <= rest || ending && 0 < rest
     }
-    0
-}
 
-fn read_more(rt: &HostRuntime, log: &mut [u8; 65536], held: usize) -> isize {
-    read_behind(rt, log, held)
-}
+    // A record has at least a byte, so that there are no more turns than bytes.
+    fn list_held(&mut self, ending: bool) -> Option<()> {
+        for _ in 0..self.held {
+            if !self.is_readable(ending) {
+                break;
+            }
+            self.list_record()?;
+        }
+        Some(())
+    }
 
-// Lists what one read brought.
-fn print_read(
-    rt: &HostRuntime,
-    log: &mut [u8; 65536],
-    out: &mut [u8; 65536],
-    listing: Listing,
-) -> Listing {
-    let got = read_more(rt, log, listing.held);
-    if got < 0 {
-        let mut last = write_filled(rt, out, listing);
-        last.more = false;
-        return last;
+    // Moves the bytes from the place on to the start.
+    fn move_rest(&mut self) {
+        self.gone = self.place_in_log();
+        let place = self.place;
+        let rest = self.held - place;
+        for i in 0..rest {
+            self.log[i] = self.log[place + i];
+        }
+        self.held = rest;
+        self.place = 0;
     }
-    let mut current = listing;
-    current.held = wrapping_add_usize(listing.held, io::count(got, log));
-    let mut listed = list_held(rt, log, got == 0, out, current);
-    if !listed.more {
-        return listed;
-    }
-    if got == 0 {
-        return print_counts(rt, out, listed);
-    }
-    let gone = place_in_log(listed);
-    let held = move_rest(log, listed.place, listed.held);
-    listed.gone = gone;
-    listed.held = held;
-    listed.place = 0;
-    listed
-}
 
-// A proved loop has to end: the reads are counted down from a number that no run uses up.
-pub fn print_log(rt: &HostRuntime) {
-    let mut log = [0u8; 65536];
-    let mut out = [0u8; 65536];
-    let last = no_report();
-    let mut listing = Listing {
-        gone: 0,
-        held: 0,
-        place: 0,
-        filled: 0,
-        last: last,
-        reports: 0,
-        more: true,
-    };
-    let mut left = u64::MAX;
-    while 0 < left && listing.more {
-        listing = print_read(rt, &mut log, &mut out, listing);
-        left -= 1;
+    // Lists what one read brought.
+    fn print_read(&mut self) -> Option<()> {
+        let got = read_bytes(self.rt, &mut self.rt.stdin(), &mut self.log[self.held..]).map(
+            |bytes| bytes.len(),
+        );
+        let Some(count) = got else {
+            self.write_lines();
+            return None;
+        };
+        self.held += count;
+        self.list_held(count == 0)?;
+        if count == 0 {
+            self.print_counts();
+            return None;
+        }
+        self.move_rest();
+        Some(())
+    }
+
+    pub fn print(mut self) {
+        // A proved loop has to end: the reads are counted up to a number that no run reaches.
+        for _ in 0..u64::MAX {
+            if self.print_read().is_none() {
+                break;
+            }
+        }
     }
 }

@@ -4,21 +4,21 @@
 // marks in percent of it. With the word `deviations` last it prints a line for each pulse in place of the recording.
 #![tactic(auto)]
 
-use arguments::Number;
-use command_line::{Named, format_argument, limited_8, limited_32, number_argument};
+ghost use Rattle.std.specs.Prelude.{◌≤◌};
+
+use command_line::{format_argument, limited_8, limited_32, number_argument};
 use frametext::{character_of, first_line};
 use layout::{frame_size, is_known};
-use output::{print_refused, write_first};
+use output::print_refused;
 use program_io::{argument, argument_count, read, tell, tell_number};
 use pulse::classify;
 use pulse_lines::{PulseLine, is_heading, pulse_line};
-use std::num::wrapping_add_u64;
-use texts::{put_byte, put_bytes, put_decimal, put_signed};
-use timecode::{Classified, Format, Refusal, WidthSettings};
+use texts::{Output, WriteFailed};
+use timecode::{Format, Pulse, Refusal, WidthSettings};
 use version::print_version;
 
-// A line of output fits while no more than this is filled.
-const LAST_WITH_ROOM: usize = 65_408;
+// No line of output is longer than so many bytes.
+const LONGEST_ROW: usize = 128;
 
 // A line that fills this many bytes is too long for any pulse.
 const LONGEST_LINE: usize = 256;
@@ -31,379 +31,251 @@ struct Request {
     deviations: bool,
 }
 
-#[derive(Clone, Copy)]
-enum Asked {
-    Pulses(Request),
-    Malformed,
+// Why no further line is taken.
+#[derive(Clone, Copy, Debug, PartialEq, Eq)]
+enum Stop {
+    Ended,
+    Refused,
+    Failed,
 }
 
-#[derive(Clone, Copy)]
-enum Settings {
-    Given(WidthSettings),
-    Malformed,
-}
-
-// How much of the line under way is held, how many lines there were, how much of the output is filled, how many elements stand in
-// its last row, and whether there is more to do.
-#[derive(Clone, Copy)]
-struct Progress {
-    used: usize,
-    lines: u64,
-    filled: usize,
-    column: usize,
-    more: bool,
+impl From<WriteFailed> for Stop {
+    fn from(_failed: WriteFailed) -> Stop {
+        Stop::Failed
+    }
 }
 
 // ---- the arguments
 
-fn is_word(text: &[u8], word: &[u8]) -> bool {
-    if text.len() != word.len() {
-        return false;
-    }
-    let mut i = 0;
-    while i < word.len() {
-        if text.len() <= i {
-            return false;
-        }
-        if text[i] != word[i] {
-            return false;
-        }
-        i += 1;
-    }
-    true
-}
-
 fn deviations_argument(rt: &HostRuntime, i: usize) -> bool {
     let mut text = [0u8; 4096];
     match argument(rt, i, &mut text) {
-        Some(bytes) => is_word(bytes, b"deviations"),
+        Some(bytes) => bytes == b"deviations".as_slice(),
         None => false,
     }
 }
 
 // 5, 5 and 5 where none are given.
-fn settings_arguments(rt: &HostRuntime, count: usize) -> Settings {
+fn settings_arguments(rt: &HostRuntime, count: usize) -> Option<WidthSettings> {
     if count < 6 {
-        return Settings::Given(WidthSettings {
+        return Some(WidthSettings {
             zeros: 5,
             ones: 5,
             marks: 5,
         });
     }
-    let Number::Value(zeros) = number_argument(rt, 3) else {
-        return Settings::Malformed;
+    let Some(zeros) = number_argument(rt, 3) else {
+        return None;
     };
-    let Number::Value(ones) = number_argument(rt, 4) else {
-        return Settings::Malformed;
+    let Some(ones) = number_argument(rt, 4) else {
+        return None;
     };
-    let Number::Value(marks) = number_argument(rt, 5) else {
-        return Settings::Malformed;
+    let Some(marks) = number_argument(rt, 5) else {
+        return None;
     };
-    Settings::Given(WidthSettings {
+    Some(WidthSettings {
         zeros: limited_8(zeros),
         ones: limited_8(ones),
         marks: limited_8(marks),
     })
 }
 
-fn request_from(rt: &HostRuntime, count: usize, deviations: bool) -> Asked {
-    let Named::Known(format) = format_argument(rt, 1) else {
-        return Asked::Malformed;
+fn request_from(rt: &HostRuntime, count: usize, deviations: bool) -> Option<Request> {
+    let Some(format) = format_argument(rt, 1) else {
+        return None;
     };
-    let Number::Value(interval) = number_argument(rt, 2) else {
-        return Asked::Malformed;
+    let Some(interval) = number_argument(rt, 2) else {
+        return None;
     };
-    let Settings::Given(settings) = settings_arguments(rt, count) else {
-        return Asked::Malformed;
-    };
-    Asked::Pulses(Request {
-        format: format,
+    let settings = settings_arguments(rt, count)?;
+    Some(Request {
+        format,
         interval: limited_32(interval),
-        settings: settings,
-        deviations: deviations,
+        settings,
+        deviations,
     })
 }
 
-// The last argument is the word.
-fn asked_deviations(rt: &HostRuntime, count: usize, last: usize) -> Asked {
-    if deviations_argument(rt, last) {
-        return request_from(rt, count, true);
-    }
-    Asked::Malformed
-}
-
-fn asked_for(rt: &HostRuntime) -> Asked {
+// None where the arguments are malformed. Where there are 4 or 7, the last one is the word.
+fn asked_for(rt: &HostRuntime) -> Option<Request> {
     let count = argument_count(rt);
-    if count == 4 {
-        return asked_deviations(rt, count, 3);
-    }
-    if count == 7 {
-        return asked_deviations(rt, count, 6);
-    }
-    if count == 3 || count == 6 {
-        return request_from(rt, count, false);
-    }
-    Asked::Malformed
-}
-
-// ---- the output
-
-fn stopped(progress: Progress) -> Progress {
-    let mut last = progress;
-    last.more = false;
-    last
-}
-
-// Writes what is filled; nothing more is done where that fails.
-fn write_filled(rt: &HostRuntime, out: &mut [u8; 65536], progress: Progress) -> Progress {
-    let mut written = progress;
-    written.more = write_first(rt, out, progress.filled);
-    written.filled = 0;
-    written
-}
-
-fn with_room(rt: &HostRuntime, out: &mut [u8; 65536], progress: Progress) -> Progress {
-    if progress.filled <= LAST_WITH_ROOM {
-        return progress;
-    }
-    write_filled(rt, out, progress)
-}
-
-// Ends the row under way and writes what is filled.
-fn write_rest(rt: &HostRuntime, out: &mut [u8; 65536], progress: Progress) -> Progress {
-    let mut last = progress;
-    if 0 < progress.column {
-        last.filled = put_byte(out, progress.filled, b'\n');
-        last.column = 0;
-    }
-    write_filled(rt, out, last)
-}
-
-// As many elements stand in a row as in a frame.
-fn put_symbol(out: &mut [u8; 65536], format: Format, progress: Progress, symbol: u8) -> Progress {
-    let mut next = progress;
-    next.filled = put_byte(out, progress.filled, character_of(symbol));
-    if frame_size(format) <= progress.column {
-        return next;
-    }
-    next.column = progress.column + 1;
-    if next.column == frame_size(format) {
-        next.filled = put_byte(out, next.filled, b'\n');
-        next.column = 0;
-    }
-    next
-}
-
-// Width, period, symbol and deviation.
-fn put_deviation(
-    out: &mut [u8; 65536],
-    progress: Progress,
-    width: u32,
-    period: u32,
-    symbol: u8,
-    deviation: i32,
-) -> Progress {
-    let mut at = put_decimal(out, progress.filled, width as u64);
-    at = put_byte(out, at, b' ');
-    at = put_decimal(out, at, period as u64);
-    at = put_byte(out, at, b' ');
-    at = put_byte(out, at, character_of(symbol));
-    at = put_byte(out, at, b' ');
-    at = put_signed(out, at, deviation);
-    let mut next = progress;
-    next.filled = put_byte(out, at, b'\n');
-    next
-}
-
-fn put_pulse(
-    rt: &HostRuntime,
-    out: &mut [u8; 65536],
-    request: Request,
-    progress: Progress,
-    width: u32,
-    period: u32,
-) -> Progress {
-    let roomy = with_room(rt, out, progress);
-    let classified = classify(request.settings, request.interval, width, period);
-    match classified {
-        Classified::Symbol { symbol, deviation } => {
-            if request.deviations {
-                return put_deviation(out, roomy, width, period, symbol, deviation);
+    match count {
+        3 | 6 => request_from(rt, count, false),
+        4 | 7 => {
+            if deviations_argument(rt, count - 1) {
+                request_from(rt, count, true)
+            } else {
+                None
             }
-            put_symbol(out, request.format, roomy, symbol)
         }
-        Classified::Refused(_) => stopped(roomy),
+        _ => None,
     }
 }
 
-// ---- the lines
-
-// What stands before the line is written, and nothing follows.
-fn refuse_line(rt: &HostRuntime, out: &mut [u8; 65536], progress: Progress) -> Progress {
-    let written = write_rest(rt, out, progress);
-    if written.more {
-        tell(rt, b"refused line ");
-        tell_number(rt, progress.lines);
-        tell(rt, b"\n");
-    }
-    stopped(written)
+// The line under way and how many of its bytes are held.
+#[derive(Drop)]
+struct Line {
+    bytes: [u8; 256],
+    used: usize,
+    ghost within: { used ≤ 256 },
 }
 
-fn take_line(
-    rt: &HostRuntime,
-    line: &[u8],
-    out: &mut [u8; 65536],
+impl Line {
+    // One that is too long stays so.
+    fn push(&mut self, byte: u8) {
+        if self.used < LONGEST_LINE {
+            self.bytes[self.used] = byte;
+            self.used += 1;
+        }
+    }
+
+    fn as_bytes(&self) -> &[u8] {
+        &self.bytes[..self.used]
+    }
+}
+
+// What is asked for, the line under way, how many lines there were before it, what is printed, and how many elements stand in its last row.
+#[derive(Drop)]
+struct Pulses<'a> {
+    rt: &'a HostRuntime,
     request: Request,
-    progress: Progress,
-) -> Progress {
-    let mut counted = progress;
-    counted.used = 0;
-    counted.lines = wrapping_add_u64(progress.lines, 1);
-    if LONGEST_LINE <= line.len() {
-        return refuse_line(rt, out, counted);
+    line: Line,
+    lines: u64,
+    out: Output<'a>,
+    column: usize,
+}
+
+impl<'a> Pulses<'a> {
+    // ---- the output
+
+    // Ends the row under way and writes what is filled.
+    fn write_rest(&mut self) -> Result<(), WriteFailed> {
+        if 0 < self.column {
+            self.out.page.push(b'\n');
+            self.column = 0;
+        }
+        self.out.flush()
     }
-    let read = pulse_line(line);
-    match read {
-        PulseLine::Pulse { width, period } => put_pulse(rt, out, request, counted, width, period),
-        PulseLine::Empty => counted,
-        PulseLine::Other => {
-            if counted.lines == 1 {
-                if is_heading(line) {
-                    return counted;
+
+    // As many elements stand in a row as in a frame.
+    fn put_symbol(&mut self, symbol: u8) {
+        self.out.page.push(character_of(symbol));
+        let n = frame_size(self.request.format);
+        if self.column < n {
+            self.column += 1;
+            if self.column == n {
+                self.out.page.push(b'\n');
+                self.column = 0;
+            }
+        }
+    }
+
+    fn put_pulse(&mut self, width: u32, period: u32) -> Result<(), Stop> {
+        self.out.make_room(LONGEST_ROW)?;
+        let classified = classify(self.request.settings, self.request.interval, width, period);
+        match classified {
+            Ok(Pulse { symbol, deviation }) => {
+                if self.request.deviations {
+                    let character = char::from(character_of(symbol));
+                    self.out
+                        .page
+                        .put(format_args!("{width} {period} {character} {deviation}\n"));
+                } else {
+                    self.put_symbol(symbol);
                 }
+                Ok(())
             }
-            refuse_line(rt, out, counted)
+            Err(_) => Err(Stop::Refused),
         }
     }
-}
 
-fn take_part(
-    rt: &HostRuntime,
-    line: &[u8],
-    out: &mut [u8; 65536],
-    request: Request,
-    progress: Progress,
-) -> Progress {
-    let used = progress.used;
-    if used < line.len() {
-        return take_line(rt, &line[0..used], out, request, progress);
-    }
-    take_line(rt, line, out, request, progress)
-}
+    // ---- the lines
 
-// It takes the array, whose length a caller need not show.
-fn take_open(
-    rt: &HostRuntime,
-    line: &[u8; 256],
-    out: &mut [u8; 65536],
-    request: Request,
-    progress: Progress,
-) -> Progress {
-    take_part(rt, line, out, request, progress)
-}
+    // What stands before the line is written, and nothing follows.
+    fn refuse_line(&mut self) -> Result<(), Stop> {
+        self.write_rest()?;
+        tell(self.rt, b"refused line ");
+        tell_number(self.rt, self.lines);
+        tell(self.rt, b"\n");
+        Err(Stop::Refused)
+    }
 
-// A byte of the line under way; one that is too long stays so.
-fn take_byte(
-    rt: &HostRuntime,
-    byte: u8,
-    line: &mut [u8; 256],
-    out: &mut [u8; 65536],
-    request: Request,
-    progress: Progress,
-) -> Progress {
-    if byte == b'\n' {
-        return take_open(rt, line, out, request, progress);
+    fn take_line(&mut self) -> Result<(), Stop> {
+        self.lines = self.lines.wrapping_add(1);
+        let line = self.line.as_bytes();
+        let heading = self.lines == 1 && is_heading(line);
+        let read = if LONGEST_LINE <= line.len() {
+            None
+        } else {
+            Some(pulse_line(line))
+        };
+        self.line.used = 0;
+        match read {
+            Some(PulseLine::Pulse { width, period }) => self.put_pulse(width, period),
+            Some(PulseLine::Empty) => Ok(()),
+            Some(PulseLine::Other) if heading => Ok(()),
+            _ => self.refuse_line(),
+        }
     }
-    let used = progress.used;
-    if LONGEST_LINE <= used {
-        return progress;
-    }
-    line[used] = byte;
-    let mut next = progress;
-    next.used = used + 1;
-    next
-}
 
-fn take_bytes(
-    rt: &HostRuntime,
-    bytes: &[u8],
-    line: &mut [u8; 256],
-    out: &mut [u8; 65536],
-    request: Request,
-    progress: Progress,
-) -> Progress {
-    let mut current = progress;
-    let mut i = 0;
-    while i < bytes.len() && current.more {
-        current = take_byte(rt, bytes[i], line, out, request, current);
-        i += 1;
+    fn take_byte(&mut self, byte: u8) -> Result<(), Stop> {
+        if byte == b'\n' {
+            self.take_line()
+        } else {
+            self.line.push(byte);
+            Ok(())
+        }
     }
-    current
-}
 
-// At the input's end a last line without a newline counts too.
-fn take_end(
-    rt: &HostRuntime,
-    line: &[u8; 256],
-    out: &mut [u8; 65536],
-    request: Request,
-    progress: Progress,
-) -> Progress {
-    let mut last = progress;
-    if 0 < progress.used {
-        last = take_open(rt, line, out, request, progress);
+    // At the input's end a last line without a newline counts too.
+    fn take_end(&mut self) -> Result<(), Stop> {
+        if 0 < self.line.used {
+            self.take_line()?;
+        }
+        self.write_rest()?;
+        Err(Stop::Ended)
     }
-    if last.more {
-        last = write_rest(rt, out, last);
-    }
-    stopped(last)
-}
 
-// Where a read fails, what came before it is written.
-fn take_read(
-    rt: &HostRuntime,
-    line: &mut [u8; 256],
-    out: &mut [u8; 65536],
-    request: Request,
-    progress: Progress,
-) -> Progress {
-    let mut input = [0u8; 65536];
-    let got = read(rt, &mut rt.stdin(), &mut input);
-    if got < 0 {
-        return stopped(write_rest(rt, out, progress));
+    // Where a read fails, what came before it is written.
+    fn take_read(&mut self) -> Result<(), Stop> {
+        let mut input = [0u8; 65536];
+        let got = read(self.rt, &mut self.rt.stdin(), &mut input);
+        if got < 0 {
+            self.write_rest()?;
+            return Err(Stop::Failed);
+        }
+        if got == 0 {
+            return self.take_end();
+        }
+        for byte in &input[..io::count(got, &input)] {
+            self.take_byte(*byte)?;
+        }
+        Ok(())
     }
-    if got == 0 {
-        return take_end(rt, line, out, request, progress);
-    }
-    let n = io::count(got, &input);
-    take_bytes(rt, &input[..n], line, out, request, progress)
-}
-
-// The first line of a recording; deviations are none.
-fn put_first_line(out: &mut [u8; 65536], request: Request) -> usize {
-    if request.deviations {
-        return 0;
-    }
-    let text = first_line(request.format);
-    put_bytes(out, 0, &text)
 }
 
 fn print_pulses(rt: &HostRuntime, request: Request) {
-    let mut line = [0u8; 256];
-    let mut out = [0u8; 65536];
-    let filled = put_first_line(&mut out, request);
-    let mut progress = Progress {
+    let line = Line {
+        bytes: [0; 256],
         used: 0,
-        lines: 0,
-        filled: filled,
-        column: 0,
-        more: true,
     };
+    let mut pulses = Pulses {
+        rt,
+        request,
+        line,
+        lines: 0,
+        out: Output::new(rt),
+        column: 0,
+    };
+    // The first line of a recording; deviations are none.
+    if !request.deviations {
+        pulses.out.page.put_bytes(&first_line(request.format));
+    }
     // A proved loop has to end: the reads are counted down from a number that no run uses up.
-    let mut left = u64::MAX;
-    while 0 < left && progress.more {
-        progress = take_read(rt, &mut line, &mut out, request, progress);
-        left -= 1;
+    for _ in 0..u64::MAX {
+        if pulses.take_read().is_err() {
+            break;
+        }
     }
 }
 
@@ -415,8 +287,8 @@ fn print_checked(rt: &HostRuntime, request: Request) {
     }
     let classified = classify(request.settings, request.interval, 0, 0);
     match classified {
-        Classified::Symbol { .. } => print_pulses(rt, request),
-        Classified::Refused(refusal) => print_refused(rt, refusal),
+        Ok(_) => print_pulses(rt, request),
+        Err(refusal) => print_refused(rt, refusal),
     }
 }
 
@@ -424,14 +296,11 @@ fn main(rt: HostRuntime) {
     if print_version(&rt, b"timepulse") {
         return;
     }
-    let asked = asked_for(&rt);
-    match asked {
-        Asked::Pulses(request) => print_checked(&rt, request),
-        Asked::Malformed => {
-            tell(
-                &rt,
-                b"usage: timepulse FORMAT INTERVAL [ZEROS ONES MARKS] [deviations]; standard input has lines WIDTH PERIOD\n",
-            );
-        }
+    match asked_for(&rt) {
+        Some(request) => print_checked(&rt, request),
+        None => tell(
+            &rt,
+            b"usage: timepulse FORMAT INTERVAL [ZEROS ONES MARKS] [deviations]; standard input has lines WIDTH PERIOD\n",
+        ),
     }
 }

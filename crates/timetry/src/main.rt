@@ -5,19 +5,17 @@
 // in its place; or two more arguments say in the place of one element in how many a random symbol stands, and a seed.
 #![tactic(auto)]
 
-ghost use Rattle.std.specs.Prelude.{◌≤◌};
-
-use arguments::Number;
 use command_line::{
-    Named, format_argument, limited_8, limited_16, limited_32, number_argument, number_or_0,
+    format_argument, limited_8, limited_16, limited_32, number_argument, number_or_0,
 };
-use damages::{Listed, damages_in, scattered};
+use damages::{Damages, damages_in, scattered};
 use layout::frame_size;
-use output::{print_refused, write_first};
-use program_io::{argument_count, read_full, tell};
+use output::print_refused;
+use program_io::{argument_count, read_full, tell, write};
 use simulate::simulate;
 use simulation::Counts;
-use timecode::{Format, Time, Written};
+use std::fmt::InlineText;
+use timecode::{Format, Time};
 use version::print_version;
 
 const FIRST_SETTING: u8 = 2;
@@ -32,146 +30,56 @@ struct Request {
     frames: u32,
 }
 
-#[derive(Clone, Copy)]
-enum Asked {
-    Run(Request),
-    Malformed,
-}
-
-#[derive(Clone, Copy)]
-enum Started {
-    At(Time),
-    Malformed,
-}
-
-fn start_argument(rt: &HostRuntime, count: usize) -> Started {
-    let Number::Value(day) = number_argument(rt, 2) else {
-        return Started::Malformed;
-    };
-    let Number::Value(hundredths) = number_argument(rt, 3) else {
-        return Started::Malformed;
-    };
-    let Number::Value(year) = number_or_0(rt, count, 6) else {
-        return Started::Malformed;
-    };
-    Started::At(Time {
-        year: limited_8(year),
-        day: limited_16(day),
-        hundredths: limited_32(hundredths),
+fn asked_for(rt: &HostRuntime, count: usize) -> Option<Request> {
+    Some(Request {
+        format: format_argument(rt, 1)?,
+        start: Time {
+            year: limited_8(number_or_0(rt, count, 6)?),
+            day: limited_16(number_argument(rt, 2)?),
+            hundredths: limited_32(number_argument(rt, 3)?),
+        },
+        given: limited_16(number_argument(rt, 4)?),
+        frames: limited_32(number_argument(rt, 5)?),
     })
 }
 
-fn asked_for(rt: &HostRuntime, count: usize) -> Asked {
-    let Named::Known(format) = format_argument(rt, 1) else {
-        return Asked::Malformed;
-    };
-    let Started::At(start) = start_argument(rt, count) else {
-        return Asked::Malformed;
-    };
-    let Number::Value(given) = number_argument(rt, 4) else {
-        return Asked::Malformed;
-    };
-    let Number::Value(frames) = number_argument(rt, 5) else {
-        return Asked::Malformed;
-    };
-    Asked::Run(Request {
-        format: format,
-        start: start,
-        given: limited_16(given),
-        frames: limited_32(frames),
-    })
-}
-
-// Puts text behind what a line has, as far as it has room.
-fn put_behind(line: &mut [u8; 65536], at: usize, text: &[u8]) -> usize
-    requires { at ≤ 65536 }
-    ensures { result ≤ 65536 }
-{
-    let mut end = at;
-    let mut i = 0;
-    while i < text.len() && end < 65_536 {
-        line[end] = text[i];
-        end += 1;
-        i += 1;
-    }
-    end
-}
-
-fn put_number(line: &mut [u8; 65536], at: usize, number: u64) -> usize
-    requires { at ≤ 65536 }
-    ensures { result ≤ 65536 }
-{
-    let mut digits = [0u8; 20];
-    let k = io::decimal(number, &mut digits);
-    put_behind(line, at, &digits[..k])
-}
-
-// A dash where no report came.
-fn put_first(line: &mut [u8; 65536], at: usize, counts: Counts) -> usize
-    requires { at ≤ 65536 }
-    ensures { result ≤ 65536 }
-{
-    if counts.reports == 0 {
-        return put_behind(line, at, b"-");
-    }
-    put_number(line, at, counts.first)
-}
-
-// Before the first line stands one that says what the columns are.
-fn put_head(line: &mut [u8; 65536], setting: u8) -> usize
-    ensures { result ≤ 65536 }
-{
-    if setting == FIRST_SETTING {
-        return put_behind(line, 0, b"setting first reports false\n");
-    }
-    0
-}
-
-fn put_counts(line: &mut [u8; 65536], setting: u8, counts: Counts) -> usize
-    ensures { result ≤ 65536 }
-{
-    let mut at = put_head(line, setting);
-    at = put_number(line, at, setting as u64);
-    at = put_behind(line, at, b" ");
-    at = put_first(line, at, counts);
-    at = put_behind(line, at, b" ");
-    at = put_number(line, at, counts.reports);
-    at = put_behind(line, at, b" ");
-    at = put_number(line, at, counts.wrong);
-    put_behind(line, at, b"\n")
-}
-
+// Before the first line stands one that says what the columns are, and a dash stands where no report came.
 fn print_line(rt: &HostRuntime, setting: u8, counts: Counts) -> bool {
-    let mut line = [0u8; 65536];
-    let k = put_counts(&mut line, setting, counts);
-    write_first(rt, &mut line, k)
+    let head = if setting == FIRST_SETTING {
+        "setting first reports false\n"
+    } else {
+        ""
+    };
+    let first = if counts.reports == 0 {
+        InlineText::<20>::of("-")
+    } else {
+        InlineText::<20>::of(counts.first)
+    };
+    let line = InlineText::<128>::of(format_args!(
+        "{head}{setting} {} {} {}\n",
+        first.as_str(),
+        counts.reports,
+        counts.wrong
+    ));
+    write(rt, line.as_str().as_bytes())
 }
 
 // The line of one setting, or that of a refusal; whether the next setting is to be tried.
-fn print_setting(
-    rt: &HostRuntime,
-    request: Request,
-    setting: u8,
-    numbers: &[u64],
-    symbols: &[u8],
-) -> bool {
-    let settings = [setting];
-    let ends = [numbers.len()];
-    let simulation = simulate(
+fn print_setting(rt: &HostRuntime, request: Request, setting: u8, damages: &Damages) -> bool {
+    let numbers = damages.numbers();
+    let simulated = simulate(
         request.format,
         request.start,
         request.frames,
         request.given,
-        &settings,
-        &ends,
+        &[setting],
+        &[numbers.len()],
         numbers,
-        symbols,
+        damages.symbols(),
     );
-    let counts = simulation.counts;
-    let answer = simulation.answer;
-    match answer {
-        Written::Done => print_line(rt, setting, counts[0]),
-        Written::Refused(refusal) => {
+    match simulated {
+        Ok(counts) => print_line(rt, setting, counts[0]),
+        Err(refusal) => {
             print_refused(rt, refusal);
             false
         }
@@ -179,105 +87,52 @@ fn print_setting(
 }
 
 // What is refused with one setting is refused with each.
-fn print_table(rt: &HostRuntime, request: Request, numbers: &[u64], symbols: &[u8]) {
-    let mut setting = FIRST_SETTING;
-    let mut more = true;
-    while setting <= LAST_SETTING && more {
-        more = print_setting(rt, request, setting, numbers, symbols);
-        setting += 1;
-    }
-}
-
-fn print_usage(rt: &HostRuntime) {
-    tell(
-        rt,
-        b"usage: timetry FORMAT DAY HUNDREDTHS YEAR-LENGTH FRAMES [YEAR [ONE-IN SEED]]; standard input has lines NUMBER SYMBOL, up to 16384\n",
-    );
-}
-
-fn print_listed(
-    rt: &HostRuntime,
-    request: Request,
-    listed: Listed,
-    numbers: &[u64],
-    symbols: &[u8],
-) {
-    let count = listed.count;
-    if listed.all {
-        if count <= numbers.len() {
-            if count <= symbols.len() {
-                print_table(rt, request, &numbers[0..count], &symbols[0..count]);
-                return;
-            }
+fn print_table(rt: &HostRuntime, request: Request, damages: &Damages) {
+    for setting in FIRST_SETTING..=LAST_SETTING {
+        if !print_setting(rt, request, setting, damages) {
+            return;
         }
     }
-    print_usage(rt);
-}
-
-// It takes the arrays, whose length a caller need not show.
-fn print_first_of(
-    rt: &HostRuntime,
-    request: Request,
-    listed: Listed,
-    numbers: &[u64; 16384],
-    symbols: &[u8; 16384],
-) {
-    print_listed(rt, request, listed, numbers, symbols);
 }
 
 // Damages from standard input. Where it fills the buffer, more may follow, and there is no room for so many lines.
-fn try_read(rt: &HostRuntime, request: Request) {
+fn damages_read(rt: &HostRuntime) -> Option<Damages> {
     let mut text = [0u8; 65536];
     let n = read_full(&mut rt.stdin(), &mut text);
     if n == text.len() {
-        print_usage(rt);
-        return;
+        return None;
     }
-    let mut numbers = [0u64; 16384];
-    let mut symbols = [0u8; 16384];
-    let listed = damages_in(&text[..n], &mut numbers, &mut symbols);
-    print_first_of(rt, request, listed, &numbers, &symbols);
+    damages_in(&text[..n])
 }
 
-fn elements_of(frames: u32, n: usize) -> u64
-    requires { n ≤ 100 }
-{
-    (frames as u64) * (n as u64)
+fn damages_scattered(rt: &HostRuntime, request: Request) -> Option<Damages> {
+    let times = number_argument(rt, 7)?;
+    let seed = number_argument(rt, 8)?;
+    let elements = u64::from(request.frames) * frame_size(request.format) as u64;
+    scattered(elements, times, seed)
 }
 
-fn try_scattered(rt: &HostRuntime, request: Request) {
-    let Number::Value(times) = number_argument(rt, 7) else {
-        print_usage(rt);
-        return;
+// Nothing where the arguments or the damages are malformed.
+fn try_settings(rt: &HostRuntime) -> Option<()> {
+    let count = argument_count(rt);
+    let request = asked_for(rt, count)?;
+    let damages = match count {
+        0..=7 => damages_read(rt)?,
+        9 => damages_scattered(rt, request)?,
+        _ => return None,
     };
-    let Number::Value(seed) = number_argument(rt, 8) else {
-        print_usage(rt);
-        return;
-    };
-    let elements = elements_of(request.frames, frame_size(request.format));
-    let mut numbers = [0u64; 16384];
-    let mut symbols = [0u8; 16384];
-    let listed = scattered(elements, times, seed, &mut numbers, &mut symbols);
-    print_first_of(rt, request, listed, &numbers, &symbols);
+    print_table(rt, request, &damages);
+    Some(())
 }
 
 fn main(rt: HostRuntime) {
     if print_version(&rt, b"timetry") {
         return;
     }
-    let count = argument_count(&rt);
-    let asked = asked_for(&rt, count);
-    let Asked::Run(request) = asked else {
-        print_usage(&rt);
-        return;
-    };
-    if count <= 7 {
-        try_read(&rt, request);
-        return;
+    if try_settings(&rt).is_none() {
+        tell(
+            &rt,
+            b"usage: timetry FORMAT DAY HUNDREDTHS YEAR-LENGTH FRAMES [YEAR [ONE-IN SEED]]; standard input has lines NUMBER SYMBOL, up to 16384\n",
+        );
     }
-    if count == 9 {
-        try_scattered(&rt, request);
-        return;
-    }
-    print_usage(&rt);
 }

@@ -6,16 +6,15 @@
 ghost use Rattle.std.specs.Prelude.{◌≡◌, ◌-◌, ◌≤◌};
 ghost use Rattle.generator.specs.Sending.{start_of};
 
-use arguments::Number;
 use command_line::{
-    Named, format_argument, hexadecimal_argument, limited_8, limited_16, limited_32,
-    number_argument, number_or_0,
+    format_argument, hexadecimal_argument, limited_8, limited_16, limited_32, number_argument,
+    number_or_0,
 };
 use frametext::first_line;
 use generator::{Generated, Start, begin, generate};
 use output::{print_refused, write_first};
 use program_io::{argument_count, tell, write};
-use timecode::{Format, Time, Written};
+use timecode::{Format, Time};
 use version::print_version;
 
 #[derive(Clone, Copy)]
@@ -27,75 +26,37 @@ struct Request {
     frames: u64,
 }
 
-#[derive(Clone, Copy)]
-enum Asked {
-    Recording(Request),
-    Malformed,
-}
-
-#[derive(Clone, Copy)]
-enum Started {
-    At(Start),
-    Malformed,
-}
-
 // The control word, 0 where none is given.
-fn control_argument(rt: &HostRuntime, count: usize) -> Number {
+fn control_argument(rt: &HostRuntime, count: usize) -> Option<u64> {
     if count < 7 {
-        return Number::Value(0);
+        Some(0)
+    } else {
+        hexadecimal_argument(rt, 6)
     }
-    hexadecimal_argument(rt, 6)
 }
 
-fn start_argument(rt: &HostRuntime, count: usize) -> Started {
-    let Number::Value(day) = number_argument(rt, 2) else {
-        return Started::Malformed;
-    };
-    let Number::Value(hundredths) = number_argument(rt, 3) else {
-        return Started::Malformed;
-    };
-    let Number::Value(kind) = number_or_0(rt, count, 7) else {
-        return Started::Malformed;
-    };
-    let Number::Value(year) = number_or_0(rt, count, 8) else {
-        return Started::Malformed;
-    };
-    Started::At(Start {
+fn start_argument(rt: &HostRuntime, count: usize) -> Option<Start> {
+    Some(Start {
         time: Time {
-            year: limited_8(year),
-            day: limited_16(day),
-            hundredths: limited_32(hundredths),
+            year: limited_8(number_or_0(rt, count, 8)?),
+            day: limited_16(number_argument(rt, 2)?),
+            hundredths: limited_32(number_argument(rt, 3)?),
         },
-        kind: limited_8(kind),
+        kind: limited_8(number_or_0(rt, count, 7)?),
     })
 }
 
-fn asked_for(rt: &HostRuntime) -> Asked {
+fn asked_for(rt: &HostRuntime) -> Option<Request> {
     let count = argument_count(rt);
     if 9 < count {
-        return Asked::Malformed;
+        return None;
     }
-    let Named::Known(format) = format_argument(rt, 1) else {
-        return Asked::Malformed;
-    };
-    let Started::At(start) = start_argument(rt, count) else {
-        return Asked::Malformed;
-    };
-    let Number::Value(given) = number_argument(rt, 4) else {
-        return Asked::Malformed;
-    };
-    let Number::Value(frames) = number_argument(rt, 5) else {
-        return Asked::Malformed;
-    };
-    let Number::Value(control) = control_argument(rt, count) else {
-        return Asked::Malformed;
-    };
-    Asked::Recording(Request {
-        format: format,
-        start: start,
-        control: control,
-        given: limited_16(given),
-        frames: frames,
+    Some(Request {
+        format: format_argument(rt, 1)?,
+        start: start_argument(rt, count)?,
+        control: control_argument(rt, count)?,
+        given: limited_16(number_argument(rt, 4)?),
+        frames: number_argument(rt, 5)?,
     })
 }
 
@@ -103,22 +64,28 @@ fn asked_for(rt: &HostRuntime) -> Asked {
 fn print_frames(rt: &HostRuntime, request: Request) -> Generated
     ensures { (result.left ≤ request.frames) × (result.next ≡ start_of request.format request.start request.given (request.frames - result.left)) }
 {
-    let format = request.format;
-    let control = request.control;
-    let given = request.given;
     let mut out = [0u8; 65536];
     let mut next = request.start;
     let mut left = request.frames;
-    let mut more = true;
-    while 0 < left && more {
-        let generated = generate(&mut out, format, next, control, given, left);
+    // Each turn takes as many frames as fit, so how many turns there are is not known before.
+    while 0 < left {
+        let generated = generate(
+            &mut out,
+            request.format,
+            next,
+            request.control,
+            request.given,
+            left,
+        );
         next = generated.next;
         left = generated.left;
-        more = write_first(rt, &mut out, generated.filled);
+        if !write_first(rt, &mut out, generated.filled) {
+            break;
+        }
     }
     Generated {
-        next: next,
-        left: left,
+        next,
+        left,
         filled: 0,
     }
 }
@@ -139,8 +106,8 @@ fn print_checked(rt: &HostRuntime, request: Request) {
         request.given,
     );
     match answer {
-        Written::Done => print_recording(rt, request),
-        Written::Refused(refusal) => print_refused(rt, refusal),
+        Ok(()) => print_recording(rt, request),
+        Err(refusal) => print_refused(rt, refusal),
     }
 }
 
@@ -148,14 +115,11 @@ fn main(rt: HostRuntime) {
     if print_version(&rt, b"timewrite") {
         return;
     }
-    let asked = asked_for(&rt);
-    match asked {
-        Asked::Recording(request) => print_checked(&rt, request),
-        Asked::Malformed => {
-            tell(
-                &rt,
-                b"usage: timewrite FORMAT DAY HUNDREDTHS YEAR-LENGTH FRAMES [CONTROL-WORD [DAY-KIND [YEAR]]]\n",
-            );
-        }
+    match asked_for(&rt) {
+        Some(request) => print_checked(&rt, request),
+        None => tell(
+            &rt,
+            b"usage: timewrite FORMAT DAY HUNDREDTHS YEAR-LENGTH FRAMES [CONTROL-WORD [DAY-KIND [YEAR]]]\n",
+        ),
     }
 }

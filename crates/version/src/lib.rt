@@ -2,17 +2,10 @@
 // Nothing beneath says which arguments a program was given, so no contract here can.
 #![tactic(auto)]
 
-use program_io::{argument, argument_count, write};
+use program_io::{argument_as, argument_count, write};
 
 fn is_asked_for(rt: &HostRuntime, word: &[u8]) -> bool {
-    if argument_count(rt) != 2 {
-        return false;
-    }
-    let mut text = [0u8; 4096];
-    match argument(rt, 1, &mut text) {
-        Some(bytes) => bytes == word,
-        None => false,
-    }
+    argument_count(rt) == 2 && argument_as(rt, 1, |bytes| Some(bytes == word)).unwrap_or(false)
 }
 
 // Whether the version was asked for; it is then printed.

@@ -1,5 +1,5 @@
 -- The loop over the keys of a calendar, and that it answers what the windows of these keys do.
-use Rattle.std.specs.Prelude.{◌≡◌, Bool, not, ◌&&◌, ℕ, zero, suc, ◌+◌, ◌*◌, ◌-◌, ◌%◌, ◌^◌, ◌<◌, ◌≤◌, leb, ltb, eqb, get_or, length, take}
+use Rattle.std.specs.Prelude.{◌≡◌, Bool, not, ◌&&◌, ℕ, zero, suc, ◌+◌, ◌*◌, ◌-◌, ◌%◌, ◌^◌, ◌<◌, ◌≤◌, leb, ltb, eqb, get_or, length, take, Option, Some, None}
 use Rattle.std.proofs.Math.Path.{refl, sym, ap, ap₂}
 use Rattle.std.proofs.Common.{◌∙◌, arith, length-drop, pow_mono, drop-cons, get_or-take, take_all}
 use Rattle.std.proofs.Math.Bool.{true, false, cond}
@@ -15,11 +15,8 @@ use Rattle.calendar.proofs.Adding.{days-few}
 use Rattle.calendar.specs.Dates.{has_day}
 use Rattle.calendar.specs.Keys.{Small}
 use Rattle.calendar.proofs.Keys.{key-order, key_back, time-small, back-key}
-use Rattle.calendar.specs.Moments.{earlier, holds, mask_of, edges_of, nearer, next_of, ask_of}
+use Rattle.calendar.specs.Moments.{earlier, holds, mask_of, edges_of, nearer, next_of, ask_of, asked}
 use Rattle.calendar.specs.Windows.{key_of, time_of, windows_in}
-use Rattle.calendar.specs.declared.Asked.{Asked}
-use Rattle.calendar.specs.declared.Following.{Following}
-use Rattle.calendar.specs.declared.Following.TheVariants.{At}
 
 -- the 56 bits of a key
 abbrev pub key_in : ℕ → ℕ
@@ -41,14 +38,14 @@ mask_keys k [] es = 0
 mask_keys k (s ∷ ss) [] = 0
 mask_keys k (s ∷ ss) (e ∷ es) = cond (cond (ltb k (key_in s)) false (ltb k (key_in e))) 1 0 + 2 * mask_keys k ss es
 
-unfoldable pub following_of : ℕ → Following
-following_of k = cond (eqb k no_key) Following.None (At (time_of k))
+unfoldable pub following_of : ℕ → Option Time
+following_of k = cond (eqb k no_key) None (Some (time_of k))
 
 -- ---- by keys as by moments
 
-abbrev Code : Following → ℕ → Type 0
-Code (At m) k = Small m × (k ≡ key_of m)
-Code Following.None k = k ≡ no_key
+abbrev Code : Option Time → ℕ → Type 0
+Code (Some m) k = Small m × (k ≡ key_of m)
+Code None k = k ≡ no_key
 
 module _ (t : Time) (small : Small t) where
   after : (k : ℕ) → earlier t (time_of k) ≡ ltb (key_of t) (key_in k)
@@ -69,13 +66,13 @@ module _ (t : Time) (small : Small t) where
   unfolding key_of
   key-small m r = omega (arith, r.year, r.day, r.hundredths)
 
-  one-nearer : (e : Time) → Small e → (f : Following) (k : ℕ) → Code f k → Code (nearer t e f) (sooner (key_of t) (key_of e) k)
+  one-nearer : (e : Time) → Small e → (f : Option Time) (k : ℕ) → Code f k → Code (nearer t e f) (sooner (key_of t) (key_of e) k)
   unfolding nearer
-  one-nearer e r Following.None k c =
+  one-nearer e r None k c =
       by-test (earlier t e)
       (λ y. rw (y, sym (key-order t e small r) ∙ y, c, lt-ltb (key_of e) no_key (key-small e r)) (r, refl))
       (λ n. rw (n, sym (key-order t e small r) ∙ n) c)
-  one-nearer e r (At m) k c =
+  one-nearer e r (Some m) k c =
       by-test (earlier t e)
       (λ y.
       by-test (earlier e m)
@@ -83,7 +80,7 @@ module _ (t : Time) (small : Small t) where
       (λ b. rw (y, b, sym (key-order t e small r) ∙ y, c.1, sym (key-order e m r c.0) ∙ b) (c.0, refl)))
       (λ n. rw (n, sym (key-order t e small r) ∙ n) c)
 
-  by_key : (k : ℕ) (f : Following) (best : ℕ) → Code f best → Code (nearer t (time_of k) f) (sooner (key_of t) (key_in k) best)
+  by_key : (k : ℕ) (f : Option Time) (best : ℕ) → Code f best → Code (nearer t (time_of k) f) (sooner (key_of t) (key_in k) best)
   by_key k f best c = rw (← back-key k) (one-nearer (time_of k) (time-small k) f best c)
 
   next-code : (ss es : List ℕ) → Code (next_of t (edges_of (windows_in ss es))) (next_key (key_of t) ss es)
@@ -92,10 +89,10 @@ module _ (t : Time) (small : Small t) where
   next-code (s ∷ ss) [] = refl
   next-code (s ∷ ss) (e ∷ es) = by_key s (nearer t (time_of e) (next_of t (edges_of (windows_in ss es)))) (sooner (key_of t) (key_in e) (next_key (key_of t) ss es)) (by_key e (next_of t (edges_of (windows_in ss es))) (next_key (key_of t) ss es) (next-code ss es))
 
-  coded : (f : Following) (k : ℕ) → Code f k → following_of k ≡ f
+  coded : (f : Option Time) (k : ℕ) → Code f k → following_of k ≡ f
   unfolding following_of
-  coded (At m) k c = rw (c.1, ne_eqb (key_of m) no_key (λ e. omega (arith, key-small m c.0))) (ap At (key_back m c.0))
-  coded Following.None k c = rw (eq-eqb k no_key c)
+  coded (Some m) k c = rw (c.1, ne_eqb (key_of m) no_key (λ e. omega (arith, key-small m c.0))) (ap Some (key_back m c.0))
+  coded None k c = rw (eq-eqb k no_key c)
 
   pub next-same : (ss es : List ℕ) → following_of (next_key (key_of t) ss es) ≡ next_of t (edges_of (windows_in ss es))
   next-same ss es = coded (next_of t (edges_of (windows_in ss es))) (next_key (key_of t) ss es) (next-code ss es)
@@ -163,8 +160,8 @@ module _ (ss es : List ℕ) (n : ℕ) (long : length ss ≡ 32) (other : length 
 
 -- ---- the call
 
-pub ask-is : (count : ℕ) (starts ends : List ℕ) (t : Time) (n mask next k : ℕ) (f : Following) → t.year ≤ 99 → t.hundredths ≤ 8640099 → has_day t.year t.day ≡ true → length starts ≡ 32 → length ends ≡ 32 → n ≡ limited count → k ≡ key_of t
-    → (mask ≡ mask_keys k (take n starts) (take n ends)) × (next ≡ next_key k (take n starts) (take n ends)) → f ≡ following_of next → Asked.Windows mask f ≡ ask_of (windows_in (take count starts) (take count ends)) t
+pub ask-is : (count : ℕ) (starts ends : List ℕ) (t : Time) (n mask next k : ℕ) (f : Option Time) → t.year ≤ 99 → t.hundredths ≤ 8640099 → has_day t.year t.day ≡ true → length starts ≡ 32 → length ends ≡ 32 → n ≡ limited count → k ≡ key_of t
+    → (mask ≡ mask_keys k (take n starts) (take n ends)) × (next ≡ next_key k (take n starts) (take n ends)) → f ≡ following_of next → asked mask f ≡ ask_of (windows_in (take count starts) (take count ends)) t
 unfolding ask_of has_day
 ask-is count starts ends t n mask next k f year hundredths day long other limit key seen found =
     let within_year = leb-true t.day (days_in t.year) (and_right (leb 1 t.day) (leb t.day (days_in t.year)) day) in
@@ -174,4 +171,4 @@ ask-is count starts ends t n mask next k f year hundredths day long other limit 
     let m : mask ≡ mask_keys (key_of t) (take count starts) (take count ends) = rw (key, ss, es) at seen.0 in
     let x : next ≡ next_key (key_of t) (take count starts) (take count ends) = rw (key, ss, es) at seen.1 in
     rw (le-leb t.year 99 year, le-leb t.hundredths 8640099 hundredths, day)
-    (ap₂ Asked.Windows (m ∙ mask-same t small (take count starts) (take count ends)) (found ∙ ap following_of x ∙ next-same t small (take count starts) (take count ends)))
+    (ap₂ asked (m ∙ mask-same t small (take count starts) (take count ends)) (found ∙ ap following_of x ∙ next-same t small (take count starts) (take count ends)))

@@ -10,9 +10,9 @@ ghost use Rattle.calendar.specs.Windows.{key_of, time_of, windows_in, windows_of
 ghost use Rattle.windows.specs.Asking.{limited, sooner, next_key, mask_keys, following_of};
 ghost use Rattle.windows.specs.Ways.{days_answer, hundredths_answer, dates_answer, window_answer};
 
-use calendar::{Added, Asked, Calendar, DateTime, Following, Keyed, Window};
+use calendar::{Added, Asked, Calendar, DateTime, Window, WindowKeys};
 use months::{day_in, has_date, has_day};
-use timecode::{Refusal, Time, Written};
+use timecode::{Refusal, Time};
 
 // Of the windows looked at: which hold the time, and the key of the next start or end.
 #[derive(Clone, Copy)]
@@ -45,79 +45,59 @@ fn time_of(key: u64) -> Time
     }
 }
 
-fn following(key: u64) -> Following
+fn following(key: u64) -> Option<Time>
     ensures { result ≡ following_of key }
 {
     if key == NO_KEY {
-        return Following::None;
+        return None;
     }
-    Following::At(time_of(key))
+    Some(time_of(key))
 }
 
 // The sooner of a start or end and the best so far; one that is not after the time does not count.
 fn sooner_of(key: u64, edge: u64, best: u64) -> u64
     ensures { result ≡ sooner key edge best }
 {
-    if key < edge {
-        if edge < best {
-            return edge;
-        }
-        return best;
-    }
-    best
+    if key < edge { edge.min(best) } else { best }
 }
 
 fn is_held(key: u64, start: u64, end: u64) -> bool
     ensures { result ≡ cond (ltb key start) false (ltb key end) }
 {
-    if key < start {
-        return false;
-    }
-    key < end
+    start <= key && key < end
 }
 
 fn with_bit(mask: u32, held: bool) -> u32
     requires { mask < 2147483648 }
     ensures { result ≡ cond held 1 0 + 2 * mask }
 {
-    if held {
-        return 1 + 2 * mask;
-    }
-    2 * mask
+    u32::from(held) + 2 * mask
 }
 
 fn limit(count: usize) -> usize
     ensures { (result ≡ limited count) × (result ≤ 32) }
 {
-    if count < Calendar::MOST_WINDOWS {
-        return count;
-    }
-    Calendar::MOST_WINDOWS
+    count.min(Calendar::MOST_WINDOWS)
 }
 
 // The windows from the last to the first, so that the first comes to stand in bit 0.
-fn look<'a>(starts: &'a [u64], ends: &'a [u64], count: usize, key: u64) -> Seen
+fn look(starts: &[u64], ends: &[u64], count: usize, key: u64) -> Seen
     requires { (length starts.now ≡ 32) × (length ends.now ≡ 32) × (count ≤ 32) }
     ensures { (result.mask ≡ mask_keys key (take count starts.now) (take count ends.now)) × (result.next ≡ next_key key (take count starts.now) (take count ends.now)) }
 {
-    let mut i = count;
-    let mut mask: u32 = 0;
-    let mut next: u64 = NO_KEY;
-    while 0 < i {
-        i -= 1;
+    let mut mask = 0;
+    let mut next = NO_KEY;
+    for i in (0..count).rev() {
         let start = starts[i] % Calendar::KEY_LIMIT;
         let end = ends[i] % Calendar::KEY_LIMIT;
         next = sooner_of(key, start, sooner_of(key, end, next));
         mask = with_bit(mask, is_held(key, start, end));
     }
-    Seen {
-        mask: mask,
-        next: next,
-    }
+    Seen { mask, next }
 }
 
 // Which windows of so many, lent as their keys, hold a time, and the next start or end after it.
-pub fn ask_keys<'a>(count: usize, starts: &'a [u64], ends: &'a [u64], time: Time) -> Asked
+pub fn ask_keys(count: usize, starts: &[u64], ends: &[u64], time: Time) -> Result<Asked, Refusal>
     requires { (length starts.now ≡ 32) × (length ends.now ≡ 32) }
     ensures { result ≡ ask_of (windows_in (take count starts.now) (take count ends.now)) time }
 {
@@ -125,20 +105,20 @@ pub fn ask_keys<'a>(count: usize, starts: &'a [u64], ends: &'a [u64], time: Time
         if time.hundredths <= Time::LAST_HUNDREDTH {
             if has_day(time.year, time.day) {
                 let seen = look(starts, ends, limit(count), key_of(time));
-                return Asked::Windows {
+                return Ok(Asked {
                     mask: seen.mask,
                     next: following(seen.next),
-                };
+                });
             }
-            return Asked::Refused(Refusal::InvalidDate);
+            return Err(Refusal::InvalidDate);
         }
-        return Asked::Refused(Refusal::InvalidTime);
+        return Err(Refusal::InvalidTime);
     }
-    Asked::Refused(Refusal::InvalidYear)
+    Err(Refusal::InvalidYear)
 }
 
 // Which windows hold a time, and the next start or end after it.
-pub fn ask(calendar: Calendar, time: Time) -> Asked
+pub fn ask(calendar: Calendar, time: Time) -> Result<Asked, Refusal>
     ensures { result ≡ ask_of (windows_of calendar) time }
 {
     ask_keys(calendar.count, &calendar.starts, &calendar.ends, time)
@@ -156,19 +136,19 @@ pub fn empty() -> Calendar
 }
 
 // 22: both dates.
-fn check_days(start: DateTime, end: DateTime) -> Written
+fn check_days(start: DateTime, end: DateTime) -> Result<(), Refusal>
     ensures { result ≡ days_answer start end }
 {
     if has_date(start.date) {
         if has_date(end.date) {
-            return Written::Done;
+            return Ok(());
         }
     }
-    Written::Refused(Refusal::InvalidDate)
+    Err(Refusal::InvalidDate)
 }
 
 // 2, then 22: both hundredths, then both dates.
-fn check_hundredths(start: DateTime, end: DateTime) -> Written
+fn check_hundredths(start: DateTime, end: DateTime) -> Result<(), Refusal>
     ensures { result ≡ hundredths_answer start end }
 {
     if start.hundredths <= Time::LAST_HUNDREDTH {
@@ -176,11 +156,11 @@ fn check_hundredths(start: DateTime, end: DateTime) -> Written
             return check_days(start, end);
         }
     }
-    Written::Refused(Refusal::InvalidTime)
+    Err(Refusal::InvalidTime)
 }
 
 // 17, 2, 22: both years, both hundredths, both dates.
-fn check_dates(start: DateTime, end: DateTime) -> Written
+fn check_dates(start: DateTime, end: DateTime) -> Result<(), Refusal>
     ensures { result ≡ dates_answer start end }
 {
     if start.date.year <= Time::LAST_YEAR {
@@ -188,7 +168,7 @@ fn check_dates(start: DateTime, end: DateTime) -> Written
             return check_hundredths(start, end);
         }
     }
-    Written::Refused(Refusal::InvalidYear)
+    Err(Refusal::InvalidYear)
 }
 
 // The moment of a date that its year has.
@@ -207,34 +187,29 @@ fn moment_of(at: DateTime) -> Time
 }
 
 // 21: the keys of a window behind so many others.
-fn keys_of(count: usize, window: Window) -> Keyed
+fn keys_of(count: usize, window: Window) -> Result<WindowKeys, Refusal>
     ensures { result ≡ keyed_by (window_answer count window) window }
 {
     let start = key_of(window.start);
     let end = key_of(window.end);
     if count < Calendar::MOST_WINDOWS {
         if start < end {
-            return Keyed::Keys { start, end };
+            return Ok(WindowKeys { start, end });
         }
     }
-    Keyed::Refused(Refusal::InvalidWindow)
+    Err(Refusal::InvalidWindow)
 }
 
 // 17, 2, 22, 21: the keys of a window from a date and hundredth to another, behind so many others.
-pub fn book(count: usize, start: DateTime, end: DateTime) -> Keyed
+pub fn book(count: usize, start: DateTime, end: DateTime) -> Result<WindowKeys, Refusal>
     ensures { result ≡ keyed_by (add_answer count start end) (window_of start end) }
 {
-    let checked = check_dates(start, end);
-    match checked {
-        Written::Done => {
-            let window = Window {
-                start: moment_of(start),
-                end: moment_of(end),
-            };
-            keys_of(count, window)
-        }
-        Written::Refused(refusal) => Keyed::Refused(refusal),
-    }
+    check_dates(start, end)?;
+    let window = Window {
+        start: moment_of(start),
+        end: moment_of(end),
+    };
+    keys_of(count, window)
 }
 
 // The keys behind the others.
@@ -256,13 +231,13 @@ pub fn add(calendar: Calendar, start: DateTime, end: DateTime) -> Added
 {
     let keyed = book(calendar.count, start, end);
     match keyed {
-        Keyed::Keys { start, end } => Added {
+        Ok(WindowKeys { start, end }) => Added {
             calendar: with_keys(calendar, start, end),
-            answer: Written::Done,
+            answer: Ok(()),
         },
-        Keyed::Refused(refusal) => Added {
+        Err(refusal) => Added {
             calendar: calendar,
-            answer: Written::Refused(refusal),
+            answer: Err(refusal),
         },
     }
 }

@@ -1,5 +1,6 @@
 -- The checks of a block in the caller's words: 13, 26, 3, and the words of the time that do not fit their widths.
-use Rattle.std.specs.Prelude.{◌≡◌, refl, true, false, ◌&&◌, List, ℕ, ◌%◌, ltb, get_or, length, set}
+use Rattle.block.specs.declared.Taken.{Taken}
+use Rattle.std.specs.Prelude.{◌≡◌, refl, true, false, ◌&&◌, List, ℕ, ◌%◌, ltb, get_or, length, set, Result, Err}
 use Rattle.std.proofs.Common.{sym, ap, subst, ◌∙◌, arith, lt-ltb, le-ltb}
 use Rattle.timecode.specs.Formats.{known, size}
 use Rattle.timecode.proofs.Laws.Runs.{tabulate-self}
@@ -13,7 +14,6 @@ use Rattle.ffi.proofs.Fields.{refusal-numbered}
 use Rattle.reader_words.specs.Words.{byte_in, reader_in, words_into}
 use Rattle.word_feed.specs.InPlace.{format_in, time_fits, known_size, is_ready, Ready, ready}
 use Rattle.block.specs.Blocks.{Lists, are_records, block_answer, feed_block_of}
-use Rattle.block.specs.declared.BlockAnswer.{BlockAnswer}
 use Rattle.block_words.specs.BlockWords.{fed_block_with, block_words_left}
 use Rattle.word_block.specs.WordBlocks.{Gives, block_refused}
 
@@ -77,13 +77,13 @@ module _ (words : List ℕ) (n : ℕ) (ss : List ℕ) (l : Lists) (e : n ≡ kno
   abbrev r : Reader
   r = reader_in words
 
-  refused-gives : (x : Refusal) → (is_valid r && (is_setting r.setting && are_records l)) ≡ false → BlockAnswer.Refused x ≡ block_answer r ss l → Gives words ss l (BlockAnswer.Refused x) words l
+  refused-gives : (x : Refusal) → (is_valid r && (is_setting r.setting && are_records l)) ≡ false → Err x ≡ block_answer r ss l → Gives words ss l (Err x) words l
   refused-gives x m q =
       let given = block_refused r ss l x m q in
-      let same : words ≡ block_words_left (fed_block_with r (BlockAnswer.Refused x)) words = rw (refusal-numbered x) refl in
+      let same : words ≡ block_words_left (fed_block_with r (Err x)) words = rw (refusal-numbered x) refl in
       (rw (← given.0) refl, (rw (← given.0) same, given.1))
 
-  pub not-placed : ltb (get_or words 3 0) n ≡ false → Gives words ss l (BlockAnswer.Refused Refusal.InvalidReader) words l
+  pub not-placed : ltb (get_or words 3 0) n ≡ false → Gives words ss l (Err Refusal.InvalidReader) words l
   unfolding block_answer
   not-placed m = let invalid = valid-words words n e ∙ m in refused-gives Refusal.InvalidReader (rw invalid) (rw invalid)
 
@@ -91,12 +91,12 @@ module _ (words : List ℕ) (n : ℕ) (ss : List ℕ) (l : Lists) (e : n ≡ kno
     valid : is_valid r ≡ true
     valid = valid-words words n e ∙ placed
 
-    pub not_set : is_setting (byte_in (get_or words 2 0)) ≡ false → Gives words ss l (BlockAnswer.Refused Refusal.InvalidSetting) words l
+    pub not_set : is_setting (byte_in (get_or words 2 0)) ≡ false → Gives words ss l (Err Refusal.InvalidSetting) words l
     unfolding block_answer reader_in
     not_set m = let v = valid in refused-gives Refusal.InvalidSetting (rw (v, m)) (rw (v, m))
 
     module _ (is_set : is_setting (byte_in (get_or words 2 0)) ≡ true) where
-      pub not-records : are_records l ≡ false → Gives words ss l (BlockAnswer.Refused Refusal.WrongLength) words l
+      pub not-records : are_records l ≡ false → Gives words ss l (Err Refusal.WrongLength) words l
       unfolding block_answer reader_in
       not-records m = let v = valid in refused-gives Refusal.WrongLength (rw (v, is_set, m)) (rw (v, is_set, m))
 
@@ -105,7 +105,7 @@ module _ (words : List ℕ) (n : ℕ) (ss : List ℕ) (l : Lists) (e : n ≡ kno
       left-taken records long = let v = valid in rw (v, is_set, records) (fitted-into words (feed_block_of r ss l).reader long)
 
       -- what is given for the fitted words is given for these
-      pub fitted-gives : are_records l ≡ true → length words ≡ 14 → {answer : BlockAnswer} {left : List ℕ} {l₁ : Lists} → Gives (time_fitted words) ss l answer left l₁ → Gives words ss l answer left l₁
+      pub fitted-gives : are_records l ≡ true → length words ≡ 14 → {answer : Result Taken Refusal} {left : List ℕ} {l₁ : Lists} → Gives (time_fitted words) ss l answer left l₁ → Gives words ss l answer left l₁
       fitted-gives records long given =
           let there = rw (fitted-reader words long) at given in
           (there.0, (there.1.0 ∙ left-taken records long, there.1.1))

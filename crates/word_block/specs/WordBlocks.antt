@@ -1,5 +1,7 @@
 -- A block that is being fed in the words of its reader, stride by stride.
-use Rattle.std.specs.Prelude.{◌≡◌, Bool, true, false, cond, ◌&&◌, List, [], ◌∷◌, ℕ, ◌+◌, ◌-◌, ◌%◌, ◌<◌, ◌≤◌, eqb, leb, get_or, length, set}
+use Rattle.block.specs.declared.Taken.{Taken}
+use Rattle.timecode.specs.Answers.{accepted}
+use Rattle.std.specs.Prelude.{◌≡◌, Bool, true, false, cond, ◌&&◌, List, [], ◌∷◌, ℕ, ◌+◌, ◌-◌, ◌%◌, ◌<◌, ◌≤◌, eqb, leb, get_or, length, set, Result, Err}
 use Rattle.std.proofs.Math.Path.{refl, sym, ap}
 use Rattle.std.proofs.Common.{ap₂, subst, ◌∙◌, zero-add, add-one, arith}
 use borrow.Author.Tests.{eqb-true, leb-true, leb-false}
@@ -28,9 +30,8 @@ use Rattle.word_feed.specs.FrameEnds.{is_stored, words_if_stored, whole_register
 use Rattle.word_feed.specs.InPlace.{Ready, is_inside, same-words, ready-place, ready-valid, ready-setting, ready-format, words-ready, inside-quiet, inside-left}
 use Rattle.word_stride.specs.FewSymbols.{accepted-more}
 use Rattle.word_stride.specs.WordRuns.{RunsIn}
-use Rattle.block.specs.Blocks.{Block, report_at, block_of, Lists, room_in, are_records, field_left, lists_left, block_for, block_answer, feed_block_of}
+use Rattle.block.specs.Blocks.{Block, report_at, block_of, Lists, room_in, are_records, field_left, lists_left, block_for, block_answer, feed_block_of, block_taken}
 use Rattle.block.proofs.Folds.{block-takes}
-use Rattle.block.specs.declared.BlockAnswer.{BlockAnswer}
 use Rattle.block.specs.declared.FedBlock.{FedBlock}
 use Rattle.block.specs.declared.Stop.{Stop}
 use Rattle.block.specs.declared.Stop.TheVariants.{AllTaken, UnknownSymbol, NoRoom}
@@ -54,10 +55,10 @@ records-even l h =
 -- ---- the block that stops
 
 abbrev taken_block : Reader → ℕ → ℕ → Stop → FedBlock
-taken_block r taken reports why = fed_block_with r (BlockAnswer.Taken taken reports why)
+taken_block r taken reports why = fed_block_with r (block_taken taken reports why)
 
 module _ (r : Reader) (ss : List ℕ) (l : Lists) where
-  pub block_refused : (x : Refusal) → (is_valid r && (is_setting r.setting && are_records l)) ≡ false → BlockAnswer.Refused x ≡ block_answer r ss l → (fed_block_with r (BlockAnswer.Refused x) ≡ feed_block_of r ss l) × (l ≡ lists_left (block_for r ss l) l)
+  pub block_refused : (x : Refusal) → (is_valid r && (is_setting r.setting && are_records l)) ≡ false → Err x ≡ block_answer r ss l → (fed_block_with r (Err x) ≡ feed_block_of r ss l) × (l ≡ lists_left (block_for r ss l) l)
   unfolding feed_block_of block_for field_left reader_after
   block_refused x n e = (rw n (ap (fed_block_with r) e), rw n)
 
@@ -85,7 +86,7 @@ pub in_start : {words₀ : List ℕ} {n : ℕ} {ss : List ℕ} {l₀ : Lists} �
 in_start {words₀} {n} {ss} at long = record { fed = fed-start (reader_in words₀) ss; accepted = omega arith; ready = at; long = long }
 
 -- what the call gives and leaves
-abbrev pub Gives : List ℕ → List ℕ → Lists → BlockAnswer → List ℕ → Lists → Type 0
+abbrev pub Gives : List ℕ → List ℕ → Lists → Result Taken Refusal → List ℕ → Lists → Type 0
 Gives words₀ ss l₀ answer words l =
     (answer ≡ (feed_block_of (reader_in words₀) ss l₀).answer) × ((words ≡ block_words_left (feed_block_of (reader_in words₀) ss l₀) words₀) × (l ≡ lists_left (block_for (reader_in words₀) ss l₀) l₀))
 
@@ -225,22 +226,22 @@ module _ {words₀ : List ℕ} {n : ℕ} {ss : List ℕ} {l₀ : Lists} {i repor
   in-fits records some = standing-fits g.fed.standing (records-even l₀ records) (omega (arith, in-room records, some))
 
   -- it stops there
-  module _ (at₀ : Ready words₀ n) (long₀ : length words₀ ≡ 14) (records : are_records l₀ ≡ true) {answer : BlockAnswer} where
-    stops : {why : Stop} → block_of (reader_in words₀) (room_in l₀) ss ≡ stops_at 0 (room_in l₀) (answers (reader_in words₀) ss) i why → answer ≡ BlockAnswer.Taken i reports why → Gives words₀ ss l₀ answer words l
+  module _ (at₀ : Ready words₀ n) (long₀ : length words₀ ≡ 14) (records : are_records l₀ ≡ true) {answer : Result Taken Refusal} where
+    stops : {why : Stop} → block_of (reader_in words₀) (room_in l₀) ss ≡ stops_at 0 (room_in l₀) (answers (reader_in words₀) ss) i why → answer ≡ block_taken i reports why → Gives words₀ ss l₀ answer words l
     stops {why} stop e =
         let given = block-taken (reader_in words₀) ss l₀ (ready-valid words₀ n at₀) (ready-setting words₀ n at₀) records g.fed stop in
         let put : words ≡ words_into words₀ r =
         same-words words n g.ready g.long ∙ sym (ap (λ (ws : List ℕ). words_into ws r) (same-words words₀ n at₀ long₀) ∙ into-words (reader_in words₀) r) in
         (rw (← given.0) e, (rw (← given.0) put, given.1))
 
-    pub in_end : length ss ≤ i → answer ≡ BlockAnswer.Taken i reports AllTaken → Gives words₀ ss l₀ answer words l
+    pub in_end : length ss ≤ i → answer ≡ block_taken i reports AllTaken → Gives words₀ ss l₀ answer words l
     in_end all e = stops (standing-end g.fed.standing (omega (arith, all, fed-within g.fed, length-feed-answers (reader_in words₀) ss))) e
 
     module _ (h : i < length ss) {a : Answer} (is : a ≡ (feed_words words s).answer) where
-      pub in-unknown : {x : Refusal} → a ≡ Answer.Refused x → answer ≡ BlockAnswer.Taken i reports UnknownSymbol → Gives words₀ ss l₀ answer words l
+      pub in-unknown : {x : Refusal} → a ≡ Answer.Refused x → answer ≡ block_taken i reports UnknownSymbol → Gives words₀ ss l₀ answer words l
       unfolding feed_of
       in-unknown {x} refused e = stops (standing-refused g.fed.standing (within h) Quiet x (answer_at h ∙ sym is ∙ refused)) e
 
-      pub in-full : {t : Time} {w : ℕ} → a ≡ Report t w → reports ≡ room_in l → answer ≡ BlockAnswer.Taken i reports NoRoom → Gives words₀ ss l₀ answer words l
+      pub in-full : {t : Time} {w : ℕ} → a ≡ Report t w → reports ≡ room_in l → answer ≡ block_taken i reports NoRoom → Gives words₀ ss l₀ answer words l
       unfolding feed_of
       in-full {t} {w} report full e = stops (standing-full g.fed.standing (within h) Quiet t w (answer_at h ∙ sym is ∙ report) full) e

@@ -14,13 +14,13 @@ ghost use Rattle.reader_words.specs.Words.{reader_in, feed_words};
 ghost use Rattle.word_feed.specs.FrameEnds.{whole_register, words_if_stored};
 ghost use Rattle.word_feed.specs.InPlace.{Ready, is_inside};
 ghost use Rattle.block.specs.Blocks.{report_at, lists, are_records, lists_left, block_for};
-ghost use Rattle.block.specs.declared.BlockAnswer.{BlockAnswer};
+ghost use Rattle.block.specs.Blocks.{block_taken};
 ghost use Rattle.block_words.specs.BlockWords.{block_result_of, feed_block_words, block_words_left};
 ghost use Rattle.word_block.specs.BlockChecks.{time_fitted};
 ghost use Rattle.word_block.specs.Standing.{set_record};
 
-use block::{BlockAnswer, Stop};
-use block_words::{BlockResult, block_result};
+use block::{Stop, Taken};
+use block_words::BlockResult;
 use frame::read;
 use openings::accepted;
 use register::push;
@@ -29,14 +29,14 @@ use timecode::{Answer, Format, Refusal, SPOILED, Time};
 use word_feed::{end_frame, feed_inside, feed_outside, format_in, is_set, known_size, row_at};
 use word_stride::{FEW_SYMBOLS, feed_run};
 
-fn taken_at(symbols: usize, reports: usize, stop: Stop) -> BlockAnswer
-    ensures { result ≡ BlockAnswer.Taken symbols reports stop }
+fn taken_at(symbols: usize, reports: usize, stop: Stop) -> Result<Taken, Refusal>
+    ensures { result ≡ block_taken symbols reports stop }
 {
-    BlockAnswer::Taken {
-        symbols: symbols,
-        reports: reports,
-        stop: stop,
-    }
+    Ok(Taken {
+        symbols,
+        reports,
+        stop,
+    })
 }
 
 fn put_report(
@@ -127,7 +127,7 @@ fn feed_strides(
     days: &mut [u16],
     hundredths: &mut [u32],
     controls: &mut [u64],
-) -> BlockAnswer
+) -> Result<Taken, Refusal>
     requires { Ready reader.old n × (length reader.old ≡ 14) × (are_records (lists indexes.old years.old days.old hundredths.old controls.old) ≡ true) }
     ensures value { result ≡ (feed_block_words reader.old symbols.now (lists indexes.old years.old days.old hundredths.old controls.old)).answer }
     ensures reader_after { reader.new ≡ block_words_left (feed_block_words reader.old symbols.now (lists indexes.old years.old days.old hundredths.old controls.old)) reader.old }
@@ -207,7 +207,7 @@ pub fn feed_block_in_words(
     days: &mut [u16],
     hundredths: &mut [u32],
     controls: &mut [u64],
-) -> BlockAnswer
+) -> Result<Taken, Refusal>
     ensures value { result ≡ (feed_block_words reader.old symbols.now (lists indexes.old years.old days.old hundredths.old controls.old)).answer }
     ensures reader_after { reader.new ≡ block_words_left (feed_block_words reader.old symbols.now (lists indexes.old years.old days.old hundredths.old controls.old)) reader.old }
     ensures controls_after { lists indexes.new years.new days.new hundredths.new controls.new ≡ lists_left (block_for (reader_in reader.old) symbols.now (lists indexes.old years.old days.old hundredths.old controls.old)) (lists indexes.old years.old days.old hundredths.old controls.old) }
@@ -227,11 +227,11 @@ pub fn feed_block_in_words(
                     reader, n, symbols, indexes, years, days, hundredths, controls,
                 );
             }
-            return BlockAnswer::Refused(Refusal::WrongLength);
+            return Err(Refusal::WrongLength);
         }
-        return BlockAnswer::Refused(Refusal::InvalidSetting);
+        return Err(Refusal::InvalidSetting);
     }
-    BlockAnswer::Refused(Refusal::InvalidReader)
+    Err(Refusal::InvalidReader)
 }
 
 pub fn feed_block_words(
@@ -248,5 +248,5 @@ pub fn feed_block_words(
     ensures controls_after { lists indexes.new years.new days.new hundredths.new controls.new ≡ lists_left (block_for (reader_in reader.old) symbols.now (lists indexes.old years.old days.old hundredths.old controls.old)) (lists indexes.old years.old days.old hundredths.old controls.old) }
 {
     let answer = feed_block_in_words(reader, symbols, indexes, years, days, hundredths, controls);
-    block_result(answer)
+    BlockResult::from(answer)
 }

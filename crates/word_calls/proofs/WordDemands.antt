@@ -1,5 +1,5 @@
 -- A C program's reader: its fourteen words give the results of their reader, so demand 3 holds of any list of calls on them; and a refused call leaves them.
-use Rattle.std.specs.Prelude.{◌≡◌, refl, true, false, List, [], ◌∷◌, ◌++◌, map, ℕ, eqb}
+use Rattle.std.specs.Prelude.{◌≡◌, refl, true, false, List, [], ◌∷◌, ◌++◌, map, ℕ, eqb, Err}
 use Rattle.std.proofs.Common.{sym, ap, ap₂, subst, ◌∙◌, arith, ne_eqb}
 use Rattle.timecode.specs.Answers.{answer_result}
 use Rattle.timecode.specs.Demand3.{Demand3, SameAnswers}
@@ -17,7 +17,6 @@ use Rattle.stream.specs.Feeding.{fresh_reader, made_of, feed_of}
 use Rattle.stream.specs.declared.Reader.{Reader}
 use Rattle.block.specs.Blocks.{Lists, lists_left, block_result, block_for, feed_block_of}
 use Rattle.block.proofs.Folds.{refused-block-leaves}
-use Rattle.block.specs.declared.BlockAnswer.{BlockAnswer}
 use Rattle.pulse_feed.specs.PulseFeeds.{feed_pulse_of}
 use Rattle.pulse_feed.proofs.PulseFeeds.{refused-pulse-same-reader}
 use Rattle.reader_calls.proofs.MixedCalls.{call-reader, calls-are-plain}
@@ -46,7 +45,7 @@ refused-call-leaves-words words (block ss l) h =
     rw (ne_eqb (block_result a).number 0 (λ e. h (block-number a ∙ e)))
 
 -- and a block the lists too.
-pub refused-block-leaves-lists : (words ss : List ℕ) (l : Lists) (x : Refusal) → (feed_block_words words ss l).answer ≡ BlockAnswer.Refused x → lists_left (block_for (reader_in words) ss l) l ≡ l
+pub refused-block-leaves-lists : (words ss : List ℕ) (l : Lists) (x : Refusal) → (feed_block_words words ss l).answer ≡ Err x → lists_left (block_for (reader_in words) ss l) l ≡ l
 refused-block-leaves-lists words ss l x h = (refused-block-leaves (reader_in words) ss l x h).1
 
 -- ---- the words after a call are those of the reader that it gives back, refused or not

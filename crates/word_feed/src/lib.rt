@@ -10,11 +10,11 @@ ghost use Rattle.reader_words.specs.Words.{byte_in, register_into, feed_words, w
 ghost use Rattle.word_feed.specs.FrameEnds.{row_at, whole_into, end_answer, is_stored, words_if_stored};
 ghost use Rattle.word_feed.specs.InPlace.{format_in, other_size, known_size, time_fits, is_ready, Ready, is_inside};
 
-use ffi::{FeedResult, feed_result};
-use reader_words::{byte_in, put_fed, reader_in};
-use register::{Register, opens_frame, push, row_before};
+use ffi::FeedResult;
+use reader_words::{byte_in, put_fed, put_register, reader_in, time_in};
+use register::{Register, begun, opens_frame, push, row_before};
 use stream::{FrameRow, feed, place_after, row_with_frame};
-use timecode::{Answer, Format, SPOILED, Time};
+use timecode::{Answer, Format, SPOILED};
 
 // The letters as words.
 const A: u64 = 65;
@@ -44,85 +44,54 @@ pub fn format_in(letter: u64, expression: u64) -> Format
 fn size_within(first: u64, last: u64, expression: u64, n: u64) -> u64
     ensures { result ≡ cond (leb first expression && leb expression last) n 0 }
 {
-    if first <= expression {
-        if expression <= last {
-            return n;
-        }
+    if first <= expression && expression <= last {
+        n
+    } else {
+        0
     }
-    0
 }
 
 // n of the letters that take expressions 1 and 2.
+#[tactic(auto, unfolding(crate::specs::InPlace::other_size))]
 fn other_size(letter: u64) -> u64
     ensures { result ≡ other_size letter }
 {
-    if letter == D {
-        return 60;
+    match letter {
+        D | H => 60,
+        E | G => 100,
+        _ => 0,
     }
-    if letter == E {
-        return 100;
-    }
-    if letter == G {
-        return 100;
-    }
-    if letter == H {
-        return 60;
-    }
-    0
 }
 
 // n of a known format, 0 for any other. Every Feed and every block asks this: the words are compared as they are, and no row is looked up.
 pub fn known_size(letter: u64, expression: u64) -> u64
     ensures { result ≡ known_size letter expression }
 {
-    if letter == X {
-        return size_within(2, 2, expression, 25);
+    match letter {
+        X => size_within(2, 2, expression, 25),
+        A | B => size_within(0, 7, expression, 100),
+        _ => size_within(1, 2, expression, other_size(letter)),
     }
-    if letter == A {
-        return size_within(0, 7, expression, 100);
-    }
-    if letter == B {
-        return size_within(0, 7, expression, 100);
-    }
-    if 1 <= expression {
-        if expression <= 2 {
-            return other_size(letter);
-        }
-    }
-    0
 }
 
 // Number 26 passes.
 pub fn is_set(setting: u64) -> bool
     ensures { result ≡ is_setting (byte_in setting) }
 {
-    if 2 <= setting {
-        return setting <= 5;
-    }
-    false
+    2 <= setting && setting <= 5
 }
 
+#[tactic(auto, unfolding(crate::specs::InPlace::time_fits))]
 fn time_fits(year: u64, day: u64, hundredths: u64) -> bool
     ensures { result ≡ time_fits year day hundredths }
 {
-    if year < 256 {
-        if day < 65536 {
-            return hundredths < 4294967296;
-        }
-    }
-    false
+    year < 256 && day < 65536 && hundredths < 4294967296
 }
 
 pub fn put_begun(reader: &mut [u64; 14], place: u64, newest: u64, count: u64, row: u64)
     ensures { reader.new ≡ register_into reader.old place (begun_of newest count row) }
 {
-    reader[9] = row;
-    reader[8] = 0;
-    reader[7] = 0;
-    reader[6] = 0;
-    reader[5] = newest;
-    reader[4] = count;
-    reader[3] = place;
+    put_register(reader, place, begun(newest, count as usize, row as usize));
 }
 
 pub fn put_continued(reader: &mut [u64; 14], place: u64, newest: u64, count: u64)
@@ -139,9 +108,7 @@ fn put_full(reader: &mut [u64; 14], place: u64, newest: u64, count: u64)
     ensures { reader.new ≡ set (set (set (set reader.old (5 + count / 32) newest) 5 newest) 4 count) 3 place }
 {
     reader[5 + (count / 32) as usize] = newest;
-    reader[5] = newest;
-    reader[4] = count;
-    reader[3] = place;
+    put_continued(reader, place, newest, count);
 }
 
 fn feed_by_value(reader: &mut [u64; 14], symbol: u8) -> Answer
@@ -194,15 +161,10 @@ pub fn feed_inside(reader: &mut [u64; 14], symbol: u8, n: u64) -> bool
 pub fn row_at(count: u64, year: u64, day: u64, hundredths: u64, control: u64) -> FrameRow
     ensures { result ≡ row_at count year day hundredths control }
 {
-    let time = Time {
-        year: (year % 256) as u8,
-        day: (day % 65536) as u16,
-        hundredths: (hundredths % 4294967296) as u32,
-    };
     FrameRow {
         count: count as usize,
-        time: time,
-        control: control,
+        time: time_in(year, day, hundredths),
+        control,
     }
 }
 
@@ -278,22 +240,18 @@ fn feed_ready(reader: &mut [u64; 14], symbol: u8, n: u64) -> FeedResult
     ensures reader_after { reader.new ≡ words_left (feed_words reader.old symbol) reader.old }
 {
     if feed_inside(reader, symbol, n) {
-        return feed_result(Answer::Quiet);
+        return FeedResult::from(Answer::Quiet);
     }
-    feed_result(feed_outside(reader, symbol, n, true))
+    FeedResult::from(feed_outside(reader, symbol, n, true))
 }
 
 // Numbers 13 and 26 pass, with n of a known format, and the words of the time fit their widths. By value, the words are known to be fourteen.
+#[tactic(auto, unfolding(crate::specs::InPlace::is_ready))]
 pub fn is_ready(words: [u64; 14], n: u64) -> bool
     ensures value { result ≡ is_ready words n }
     ensures words_len { length words ≡ 14 }
 {
-    if words[3] < n {
-        if is_set(words[2]) {
-            return time_fits(words[10], words[11], words[12]);
-        }
-    }
-    false
+    words[3] < n && is_set(words[2]) && time_fits(words[10], words[11], words[12])
 }
 
 pub fn feed_words(reader: &mut [u64; 14], symbol: u8) -> FeedResult
@@ -304,5 +262,5 @@ pub fn feed_words(reader: &mut [u64; 14], symbol: u8) -> FeedResult
     if is_ready(*reader, n) {
         return feed_ready(reader, symbol, n);
     }
-    feed_result(feed_by_value(reader, symbol))
+    FeedResult::from(feed_by_value(reader, symbol))
 }

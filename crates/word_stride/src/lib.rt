@@ -9,6 +9,7 @@ ghost use Rattle.word_feed.specs.InPlace.{register_in, Ready};
 ghost use Rattle.word_stride.specs.FewSymbols.{few_of, count_with, begun_with};
 ghost use Rattle.word_stride.specs.WordRuns.{RunsIn};
 
+use reader_words::put_register;
 use register::{Register, opens_frame, push};
 use stride::{place_after_many, run_from};
 use timecode::SPOILED;
@@ -22,30 +23,12 @@ fn run_end(count: u64, n: u64, from: usize, to: usize) -> usize
     requires { (count < n) × (n ≤ 100) × (from ≤ to) }
     ensures { (from ≤ result) × (result ≤ to) × (result - from ≤ 4096) × (1 ≤ count → count + (result - from) < n) }
 {
-    let left = to - from;
-    if count == 0 {
-        if left < 4096 {
-            return to;
-        }
-        return from + 4096;
-    }
-    let room = (n - 1 - count) as usize;
-    if room < left {
-        return from + room;
-    }
-    to
-}
-
-fn put_register(reader: &mut [u64; 14], place: u64, received: Register)
-    ensures { reader.new ≡ register_into reader.old place received }
-{
-    reader[9] = received.row as u64;
-    reader[8] = received.word2;
-    reader[7] = received.word1;
-    reader[6] = received.word0;
-    reader[5] = received.newest;
-    reader[4] = received.count as u64;
-    reader[3] = place;
+    let most = if count == 0 {
+        4096
+    } else {
+        (n - 1 - count) as usize
+    };
+    from + most.min(to - from)
 }
 
 // The run from one index on, up to another at most: where it stopped.
@@ -74,22 +57,13 @@ fn feed_many(reader: &mut [u64; 14], n: u64, symbols: &[u8], from: usize, to: us
     stop
 }
 
-fn lesser(first: usize, second: usize) -> usize
-    ensures { (result ≤ first) × (result ≤ second) }
-{
-    if first < second {
-        return first;
-    }
-    second
-}
-
 // The furthest end of a run of few symbols: before the one that makes the frame whole, and before one that fills a word of it.
 fn few_end(count: u64, n: u64, from: usize, to: usize) -> usize
     requires { (count < n) × (n ≤ 100) × (from ≤ to) }
     ensures { (from ≤ result) × (result ≤ to) × (count % 32 + (result - from) ≤ 31) × (count + (result - from) < n) }
 {
-    let room = lesser((n - 1 - count) as usize, (31 - count % 32) as usize);
-    from + lesser(room, to - from)
+    let room = (n - 1 - count).min(31 - count % 32) as usize;
+    from + room.min(to - from)
 }
 
 // How many symbols the frame has with one more, which begins a frame or not; 0 where none is under way.
@@ -98,21 +72,18 @@ fn count_with(opens: bool, count: u64) -> u64
     ensures { result ≡ count_with opens count }
 {
     if opens {
-        return 1;
+        1
+    } else if count == 0 {
+        0
+    } else {
+        count + 1
     }
-    if count == 0 {
-        return 0;
-    }
-    count + 1
 }
 
 fn begun_with(begun: bool, opens: bool) -> bool
     ensures { result ≡ begun_with begun opens }
 {
-    if opens {
-        return true;
-    }
-    begun
+    opens || begun
 }
 
 // So many symbols are received. Where a frame began among them, the one before it was given up.
@@ -123,9 +94,9 @@ fn put_few(reader: &mut [u64; 14], n: u64, taken: usize, newest: u64, count: u64
     let place = place_after_many(reader[3] as usize, taken, n as usize) as u64;
     if begun {
         put_begun(reader, place, newest, count, 0);
-        return;
+    } else {
+        put_continued(reader, place, newest, count);
     }
-    put_continued(reader, place, newest, count);
 }
 
 // The run from one index on of few symbols, with openings among them: where it stopped.
@@ -141,8 +112,7 @@ fn feed_few(reader: &mut [u64; 14], n: u64, symbols: &[u8], from: usize) -> usiz
     let mut newest = reader[5];
     let mut count = reader[4];
     let mut begun = false;
-    let mut i = from;
-    while i < end {
+    for i in from..end {
         let symbol = symbols[i];
         if SPOILED < symbol {
             put_few(reader, n, i - from, newest, count, begun);
@@ -152,10 +122,9 @@ fn feed_few(reader: &mut [u64; 14], n: u64, symbols: &[u8], from: usize) -> usiz
         count = count_with(opens, count);
         begun = begun_with(begun, opens);
         newest = push(newest, symbol);
-        i += 1;
     }
-    put_few(reader, n, i - from, newest, count, begun);
-    i
+    put_few(reader, n, end - from, newest, count, begun);
+    end
 }
 
 // The run from one index on: where it stopped. Of a block that has more than few symbols, it is known how many stand before the first above 3.

@@ -1,22 +1,20 @@
 -- `number_in` meets its contract: the digits read so far have the value, and the rest decides.
-use native.Mathlib.Omega.{arith}
-use mathlib.Core.Path.{◌≡◌}
-use Prim.Native.Nat.{◌-◌, ◌≤◌, ◌<◌}
-use lib.ListN.{length}
+use Rattle.std.proofs.Common.{arith}
+use Rattle.std.proofs.lemmas.Bool.Decides.{nat_tests}
 use Rattle.arguments.specs.DigitBytes.{read-start, read-turn, read_none, read-other, read_all}
 use Rattle.arguments.proofs.number_in.Goals as goal
 
-pub returns-then-text-eq0 : goal.returns-then-text-eq0
-returns-then-text-eq0 c = read_none _ _ c.if-text-eq0.true
+pub returns-then-is_empty : goal.returns-then-is_empty
+returns-then-is_empty c = read_none _ _ (grind (arith, nat_tests))
 
-pub loop-i-init : goal.loop-i-init
-loop-i-init c = (omega arith, read-start _ _)
+pub loop-byte-init : goal.loop-byte-init
+loop-byte-init c = read-start _ _
 
 pub returns-then-base-digit : goal.returns-then-base-digit
-returns-then-base-digit c = let over : c.args.base ≤ c.digit_of-digit.result = omega (arith, c.if-base-digit.true, c.requires) in read-other _ _ c.loop-i.i _ _ (omega arith) c.loop-i.invariant.1 c.digit_of-digit.ensures.0 over
+returns-then-base-digit c = read-other _ _ c.loop-byte.byte-index _ _ (omega arith) c.loop-byte.invariant c.digit_of-digit.ensures.0 c.if-base-digit.true
 
-pub loop-i-preserved : goal.loop-i-preserved
-loop-i-preserved c = (omega arith, read-turn _ _ c.loop-i.i _ _ _ c.requires.0 (omega arith) c.loop-i.invariant.1 c.digit_of-digit.ensures.0 c.if-base-digit.false c.with_digit-value.ensures)
+pub loop-byte-preserved : goal.loop-byte-preserved
+loop-byte-preserved c = read-turn _ _ c.loop-byte.byte-index _ _ _ c.requires.0 (omega arith) c.loop-byte.invariant c.digit_of-digit.ensures.0 c.if-base-digit.false c.with_digit-value.ensures
 
 pub returns : goal.returns
-returns c = let all : c.loop-i.i ≡ length c.args.text.now = omega arith in let some : 0 < length c.args.text.now = omega (arith, c.if-text-eq0.false) in read_all _ _ _ _ some all c.loop-i.invariant.1
+returns c = read_all _ _ c.loop-byte.byte-index _ (grind (arith, nat_tests)) (omega arith) c.loop-byte.invariant

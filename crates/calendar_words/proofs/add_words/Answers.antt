@@ -8,10 +8,10 @@ both : {A B : Type 0} → A × B → record { value : A; words_after : B }
 both p = record { value = p.0; words_after = p.1 }
 
 pub put_keys-requires : goal.put_keys-requires
-put_keys-requires c = (c.requires, (booked _ c.args.start c.args.end _ _ (sym c.in-Keys.is ∙ c.book-keyed.ensures)).room)
+put_keys-requires c = (c.requires, (booked _ c.args.start c.args.end _ _ (sym c.in-Ok.is ∙ c.book-keyed.ensures)).room)
 
-pub returns-in-Keys : goal.returns-in-Keys
-returns-in-Keys c = both (rw c.put_keys.ensures (taken _ _ _ c.requires _ _ (sym c.in-Keys.is ∙ c.book-keyed.ensures)))
+pub returns-in-Ok : goal.returns-in-Ok
+returns-in-Ok c = both (rw c.put_keys.ensures (taken _ _ _ c.requires _ _ (sym c.in-Ok.is ∙ c.book-keyed.ensures)))
 
-pub returns-in-Refused : goal.returns-in-Refused
-returns-in-Refused c = both (rw c.number_of.ensures (refused _ _ _ c.requires _ (sym c.in-Refused.is ∙ c.book-keyed.ensures)))
+pub returns-in-Err : goal.returns-in-Err
+returns-in-Err c = both (rw c.number_of.ensures (refused _ _ _ c.requires _ (sym c.in-Err.is ∙ c.book-keyed.ensures)))

@@ -1,9 +1,6 @@
-use lib.ListN.{length}
-use Prim.Native.Nat.{◌-◌}
+-- `elements_in` ends: the rest of the line gets shorter.
+use Rattle.std.proofs.Common.{length}
 use Rattle.casewords.proofs.elements_in.Given as goal
 
-abbrev pub invariant-loop-i : goal.invariant-loop-i
-invariant-loop-i l = Unit {0}
-
-abbrev pub decreases-loop-i : goal.decreases-loop-i
-decreases-loop-i l = length l.line - l.i
+abbrev pub decreases-loop-first : goal.decreases-loop-first
+decreases-loop-first l = length l.rest

@@ -12,5 +12,5 @@ returns-then-byte-eq80 c = rw (other-symbol _ c.if-byte.false, eq-eqb _ _ c.if-b
 pub returns-then-byte-eq45 : goal.returns-then-byte-eq45
 returns-then-byte-eq45 c = rw (other-symbol _ c.if-byte.false, ne_eqb _ _ c.if-byte-eq80.false, eq-eqb _ _ c.if-byte-eq45.true)
 
-pub returns : goal.returns
-returns c = rw (other-symbol _ c.if-byte.false, ne_eqb _ _ c.if-byte-eq80.false, ne_eqb _ _ c.if-byte-eq45.false)
+pub returns-else-byte-eq45 : goal.returns-else-byte-eq45
+returns-else-byte-eq45 c = rw (other-symbol _ c.if-byte.false, ne_eqb _ _ c.if-byte-eq80.false, ne_eqb _ _ c.if-byte-eq45.false)

@@ -1,20 +1,21 @@
 -- `look_at` meets its contract: what Read answers for the frame decides.
+use Rattle.timecode.specs.Answers.{accepted}
 use native.Mathlib.Omega.{arith}
 use mathlib.Core.Path.{ap, ◌∙◌}
-use Rattle.timecode.specs.declared.Reading.{Reading}
-use Rattle.timecode.specs.declared.Reading.TheVariants.{Accepted}
+use Rattle.std.specs.Prelude.{ℕ, Some, Err}
 use Rattle.due_frames.proofs.Moves.{look-end, look-by}
-use Rattle.due_frames.specs.declared.Looked.{Looked}
 use Rattle.due_frames.proofs.look_at.Goals as goal
+use Rattle.due_frames.proofs.look_at.Goals.{then-recording-n-via-then-recording-n, then-recording-n-via-else-recording-n+then-recording-n-2}
 
 pub returns-then-recording-n : goal.returns-then-recording-n
-returns-then-recording-n c = look-end _ _ _ (omega (arith, c.frame_size-n.ensures))
+returns-then-recording-n c =
+    elim c.then-recording-n.branch [
+      | then-recording-n-via-then-recording-n w ↦ look-end _ _ _ (omega (arith, c.frame_size-n.ensures))
+      | then-recording-n-via-else-recording-n+then-recording-n-2 w ↦ look-end _ _ _ (omega (arith, c.frame_size-n.ensures))
+    ]
 
-pub returns-then-recording-n-2 : goal.returns-then-recording-n-2
-returns-then-recording-n-2 c = look-end _ _ _ (omega (arith, c.frame_size-n.ensures))
+pub returns-in-Ok : goal.returns-in-Ok
+returns-in-Ok c = look-by c.args.format c.args.recording.now c.args.place c.frame_size-n.result _ (accepted _ _) c.frame_size-n.ensures.0 (omega arith) c.read-reading.ensures c.in-Ok.is
 
-pub returns-in-Accepted : goal.returns-in-Accepted
-returns-in-Accepted c = look-by c.args.format c.args.recording.now c.args.place c.frame_size-n.result _ (Accepted _ _) c.frame_size-n.ensures.0 (omega arith) c.read-reading.ensures c.in-Accepted.is
-
-pub returns-in-Refused : goal.returns-in-Refused
-returns-in-Refused c = ap (Looked.Refused c.in-Refused.refusal) c.resume_at.ensures ∙ look-by c.args.format c.args.recording.now c.args.place c.frame_size-n.result _ (Reading.Refused _) c.frame_size-n.ensures.0 (omega arith) c.read-reading.ensures c.in-Refused.is
+pub returns-in-Err : goal.returns-in-Err
+returns-in-Err c = ap (λ (next : ℕ). Some (record { frame = Err c.in-Err.refusal; next = next })) c.resume_at.ensures ∙ look-by c.args.format c.args.recording.now c.args.place c.frame_size-n.result _ (Err _) c.frame_size-n.ensures.0 (omega arith) c.read-reading.ensures c.in-Err.is

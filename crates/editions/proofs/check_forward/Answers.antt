@@ -7,14 +7,14 @@ pub returns-then-year-gt-LAST_YEAR : goal.returns-then-year-gt-LAST_YEAR
 unfolding check_forward
 returns-then-year-gt-LAST_YEAR c = rw (lt-leb _ _ c.if-year-gt-LAST_YEAR.true)
 
-pub returns-then-last_day_in-time : goal.returns-then-last_day_in-time
+pub returns-then-last_day_in-reading : goal.returns-then-last_day_in-reading
 unfolding check_forward
-returns-then-last_day_in-time c = rw (le-leb _ _ c.if-year-gt-LAST_YEAR.false, ← c.last_day_in.ensures, lt-leb _ _ c.if-last_day_in-time.true)
+returns-then-last_day_in-reading c = rw (le-leb _ _ c.if-year-gt-LAST_YEAR.false, ← c.last_day_in.ensures, lt-leb _ _ c.if-last_day_in-reading.true)
 
-pub returns-then-control-ne0 : goal.returns-then-control-ne0
+pub returns-then-reading-ne0 : goal.returns-then-reading-ne0
 unfolding check_forward
-returns-then-control-ne0 c = rw (le-leb _ _ c.if-year-gt-LAST_YEAR.false, ← c.last_day_in.ensures, le-leb _ _ c.if-last_day_in-time.false, ne_eqb _ _ c.if-control-ne0.true)
+returns-then-reading-ne0 c = rw (le-leb _ _ c.if-year-gt-LAST_YEAR.false, ← c.last_day_in.ensures, le-leb _ _ c.if-last_day_in-reading.false, ne_eqb _ _ c.if-reading-ne0.true)
 
 pub returns : goal.returns
 unfolding check_forward
-returns c = rw (le-leb _ _ c.if-year-gt-LAST_YEAR.false, ← c.last_day_in.ensures, le-leb _ _ c.if-last_day_in-time.false, eq-eqb _ _ c.if-control-ne0.false)
+returns c = rw (le-leb _ _ c.if-year-gt-LAST_YEAR.false, ← c.last_day_in.ensures, le-leb _ _ c.if-last_day_in-reading.false, eq-eqb _ _ c.if-reading-ne0.false)

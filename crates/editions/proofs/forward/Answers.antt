@@ -1,4 +1,5 @@
 -- `forward` meets its contract: as read and checked, or refused with the lent frame as it was.
+use Rattle.std.proofs.lemmas.Result.{err_from_is_err_and}
 use mathlib.Core.Path.{refl, sym, ◌∙◌}
 use borrow.Author.Tests.{eqb-true}
 use lib.Dec.{eqb}
@@ -23,13 +24,15 @@ put_forward-requires c =
     let f = start.args.format in
     let frame = start.args.frame.now in
     let fit = sym c.both_fit.ensures ∙ c.if-not-both_fit.false in
-    let reads = sym c.read-reading.ensures ∙ c.in-Accepted.is in
+    let reads = sym c.read.ensures ∙ c.in_ok-reading.was in
     (sym c.is_earlier.ensures ∙ c.if-not-is_earlier.false, (accepted-was-written f frame _ _ reads).0, eqb-true _ _ (and_right (eqb (length frame) (size f)) _ fit))
 
-pub returns-in-Accepted : goal.returns-in-Accepted
+pub returns : goal.returns
 unfolding check_forward forward_of forward_leaves
-returns-in-Accepted c = rw (sym c.is_earlier.ensures ∙ c.if-not-is_earlier.false, sym c.both_fit.ensures ∙ c.if-not-both_fit.false, sym c.read-reading.ensures ∙ c.in-Accepted.is) c.put_forward.ensures
+returns c = rw (sym c.is_earlier.ensures ∙ c.if-not-is_earlier.false, sym c.both_fit.ensures ∙ c.if-not-both_fit.false, sym c.read.ensures ∙ c.in_ok-reading.was) c.put_forward.ensures
 
-pub returns-in-Refused : goal.returns-in-Refused
+pub returns-in_err-reading : goal.returns-in_err-reading
 unfolding check_forward forward_of forward_leaves
-returns-in-Refused c = rw (sym c.is_earlier.ensures ∙ c.if-not-is_earlier.false, sym c.both_fit.ensures ∙ c.if-not-both_fit.false, sym c.read-reading.ensures ∙ c.in-Refused.is) (refl, refl)
+returns-in_err-reading c =
+    let p = err_from_is_err_and c.from_residual.result c.from_residual.ensures.1 in
+    rw (p.1, p.2) (rw (sym c.is_earlier.ensures ∙ c.if-not-is_earlier.false, sym c.both_fit.ensures ∙ c.if-not-both_fit.false, sym c.read.ensures ∙ c.in_err-reading.was) (refl, refl))

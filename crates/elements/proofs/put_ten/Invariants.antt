@@ -5,7 +5,4 @@ use Rattle.elements.specs.Stores.{bits_stored}
 use Rattle.elements.proofs.put_ten.Given as goal
 
 abbrev pub invariant-loop-j : goal.invariant-loop-j
-invariant-loop-j l = (l.j ≤ 8) × (length l.frame ≡ length l.initial.frame) × (l.frame ≡ bits_stored l.initial.frame l.at l.j l.x)
-
-abbrev pub decreases-loop-j : goal.decreases-loop-j
-decreases-loop-j l = 8 - l.j
+invariant-loop-j l = l.frame ≡ bits_stored l.initial.frame l.at l.j l.x

@@ -5,7 +5,4 @@ use Rattle.elements.specs.Tens.{tens}
 use Rattle.elements.proofs.put_tens.Given as goal
 
 abbrev pub invariant-loop-k : goal.invariant-loop-k
-invariant-loop-k l = (l.from ≤ l.k) × (l.k ≤ l.to) × (length l.frame ≡ length l.initial.frame) × (l.frame ≡ tens l.initial.frame l.from l.k l.bits)
-
-abbrev pub decreases-loop-k : goal.decreases-loop-k
-decreases-loop-k l = l.to - l.k
+invariant-loop-k l = l.frame ≡ tens l.initial.frame l.from l.k l.bits

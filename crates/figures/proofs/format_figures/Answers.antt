@@ -16,8 +16,8 @@ returns-then-takes c =
       row.elements_are,
     )
 
-pub returns : goal.returns
+pub returns-else-takes : goal.returns-else-takes
 unfolding format_figures_of
-returns c =
+returns-else-takes c =
     let row = c.row_of-row.ensures in
     rw (sym row.known_is ∙ sym c.takes.ensures ∙ c.if-takes.false, c.number_of.ensures)

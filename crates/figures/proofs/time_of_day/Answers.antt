@@ -11,6 +11,6 @@ pub returns-then-in_range : goal.returns-then-in_range
 unfolding time_of_day_of
 returns-then-in_range c = rw (sym c.in_range.ensures ∙ c.if-in_range.true) c.clock_of.ensures
 
-pub returns : goal.returns
+pub returns-else-in_range : goal.returns-else-in_range
 unfolding time_of_day_of
-returns c = rw (sym c.in_range.ensures ∙ c.if-in_range.false, c.number_of.ensures)
+returns-else-in_range c = rw (sym c.in_range.ensures ∙ c.if-in_range.false, c.number_of.ensures)

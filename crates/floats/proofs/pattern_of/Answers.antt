@@ -8,5 +8,5 @@ returns-then-float c = differs c.args.float c.if-float.true
 pub float_to_bits-result : goal.float_to_bits-result
 float_to_bits-result c = (agrees c.args.float c.if-float.false).0
 
-pub returns : goal.returns
-returns c = (agrees c.args.float c.if-float.false).1
+pub returns-else-float : goal.returns-else-float
+returns-else-float c = (agrees c.args.float c.if-float.false).1

@@ -5,7 +5,4 @@ use lib.ListN.{get_or, length}
 use Rattle.frame.proofs.agree.Given as goal
 
 abbrev pub invariant-loop-i : goal.invariant-loop-i
-invariant-loop-i l = (l.i ≤ length l.frame) × (l.same ≡ true → (k : ℕ) → k < l.i → get_or l.frame k 0 ≡ get_or l.again k 0)
-
-abbrev pub decreases-loop-i : goal.decreases-loop-i
-decreases-loop-i l = length l.frame - l.i
+invariant-loop-i l = l.same ≡ true → (k : ℕ) → k < l.i → get_or l.frame k 0 ≡ get_or l.again k 0

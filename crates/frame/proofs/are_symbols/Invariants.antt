@@ -5,8 +5,5 @@ use lib.ListN.{length, drop}
 use Rattle.timecode.specs.Frames.{are_symbols}
 use Rattle.frame.proofs.are_symbols.Given as goal
 
-abbrev pub invariant-loop-i : goal.invariant-loop-i
-invariant-loop-i l = (l.i ≤ length l.frame) × (are_symbols l.frame ≡ (l.all && are_symbols (drop l.i l.frame)))
-
-abbrev pub decreases-loop-i : goal.decreases-loop-i
-decreases-loop-i l = length l.frame - l.i
+abbrev pub invariant-loop-symbol : goal.invariant-loop-symbol
+invariant-loop-symbol l = are_symbols l.frame ≡ (l.all && are_symbols (drop l.symbol-index l.frame))

@@ -25,20 +25,20 @@ meaning-requires c =
     let f = start.requires.format in
     let frame = start.args.frame.now in
     let same = c.digits_in-digits.ensures ∙ row-digits f start.args.row frame start.requires.not_x start.requires.row_of in
-    let clean = finds-nothing f frame start.requires.is_known start.requires.not_x start.requires.long (sym (λ i. offence_in (put_in (start.requires.long i) (same i)) frame) ∙ sym c.offence_beside-offence.ensures ∙ c.in-Nothing.is) in
+    let clean = finds-nothing f frame start.requires.is_known start.requires.not_x start.requires.long (sym (λ i. offence_in (put_in (start.requires.long i) (same i)) frame) ∙ sym c.offence_beside-offence.ensures ∙ c.in-None.is) in
     (rw c.widths_of-widths.ensures (row-widths start.args.row.runs), subst Digits (sym same) (are-digits f frame start.requires.is_known start.requires.not_x start.requires.long clean))
 
-pub returns-in-At : goal.returns-in-At
-returns-in-At c =
+pub returns-in-Some : goal.returns-in-Some
+returns-in-Some c =
     let start = c in
     let frame = start.args.frame.now in
     λ f k x o n.
     let same = c.digits_in-digits.ensures ∙ row-digits f start.args.row frame x o in
     sym (read-refused-or f frame k x n
-    ∙ ap (λ a. refused_or a (meaning_of (carries_leap f) (carries_year f) (widths_of f) (decode (code_runs f) frame))) (sym (λ i. offence_in (put_in (n i) (same i)) frame) ∙ sym c.offence_beside-offence.ensures ∙ c.in-At.is))
+    ∙ ap (λ a. refused_or a (meaning_of (carries_leap f) (carries_year f) (widths_of f) (decode (code_runs f) frame))) (sym (λ i. offence_in (put_in (n i) (same i)) frame) ∙ sym c.offence_beside-offence.ensures ∙ c.in-Some.is))
 
-pub returns-in-Nothing : goal.returns-in-Nothing
-returns-in-Nothing c =
+pub returns-in-None : goal.returns-in-None
+returns-in-None c =
     let start = c in
     let frame = start.args.frame.now in
     λ f k x o n.
@@ -47,4 +47,4 @@ returns-in-Nothing c =
     c.meaning.ensures
     ∙ (λ i. meaning_of (o.leap_is i) (o.year_is i) (widths i) (same i))
     ∙ sym (read-refused-or f frame k x n
-    ∙ ap (λ a. refused_or a (meaning_of (carries_leap f) (carries_year f) (widths_of f) (decode (code_runs f) frame))) (sym (λ i. offence_in (put_in (n i) (same i)) frame) ∙ sym c.offence_beside-offence.ensures ∙ c.in-Nothing.is))
+    ∙ ap (λ a. refused_or a (meaning_of (carries_leap f) (carries_year f) (widths_of f) (decode (code_runs f) frame))) (sym (λ i. offence_in (put_in (n i) (same i)) frame) ∙ sym c.offence_beside-offence.ensures ∙ c.in-None.is))

@@ -2,10 +2,10 @@
 use Rattle.generator.specs.Sending.{next_start}
 use Rattle.generator.proofs.next_start.Goals as goal
 
-pub returns-in-To : goal.returns-in-To
+pub returns-in-Ok : goal.returns-in-Ok
 unfolding next_start
-returns-in-To c = rw (← c.step-stepped.ensures, c.in-To.is, c.kind_after.ensures)
+returns-in-Ok c = rw (← c.step-stepped.ensures, c.in-Ok.is, c.kind_after.ensures)
 
-pub returns-in-Refused : goal.returns-in-Refused
+pub returns-in-Err : goal.returns-in-Err
 unfolding next_start
-returns-in-Refused c = rw (← c.step-stepped.ensures, c.in-Refused.is)
+returns-in-Err c = rw (← c.step-stepped.ensures, c.in-Err.is)

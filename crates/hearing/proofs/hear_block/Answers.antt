@@ -63,8 +63,8 @@ overflow_add-taken c =
     let within : c.taken_of-taken.result ≤ length a.symbols.now = rw c.taken_of-taken.ensures (fed-within a.progress a.symbols.now blank are-records _ c.feed_block-fed.ensures.value) in
     omega (arith, c.if-taken-symbols.false, c.requires.2)
 
-pub returns : goal.returns
-returns c =
+pub returns-else-taken-symbols : goal.returns-else-taken-symbols
+returns-else-taken-symbols c =
     let a = c.args in
     let pre = c.requires in
     let fed = c.feed_block-fed.ensures in
@@ -76,5 +76,5 @@ returns c =
     let under : taken.result < length a.symbols.now = omega (arith, c.if-taken-symbols.false) in
     let most : c.reports_of.result ≤ taken.result = omega (arith, c.reports_of.ensures, taken.ensures, fed-few a.progress a.symbols.now blank are-records _ fed.value) in
     let part = fed-next a.progress a.symbols.now blank are-records _ fed.value pre.0 _ fed.controls_after _ c.reports_of.ensures (take a.at a.out.now) _ put.2 taken.result taken.ensures under in
-    let is = c.heard_at-2.ensures in
+    let is = c.heard_at-else-taken-symbols.ensures in
     (omega (arith, is.1), omega (arith, is.1), omega (arith, is.1, is.2, one.0, put.0), one.1, is.0 ∙ one.2 ∙ rw (current, is.1) part.0, rw (is.1, is.2) (one.3 ∙ rw current part.1))

@@ -12,9 +12,9 @@ returns-then-infinity-x c =
     let above : lt (inf true) x ≡ true = c.if-infinity-x.true in
     sym (finite-between x ∙ rw above)
 
-pub returns : goal.returns
+pub returns-else-infinity-x : goal.returns-else-infinity-x
 unfolding of_bits div neg
-returns c =
+returns-else-infinity-x c =
     let x = c.args.x in
     let above : lt (inf true) x ≡ false = c.if-infinity-x.false in
     sym (finite-between x ∙ rw above)

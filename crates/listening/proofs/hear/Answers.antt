@@ -1,6 +1,5 @@
 -- `hear` meets its contract.
 use Rattle.listening.specs.Counted.{heard-start, heard-ready, heard-bound, heard-stride}
-use Prim.Native.Nat.{◌-◌}
 use native.Mathlib.Omega.{arith}
 use Rattle.listening.proofs.hear.Goals as goal
 

@@ -1,6 +1,5 @@
 -- `put_damages` meets its contract.
 use Rattle.listening.specs.FrameDamages.{put-start, put-more, put-none}
-use Prim.Native.Nat.{◌-◌}
 use native.Mathlib.Omega.{arith}
 use Rattle.listening.proofs.put_damages.Goals as goal
 

@@ -1,9 +1,5 @@
 use Rattle.listening.specs.FrameDamages.{PutUpTo}
-use Prim.Native.Nat.{◌-◌}
 use Rattle.listening.proofs.put_damages.Given as goal
 
 abbrev pub invariant-loop-at : goal.invariant-loop-at
 invariant-loop-at l = PutUpTo l.past l.n l.numbers l.symbols l.from l.to l.initial.frame l.at l.frame
-
-abbrev pub decreases-loop-at : goal.decreases-loop-at
-decreases-loop-at l = l.to - l.at

@@ -7,6 +7,6 @@ pub returns-then-progress : goal.returns-then-progress
 unfolding ending_of
 returns-then-progress c = (c.requires, omega arith, rw c.if-progress.true)
 
-pub returns : goal.returns
+pub returns-else-progress : goal.returns-else-progress
 unfolding ending_of
-returns c = (c.put_counts.ensures.0, c.put_counts.ensures.1, rw c.if-progress.false c.put_counts.ensures.2)
+returns-else-progress c = (c.put_counts.ensures.0, c.put_counts.ensures.1, rw c.if-progress.false c.put_counts.ensures.2)

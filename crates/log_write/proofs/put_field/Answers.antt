@@ -9,5 +9,5 @@ put_number-requires c = field_room _ _ _ _ _ c.if-number-before.false c.requires
 pub overflow_add-result : goal.overflow_add-result
 overflow_add-result c = omega (arith, field_room _ _ _ _ _ c.if-number-before.false c.requires, c.well_formed)
 
-pub returns : goal.returns
-returns c = field_put _ _ _ _ _ _ c.if-number-before.false c.put_number.ensures
+pub returns-else-number-before : goal.returns-else-number-before
+returns-else-number-before c = field_put _ _ _ _ _ _ c.if-number-before.false c.put_number.ensures

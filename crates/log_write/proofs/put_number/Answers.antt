@@ -1,6 +1,5 @@
 -- `put_number` meets its contract: the rest of the number is still to be put.
 use native.Mathlib.Omega.{arith}
-use Prim.Native.Nat.{◌-◌}
 use Rattle.log_write.specs.Parts.{put-turn, put-end}
 use Rattle.log_write.proofs.put_number.Goals as goal
 

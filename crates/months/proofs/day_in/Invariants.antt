@@ -1,9 +1,6 @@
-use Prim.Native.Nat.{◌-◌}
+use Rattle.calendar.specs.Dates.{month_lengths}
 use Rattle.months.specs.Counting.{Summed}
 use Rattle.months.proofs.day_in.Given as goal
 
-abbrev pub invariant-loop-i : goal.invariant-loop-i
-invariant-loop-i l = Summed l.lengths l.months l.day l.total l.i
-
-abbrev pub decreases-loop-i : goal.decreases-loop-i
-decreases-loop-i l = l.months - l.i
+abbrev pub invariant-loop-length : goal.invariant-loop-length
+invariant-loop-length l = Summed (month_lengths l.year) l.months l.day l.total l.length-index

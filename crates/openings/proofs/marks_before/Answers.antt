@@ -9,6 +9,6 @@ pub returns-then-format-eq88 : goal.returns-then-format-eq88
 unfolding lead is_x
 returns-then-format-eq88 c = (rw (eq-eqb _ _ c.if-format-eq88.true), omega arith)
 
-pub returns : goal.returns
+pub returns-else-format-eq88 : goal.returns-else-format-eq88
 unfolding lead is_x
-returns c = (rw (ne_eqb _ _ c.if-format-eq88.false), omega arith)
+returns-else-format-eq88 c = (rw (ne_eqb _ _ c.if-format-eq88.false), omega arith)

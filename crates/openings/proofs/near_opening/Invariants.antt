@@ -1,11 +1,6 @@
+use Rattle.std.proofs.Common.{◌≡◌, ℕ, ◌≤◌, ◌<◌, false}
 use Rattle.openings.specs.Openings.{marks_meet}
-use Prim.Native.Nat.{ℕ, ◌-◌, ◌≤◌, ◌<◌}
-use mathlib.Core.Bool.{false}
-use mathlib.Core.Path.{◌≡◌}
 use Rattle.openings.proofs.near_opening.Given as goal
 
 abbrev pub invariant-loop-at : goal.invariant-loop-at
-invariant-loop-at l = (l.from ≤ l.at) × (l.at ≤ l.to) × ((j : ℕ) → l.from ≤ j → j < l.at → marks_meet l.marks l.symbols j ≡ false)
-
-abbrev pub decreases-loop-at : goal.decreases-loop-at
-decreases-loop-at l = l.to - l.at
+invariant-loop-at l = (j : ℕ) → l.from ≤ j → j < l.at → marks_meet l.marks l.symbols j ≡ false

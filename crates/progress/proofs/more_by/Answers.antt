@@ -7,5 +7,5 @@ use Rattle.progress.proofs.more_by.Goals as goal
 pub returns-then-more-count : goal.returns-then-more-count
 returns-then-more-count c = sym (more_within _ _ (omega arith))
 
-pub returns : goal.returns
-returns c = sym (more-beyond _ _ (omega arith) (omega arith))
+pub returns-else-more-count : goal.returns-else-more-count
+returns-else-more-count c = sym (more-beyond _ _ (omega arith) (omega arith))

@@ -8,6 +8,6 @@ pub returns-then-count-lt18446744073709551615 : goal.returns-then-count-lt184467
 unfolding one_more
 returns-then-count-lt18446744073709551615 c = rw (lt-ltb _ _ c.if-count-lt18446744073709551615.true) (add-one _)
 
-pub returns : goal.returns
+pub returns-else-count-lt18446744073709551615 : goal.returns-else-count-lt18446744073709551615
 unfolding one_more
-returns c = rw (le-ltb _ _ c.if-count-lt18446744073709551615.false)
+returns-else-count-lt18446744073709551615 c = rw (le-ltb _ _ c.if-count-lt18446744073709551615.false)

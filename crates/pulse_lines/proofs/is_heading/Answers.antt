@@ -7,6 +7,6 @@ pub returns-then-first-line : goal.returns-then-first-line
 unfolding is_heading width_start
 returns-then-first-line c = rw (← c.blanks_end-first.ensures.0, lt-ltb _ _ c.if-first-line.true, ← c.opens_heading.ensures)
 
-pub returns : goal.returns
+pub returns-else-first-line : goal.returns-else-first-line
 unfolding is_heading width_start
-returns c = rw (← c.blanks_end-first.ensures.0, le-ltb _ _ c.if-first-line.false)
+returns-else-first-line c = rw (← c.blanks_end-first.ensures.0, le-ltb _ _ c.if-first-line.false)

@@ -8,10 +8,10 @@ use Rattle.reader_words.proofs.put_fresh.Goals as goal
 both : {A B : Type 0} → A × B → record { value : A; reader_after : B }
 both p = record { value = p.0; reader_after = p.1 }
 
-pub returns-in-Fresh : goal.returns-in-Fresh
+pub returns-in-Ok : goal.returns-in-Ok
 unfolding fresh_left
-returns-in-Fresh c = both (rw (← c.fresh-made.ensures, c.in-Fresh.is, ← made-fresh _ _ _ (sym c.fresh-made.ensures ∙ c.in-Fresh.is)) (refl, c.words_for.ensures))
+returns-in-Ok c = both (rw (← c.fresh-made.ensures, c.in-Ok.is, ← made-fresh _ _ _ (sym c.fresh-made.ensures ∙ c.in-Ok.is)) (refl, c.words_for.ensures))
 
-pub returns-in-Refused : goal.returns-in-Refused
+pub returns-in-Err : goal.returns-in-Err
 unfolding fresh_left
-returns-in-Refused c = both (rw (← c.fresh-made.ensures, c.in-Refused.is, refusal-numbered _, c.number_of.ensures) (refl, refl))
+returns-in-Err c = both (rw (← c.fresh-made.ensures, c.in-Err.is, refusal-numbered _, c.number_of.ensures) (refl, refl))

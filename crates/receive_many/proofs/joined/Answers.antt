@@ -7,6 +7,6 @@ pub returns-then-count-eq0 : goal.returns-then-count-eq0
 unfolding joined_of
 returns-then-count-eq0 c = rw (eq-eqb _ _ c.if-count-eq0.true) c.with_word.ensures
 
-pub returns : goal.returns
+pub returns-else-count-eq0 : goal.returns-else-count-eq0
 unfolding joined_of
-returns c = rw (ne_eqb _ _ c.if-count-eq0.false) c.continued.ensures
+returns-else-count-eq0 c = rw (ne_eqb _ _ c.if-count-eq0.false) c.continued.ensures

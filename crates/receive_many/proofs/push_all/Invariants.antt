@@ -9,8 +9,5 @@ invariant-loop-i l = (l.from ≤ l.i) × (l.i ≤ l.to) × (push_all l.word (sli
 abbrev pub decreases-loop-i : goal.decreases-loop-i
 decreases-loop-i l = l.to - l.i
 
-abbrev pub invariant-loop-i-2 : goal.invariant-loop-i-2
-invariant-loop-i-2 l = (l.from ≤ l.i) × (l.i ≤ l.to) × (push_all l.word (slice l.symbols l.from l.to) ≡ push_all l.newest (slice l.symbols l.i l.to))
-
-abbrev pub decreases-loop-i-2 : goal.decreases-loop-i-2
-decreases-loop-i-2 l = l.to - l.i
+abbrev pub invariant-loop-k : goal.invariant-loop-k
+invariant-loop-k l = push_all l.word (slice l.symbols l.from l.to) ≡ push_all l.newest (slice l.symbols l.k l.to)

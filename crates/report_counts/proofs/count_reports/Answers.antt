@@ -1,6 +1,5 @@
 -- `count_reports` meets its contract: what was counted and what the rest brings is the whole.
 use native.Mathlib.Omega.{arith}
-use Prim.Native.Nat.{◌-◌}
 use Rattle.report_counts.specs.Reports.{directed}
 use Rattle.report_counts.proofs.Counting.{count-fed, count-end, length-directed}
 use Rattle.report_counts.proofs.count_reports.Goals as goal

@@ -2,10 +2,10 @@
 use Rattle.report_counts.specs.Reports.{reports_in}
 use Rattle.report_counts.proofs.reports_in.Goals as goal
 
-pub returns-in-Fresh : goal.returns-in-Fresh
+pub returns-in-Ok : goal.returns-in-Ok
 unfolding reports_in
-returns-in-Fresh c = rw (← c.fresh-made.ensures, c.in-Fresh.is, ← c.count_reports.ensures)
+returns-in-Ok c = rw (← c.fresh-made.ensures, c.in-Ok.is, ← c.count_reports.ensures)
 
-pub returns-in-Refused : goal.returns-in-Refused
+pub returns-in-Err : goal.returns-in-Err
 unfolding reports_in
-returns-in-Refused c = rw (← c.fresh-made.ensures, c.in-Refused.is)
+returns-in-Err c = rw (← c.fresh-made.ensures, c.in-Err.is)

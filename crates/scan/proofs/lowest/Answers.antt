@@ -1,7 +1,7 @@
 -- `lowest` meets its contract: the places from the one reached on decide.
 use native.Mathlib.Omega.{arith}
 use mathlib.Core.Path.{sym, ◌∙◌}
-use Prim.Native.Nat.{◌+◌, ◌-◌}
+use Prim.Native.Nat.{◌+◌}
 use Rattle.scan.specs.Places.{part-at, refused-here, found_here, passed_over, skipped-to, none_left}
 use Rattle.scan.proofs.lowest.Goals as goal
 
@@ -22,7 +22,7 @@ returns-then-may_begin c =
     let start = c in
     let n = c.frame_size-n in
     let reached = c.loop-place in
-    let answer-is = sym (part-at start.args.format start.args.recording.now reached.place n.result n.ensures.0) ∙ sym c.read.ensures ∙ c.in-Accepted.is in
+    let answer-is = sym (part-at start.args.format start.args.recording.now reached.place n.result n.ensures.0) ∙ sym c.read.ensures ∙ c.in-Ok.is in
     let meet = c.may_begin.ensures.0 c.if-may_begin.true in
     sym (reached.invariant.1 ∙ found_here start.args.format start.args.recording.now reached.place (omega (arith, n.ensures.0)) _ c.marks_before-marks.ensures.0 meet _ _ answer-is)
 

@@ -1,6 +1,5 @@
 -- `hear_run` meets its contract.
 use Rattle.simulate.specs.Results.{valid-time, run-start, run-listens-n, run-more-n}
-use Prim.Native.Nat.{◌-◌}
 use native.Mathlib.Omega.{arith}
 use Rattle.simulate.proofs.hear_run.Goals as goal
 

@@ -4,4 +4,4 @@ use Rattle.stream.proofs.feed.Goals as goal
 
 pub returns : goal.returns
 unfolding feed_of
-returns c = rw (← c.next_reader-next.ensures, ← c.answer_to-answer.ensures)
+returns c = rw (← c.next_reader-next.ensures, ← c.answer_to.ensures)

@@ -2,10 +2,10 @@
 use Rattle.stream.specs.Feeding.{row_with}
 use Rattle.stream.proofs.row_with_reading.Goals as goal
 
-pub returns-in-Accepted : goal.returns-in-Accepted
+pub returns-in-Ok : goal.returns-in-Ok
 unfolding row_with
-returns-in-Accepted c = rw (c.in-Accepted.is, ← c.row_after-count.ensures) c.frame_row.ensures
+returns-in-Ok c = rw (c.in-Ok.is, ← c.row_after-count.ensures) c.frame_row.ensures
 
-pub returns-in-Refused : goal.returns-in-Refused
+pub returns-in-Err : goal.returns-in-Err
 unfolding row_with
-returns-in-Refused c = rw c.in-Refused.is c.frame_row-in-Refused.ensures
+returns-in-Err c = rw c.in-Err.is c.frame_row-in-Err.ensures

@@ -1,7 +1,7 @@
 -- `read_tape` meets its contract: every element fits, or a symbol is above 3, or the lowest index that offends decides.
+use Rattle.std.specs.Prelude.{Err}
 use native.Mathlib.Omega.{arith}
 use mathlib.Core.Path.{sym, ap, ◌∙◌}
-use Rattle.timecode.specs.declared.Reading.{Reading}
 use Rattle.timecode.specs.declared.Refusal.{Refusal}
 use Rattle.tape.specs.Readings.{reads_so}
 use Rattle.tape.specs.Offences.{some-offends, reads_all, reads-offence}
@@ -32,5 +32,5 @@ returns c =
     let lowest = c.lowest_offending-index in
     let some = some-offends frame lowest.result lowest.ensures (sym c.all_fit.ensures ∙ c.if-all_fit.false) in
     λ f x k.
-    ap (λ (r : Refusal). Reading.Refused r) c.offence_at.ensures
+    ap (λ (r : Refusal). Err r) c.offence_at.ensures
     ∙ sym (reads-offence f frame x k start.requires lowest.result lowest.ensures some (sym symbols.ensures ∙ c.if-not-are_symbols.false))

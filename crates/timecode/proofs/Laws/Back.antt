@@ -1,5 +1,6 @@
 -- The step back against the step: each undoes the other for every format, time, year length and kind that it takes.
-use Rattle.std.specs.Prelude.{true, ◌&&◌, ◌≡◌, refl, ℕ, ◌+◌, ◌-◌, ◌%◌, ◌≤◌, eqb}
+use Rattle.timecode.specs.declared.Refusal.{Refusal}
+use Rattle.std.specs.Prelude.{true, ◌&&◌, ◌≡◌, refl, ℕ, ◌+◌, ◌-◌, ◌%◌, ◌≤◌, eqb, Result, Ok}
 use Rattle.std.proofs.Common.{sym, ap, ◌∙◌, subst, inl, inr, arith, eqb-true, le-leb, eq-eqb, ne_eqb}
 use Rattle.std.proofs.Math.Nat.{add-mod_right}
 use Rattle.std.proofs.lemmas.Bool.{eqb-false}
@@ -11,8 +12,6 @@ use Rattle.timecode.proofs.Laws.Table.{interval-range, year-not-x}
 use Rattle.timecode.proofs.Laws.Tests.{by-test, clash, and_left}
 use Rattle.timecode.proofs.Laws.Times.{time-path, days-range, year-small, year-carried, year-below}
 use Rattle.timecode.specs.declared.Format.{Format}
-use Rattle.timecode.specs.declared.Stepped.{Stepped}
-use Rattle.timecode.specs.declared.Stepped.TheVariants.{To}
 use Rattle.timecode.specs.declared.Time.{Time}
 use Rattle.timecode.specs.Laws.Back.{Undone, length_before, Comes, Redone}
 
@@ -117,7 +116,7 @@ undone f t length kind u w (inr p) =
       time-path (last_before f (next_day f t length) length kind) t (before-next-year f t length w.from.first) (before-after t.day (turn_day f length) w.from.first turn) (less-end t.hundredths (interval f) (day_end f kind) p.1),
     )
 
-pub step_back : (f : Format) (t : Time) (given kind : ℕ) (u : Time) → step_of f t given kind ≡ To u → step_back_of f u given kind ≡ To t
+pub step_back : (f : Format) (t : Time) (given kind : ℕ) (u : Time) → step_of f t given kind ≡ Ok u → step_back_of f u given kind ≡ Ok t
 unfolding step_back_of
 step_back f t given kind u h =
     let length = length_for f t given in
@@ -125,8 +124,8 @@ step_back f t given kind u h =
     let b = undone f t length kind u w (lands f t length kind u w) in
     let y : year_of_time_before f u ≡ t.year = sym (preceding-year f u length kind) ∙ ap (λ (x : Time). x.year) b.2 in
     ap (λ (x : ℕ). step_back_by f u (length_in f x given) kind) y
-    ∙ step-answers f u length kind w.format (step-on-format f t u (given, kind, h)) w.length_is b.0 w.kind_is b.1 (To (preceding f u length kind))
-    ∙ ap To b.2
+    ∙ step-answers f u length kind w.format (step-on-format f t u (given, kind, h)) w.length_is b.0 w.kind_is b.1 (Ok (preceding f u length kind))
+    ∙ ap Ok b.2
 
 -- number 11 is alike for both steps: where the format carries the year, day 1 is in every year
 lengths-alike : (f : Format) (t : Time) (given : ℕ) → in_year t (length_before f t given) ≡ in_year t (length_for f t given)
@@ -143,20 +142,20 @@ lengths-alike f t given =
     (λ n. rw (y, n)))
     (λ m. rw m)
 
-pub checks-alike : (f : Format) (t : Time) (given kind : ℕ) (answer : Stepped) → check_step f t (length_before f t given) kind answer ≡ check_step f t (length_for f t given) kind answer
+pub checks-alike : (f : Format) (t : Time) (given kind : ℕ) (answer : Result Time Refusal) → check_step f t (length_before f t given) kind answer ≡ check_step f t (length_for f t given) kind answer
 checks-alike f t given kind answer = rw (lengths-alike f t given)
 
 -- a step that was taken is taken again with the same length and kind
-pub step-again : (f : Format) (t u : Time) (given kind : ℕ) → step_of f t given kind ≡ To u → step_of f u given kind ≡ To (following f u (length_for f u given) kind)
+pub step-again : (f : Format) (t u : Time) (given kind : ℕ) → step_of f t given kind ≡ Ok u → step_of f u given kind ≡ Ok (following f u (length_for f u given) kind)
 unfolding step_of step_back_of
 step-again f t u given kind h =
     let before = length_before f u given in
-    let next = To (following f u (length_for f u given) kind) in
+    let next = Ok (following f u (length_for f u given) kind) in
     sym (checks-alike f u given kind next) ∙ answers-alike f u before kind (preceding f u before kind) t (step_back f t given kind u h) next
 
 -- ---- a step back and then a step
 
-came : (f : Format) (u : Time) (given kind : ℕ) (t : Time) → step_back_of f u given kind ≡ To t → Went f u (length_before f u given) kind (preceding f u (length_before f u given) kind) t
+came : (f : Format) (u : Time) (given kind : ℕ) (t : Time) → step_back_of f u given kind ≡ Ok t → Went f u (length_before f u given) kind (preceding f u (length_before f u given) kind) t
 unfolding step_back_of
 came f u given kind t h = went_to f u (length_before f u given) kind (preceding f u (length_before f u given) kind) t h
 
@@ -216,7 +215,7 @@ redone f u length kind t l w (inr p) =
       rw (sum, eq-eqb (day_end f kind) (day_end f kind) refl) (time-path (next_day f (last_before f u length kind) length) u (next-before-year f u length kind w.from.year_is w.from.first w.inside p.1) (after-before u.day (turn_day f length) w.from.first turn) (sym p.1)),
     )
 
-pub back_step : (f : Format) (u : Time) (given kind : ℕ) (t : Time) → step_back_of f u given kind ≡ To t → step_of f t given kind ≡ To u
+pub back_step : (f : Format) (u : Time) (given kind : ℕ) (t : Time) → step_back_of f u given kind ≡ Ok t → step_of f t given kind ≡ Ok u
 unfolding step_of
 back_step f u given kind t h =
     let length = length_before f u given in
@@ -224,8 +223,8 @@ back_step f u given kind t h =
     let b = redone f u length kind t (of-year f (year_of_time_before f u) given) w (comes f u length kind t w) in
     let y : t.year ≡ year_of_time_before f u = ap (λ (x : Time). x.year) (sym w.to) ∙ preceding-year f u length kind in
     ap (λ (x : ℕ). step_by f t (length_in f x given) kind) y
-    ∙ step-answers f t length kind w.format b.0 w.length_is b.1 w.kind_is b.2 (To (following f t length kind))
-    ∙ ap To b.3
+    ∙ step-answers f t length kind w.format b.0 w.length_is b.1 w.kind_is b.2 (Ok (following f t length kind))
+    ∙ ap Ok b.3
 
 -- ---- what else both steps share
 

@@ -1,4 +1,5 @@
 -- A window of its lead and m + 1 frames that is a generator's but at some places: while at most m are damaged it confirms no false time, and undamaged it confirms the last frame's.
+use Rattle.timecode.specs.Answers.{accepted}
 use Rattle.std.specs.Prelude.{◌≡◌, refl, true, false, List, map, ◌⊎◌, ℕ, zero, suc, ◌+◌, ◌*◌, ◌-◌, ◌/◌, ◌%◌, ◌<◌, ◌≤◌, length, get_or}
 use Rattle.std.proofs.Common.{sym, ap, ◌∙◌, inl, inr, mul-le-mul_left, add-zero, arith, ext_get_or}
 use Rattle.std.proofs.Math.Nat.{div-add-mod, lt_of_mul-lt-mul_left, add-mul-mod_self_left, le_of_mul-le-mul_left, div-eq_of_lt-le}
@@ -12,12 +13,11 @@ use Rattle.timecode.proofs.Laws.Places.{member-map, missed}
 use Rattle.timecode.proofs.Laws.Reading.{accepted-was-written}
 use Rattle.timecode.proofs.Laws.Successors.{two-that-follow-are-apart}
 use Rattle.timecode.proofs.Laws.Tests.{by-test}
-use Rattle.timecode.specs.Laws.Windows.{long, Confirmed}
+use Rattle.timecode.specs.Laws.Windows.{long, Confirmed, time_of}
 use Rattle.timecode.proofs.Laws.Windows.{lead-one, lead-none, opens-so, length-frame-in, at-frame, first_of, before_of}
 use Rattle.timecode.proofs.Laws.Writing.{length-written}
 use Rattle.timecode.specs.Stream.{lead, frame_in}
 use Rattle.timecode.specs.declared.Format.{Format}
-use Rattle.timecode.specs.declared.Reading.TheVariants.{Accepted}
 use Rattle.timecode.specs.declared.Time.{Time}
 use Rattle.timecode.specs.Laws.Damage.{Near}
 
@@ -82,7 +82,7 @@ module _ (f : Format) (m : ℕ) (sent : List Sent) (gen : Generator f sent) (sta
         ∙ element-at f sent (q + j) i (omega (arith, frames-inside)) h
 
     -- an untouched frame reads as it was sent
-    untouched-reads : (j : ℕ) → j ≤ m → ((i : ℕ) → i < size f → member (lead f + size f * j + i) places ≡ false) → read_of f (frame_in f window j) ≡ Accepted (sent_at sent (q + j)).time (sent_at sent (q + j)).control
+    untouched-reads : (j : ℕ) → j ≤ m → ((i : ℕ) → i < size f → member (lead f + size f * j + i) places ≡ false) → read_of f (frame_in f window j) ≡ accepted (sent_at sent (q + j)).time (sent_at sent (q + j)).control
     untouched-reads j b d = ap (read_of f) whole ∙ frame-reads f sent gen (q + j) (omega (arith, frames-inside))
       where
         n : length (frame_in f window j) ≡ size f
@@ -128,9 +128,7 @@ module _ (f : Format) (m : ℕ) (sent : List Sent) (gen : Generator f sent) (sta
           (λ i h.
           let y : (lead f + size f * j + i - lead f) / size f ≡ j = div-eq_of_lt-le (size f) (omega arith) (omega arith) in
           member-map (λ p. (p - lead f) / size f) (lead f + size f * j + i) places (rw y x.2)) in
-          let read = untouched-reads j b d in
-          let found = c.reads j b in
-          let right : c.times j ≡ (sent_at sent (q + j)).time = cc in
+          let right : c.times j ≡ (sent_at sent (q + j)).time = ap time_of (sym (c.reads j b) ∙ untouched-reads j b d) in
           let u : j + (m - j) ≡ m = omega arith in
           rw u at (right-on less j (m - j) (omega arith) right)
 

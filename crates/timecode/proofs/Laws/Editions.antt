@@ -1,11 +1,12 @@
 -- Frames converted forward and back are the same: each conversion is a frame that Write writes, so Read takes it. All but the elements 50 to 58 stay.
-use Rattle.std.specs.Prelude.{◌≡◌, refl, true, cond, not, ◌&&◌, List, [], ◌∷◌, ℕ, ◌+◌, ◌-◌, ◌*◌, ◌/◌, ◌%◌, ◌^◌, ◌≤◌, ◌<◌, leb, eqb, length, take, drop, replicate}
+use Rattle.timecode.specs.Answers.{accepted, done}
+use Rattle.std.specs.Prelude.{◌≡◌, refl, true, cond, not, ◌&&◌, List, [], ◌∷◌, ℕ, ◌+◌, ◌-◌, ◌*◌, ◌/◌, ◌%◌, ◌^◌, ◌≤◌, ◌<◌, leb, eqb, length, take, drop, replicate, Err}
 use Rattle.std.proofs.Common.{sym, ap, ap₂, ◌∙◌, subst, arith, leb-true, eqb-true, le-leb, eq-eqb}
 use Rattle.std.proofs.lemmas.Bool.{not-true}
 use Rattle.timecode.specs.Editions.{with_year, without_year, time_in_year, nine_bits, is_earlier, check_forward, check_backward, forward_of, forward_leaves, backward_of, backward_leaves, forward_checks, edition_checks}
 use Rattle.timecode.specs.Formats.{A, B, is_x, member, table, look_up, row_of, known, size, interval, carries_control, carries_seconds, carries_year, control_places, last_year, days_in, carries_leap}
 use Rattle.timecode.specs.Frames.{written, total_width, read_of, Valid}
-use Rattle.timecode.proofs.Laws.Checks.{done, by-reading, all-passed}
+use Rattle.timecode.proofs.Laws.Checks.{done-taken, by-reading, all-passed}
 use Rattle.timecode.proofs.Laws.Reading.{accepted-was-written}
 use Rattle.timecode.specs.Laws.Stepping.{every}
 use Rattle.timecode.proofs.Laws.Stepping.{one_of}
@@ -15,10 +16,7 @@ use Rattle.timecode.proofs.Laws.Times.{time-path, year-small, year-none, year-ca
 use Rattle.timecode.proofs.Laws.Writing.{length-written, written-is-accepted}
 use Rattle.timecode.specs.Layout.{day_carried, seconds, minutes, hours, days, tenths, hundredths_digit, has_seconds, straight_seconds, control, years, time_fields, fields, runs, time_numbers, numbers, is_mark, filler, symbol_at, encode}
 use Rattle.timecode.specs.declared.Format.{Format}
-use Rattle.timecode.specs.declared.Reading.TheVariants.{Accepted}
 use Rattle.timecode.specs.declared.Time.{Time}
-use Rattle.timecode.specs.declared.Written.{Written}
-use Rattle.timecode.specs.declared.Written.TheVariants.{Done}
 use Rattle.timecode.specs.Laws.Editions.{Editions, format, are_known, have_year, have_bits, are_editions, Forward, AllOf, SameRest}
 
 -- ---- the two formats
@@ -115,14 +113,14 @@ module _ (f : Format) (both : Editions f) (t : Time) (w year : ℕ) where
 
 -- ---- forward
 
-forward-checked : (f : Format) (frame : List ℕ) (year : ℕ) → Editions f → check_forward year (read_of f frame) ≡ Done → Forward f frame year
+forward-checked : (f : Format) (frame : List ℕ) (year : ℕ) → Editions f → check_forward year (read_of f frame) ≡ done → Forward f frame year
 unfolding check_forward
 forward-checked f frame year both h =
     by-reading (read_of f frame)
-    (λ r q. absurd (done r (rw q at h)))
+    (λ r q. absurd (done-taken r (rw q at h)))
     (λ t w q.
-    let k : check_forward year (Accepted t w) ≡ Done = rw q at h in
-    let passed = (all-passed Written.Refused (forward_checks year t w) Done Done done k).0 in
+    let k : check_forward year (accepted t w) ≡ done = rw q at h in
+    let passed = (all-passed Err (forward_checks year t w) done done done-taken k).0 in
     record {
       both = both;
       time = t;
@@ -133,13 +131,13 @@ forward-checked f frame year both h =
       free = eqb-true (w % nine_bits) 0 (passed 2);
     })
 
-pub forward-done : (f : Format) (frame : List ℕ) (year : ℕ) (lent : List ℕ) → forward_of f frame year lent ≡ Done → Forward f frame year
+pub forward-done : (f : Format) (frame : List ℕ) (year : ℕ) (lent : List ℕ) → forward_of f frame year lent ≡ done → Forward f frame year
 unfolding forward_of
 forward-done f frame year lent h =
-    let all = all-passed Written.Refused (edition_checks f (is_earlier f) frame lent) (check_forward year (read_of f frame)) Done done h in
+    let all = all-passed Err (edition_checks f (is_earlier f) frame lent) (check_forward year (read_of f frame)) done done-taken h in
     forward-checked f frame year (editions f (all.0 0)) all.1
 
-pub forward-leaves : (f : Format) (frame : List ℕ) (year : ℕ) (lent : List ℕ) → forward_of f frame year lent ≡ Done → (d : Forward f frame year)
+pub forward-leaves : (f : Format) (frame : List ℕ) (year : ℕ) (lent : List ℕ) → forward_of f frame year lent ≡ done → (d : Forward f frame year)
     → forward_leaves f frame year lent ≡ written (with_year f) (time_in_year d.time year) (d.word / nine_bits)
 unfolding forward_leaves
 forward-leaves f frame year lent h d = rw (h, d.reads)
@@ -148,7 +146,7 @@ module _ (f : Format) (frame : List ℕ) (year : ℕ) (d : Forward f frame year)
   abbrev was-written : Valid f d.time d.word × (written f d.time d.word ≡ frame)
   was-written = accepted-was-written f frame d.time d.word d.reads
 
-  pub forward-reads : read_of (with_year f) (written (with_year f) (time_in_year d.time year) (d.word / nine_bits)) ≡ Accepted (time_in_year d.time year) (d.word / nine_bits)
+  pub forward-reads : read_of (with_year f) (written (with_year f) (time_in_year d.time year) (d.word / nine_bits)) ≡ accepted (time_in_year d.time year) (d.word / nine_bits)
   forward-reads =
       written-is-accepted (with_year f) (time_in_year d.time year) (d.word / nine_bits)
       (later-valid f d.both d.time d.word year was-written.0 d.year_is d.within_year)
@@ -162,18 +160,18 @@ module _ (f : Format) (frame : List ℕ) (year : ℕ) (d : Forward f frame year)
 
 -- ---- backward
 
-pub backward-takes : (f : Format) (frame lent : List ℕ) (t : Time) (w : ℕ) → carries_year f ≡ true → length frame ≡ size f → length lent ≡ size f → read_of f frame ≡ Accepted t w → backward_of f frame lent ≡ Done
+pub backward-takes : (f : Format) (frame lent : List ℕ) (t : Time) (w : ℕ) → carries_year f ≡ true → length frame ≡ size f → length lent ≡ size f → read_of f frame ≡ accepted t w → backward_of f frame lent ≡ done
 unfolding backward_of
 backward-takes f frame lent t w k n m h = rw (k, eq-eqb (length frame) (size f) n, eq-eqb (length lent) (size f) m, h)
 
-pub backward-leaves : (f : Format) (frame lent : List ℕ) (t : Time) (w : ℕ) → backward_of f frame lent ≡ Done → read_of f frame ≡ Accepted t w → backward_leaves f frame lent ≡ written (without_year f) (time_in_year t 0) (w * nine_bits)
+pub backward-leaves : (f : Format) (frame lent : List ℕ) (t : Time) (w : ℕ) → backward_of f frame lent ≡ done → read_of f frame ≡ accepted t w → backward_leaves f frame lent ≡ written (without_year f) (time_in_year t 0) (w * nine_bits)
 unfolding backward_leaves
 backward-leaves f frame lent t w h r = rw (h, r)
 
 -- ---- forward and back
 
-pub forward-back : (f : Format) (frame : List ℕ) (year : ℕ) (lent again : List ℕ) → forward_of f frame year lent ≡ Done → length again ≡ size f
-    → (backward_of (with_year f) (forward_leaves f frame year lent) again ≡ Done) × (backward_leaves (with_year f) (forward_leaves f frame year lent) again ≡ frame)
+pub forward-back : (f : Format) (frame : List ℕ) (year : ℕ) (lent again : List ℕ) → forward_of f frame year lent ≡ done → length again ≡ size f
+    → (backward_of (with_year f) (forward_leaves f frame year lent) again ≡ done) × (backward_leaves (with_year f) (forward_leaves f frame year lent) again ≡ frame)
 unfolding size row_of
 forward-back f frame year lent again h n =
     let d = forward-done f frame year lent h in
@@ -191,8 +189,8 @@ forward-back f frame year lent again h n =
 
 -- ---- back and forward
 
-pub back-forward : (f : Format) (frame : List ℕ) (lent again : List ℕ) (t : Time) (w : ℕ) → is_earlier f ≡ true → read_of (with_year f) frame ≡ Accepted t w → backward_of (with_year f) frame lent ≡ Done → length again ≡ size f
-    → (forward_of f (backward_leaves (with_year f) frame lent) t.year again ≡ Done) × (forward_leaves f (backward_leaves (with_year f) frame lent) t.year again ≡ frame)
+pub back-forward : (f : Format) (frame : List ℕ) (lent again : List ℕ) (t : Time) (w : ℕ) → is_earlier f ≡ true → read_of (with_year f) frame ≡ accepted t w → backward_of (with_year f) frame lent ≡ done → length again ≡ size f
+    → (forward_of f (backward_leaves (with_year f) frame lent) t.year again ≡ done) × (forward_leaves f (backward_leaves (with_year f) frame lent) t.year again ≡ frame)
 unfolding forward_of check_forward forward_leaves
 back-forward f frame lent again t w k reads h n =
     let both = editions f k in
@@ -233,25 +231,25 @@ same_rest f h =
     (of-all (λ l. AllOf (λ e. SameRest (format l e)) (0 ∷ 1 ∷ 2 ∷ 3 ∷ [])) (A ∷ B ∷ []) same-rests f.letter l)
     f.expression e
 
-pub forward-keeps : (f : Format) (frame : List ℕ) (year : ℕ) (lent : List ℕ) → forward_of f frame year lent ≡ Done
+pub forward-keeps : (f : Format) (frame : List ℕ) (year : ℕ) (lent : List ℕ) → forward_of f frame year lent ≡ done
     → (take 50 (forward_leaves f frame year lent) ≡ take 50 frame) × (drop 59 (forward_leaves f frame year lent) ≡ drop 59 frame)
 unfolding forward_of
 forward-keeps f frame year lent h =
     let d = forward-done f frame year lent h in
-    let rest = same_rest f ((all-passed Written.Refused (edition_checks f (is_earlier f) frame lent) (check_forward year (read_of f frame)) Done done h).0 0) d.time year d.word in
+    let rest = same_rest f ((all-passed Err (edition_checks f (is_earlier f) frame lent) (check_forward year (read_of f frame)) done done-taken h).0 0) d.time year d.word in
     let was = (was-written f frame year d).1 in
     rw (forward-leaves f frame year lent h d) (rest.0 ∙ ap (take 50) was, rest.1 ∙ ap (drop 59) was)
 
-backward-read : (f : Format) (frame lent : List ℕ) → backward_of f frame lent ≡ Done → (carries_year f ≡ true) × (t : Time) × (w : ℕ) × (read_of f frame ≡ Accepted t w)
+backward-read : (f : Format) (frame lent : List ℕ) → backward_of f frame lent ≡ done → (carries_year f ≡ true) × (t : Time) × (w : ℕ) × (read_of f frame ≡ accepted t w)
 unfolding backward_of
 backward-read f frame lent h =
-    let all = all-passed Written.Refused (edition_checks f (carries_year f) frame lent) (check_backward (read_of f frame)) Done done h in
-    by-reading (read_of f frame) (λ r q. absurd (done r (rw q at all.1))) (λ t w q. (all.0 0, t, w, q))
+    let all = all-passed Err (edition_checks f (carries_year f) frame lent) (check_backward (read_of f frame)) done done-taken h in
+    by-reading (read_of f frame) (λ r q. absurd (done-taken r (rw q at all.1))) (λ t w q. (all.0 0, t, w, q))
 
-pub backward-year : (f : Format) (frame lent : List ℕ) → backward_of f frame lent ≡ Done → carries_year f ≡ true
+pub backward-year : (f : Format) (frame lent : List ℕ) → backward_of f frame lent ≡ done → carries_year f ≡ true
 backward-year f frame lent h = (backward-read f frame lent h).0
 
-pub backward-keeps : (f : Format) (frame lent : List ℕ) → is_earlier f ≡ true → backward_of (with_year f) frame lent ≡ Done
+pub backward-keeps : (f : Format) (frame lent : List ℕ) → is_earlier f ≡ true → backward_of (with_year f) frame lent ≡ done
     → (take 50 (backward_leaves (with_year f) frame lent) ≡ take 50 frame)
     × (drop 59 (backward_leaves (with_year f) frame lent) ≡ drop 59 frame)
     × (take 9 (drop 50 (backward_leaves (with_year f) frame lent)) ≡ replicate 9 0)

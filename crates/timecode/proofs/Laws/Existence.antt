@@ -1,5 +1,6 @@
 -- There are generators: of every format, from every time that Write takes, with any control words that it takes, of any length; and each goes on by any step.
-use Rattle.std.specs.Prelude.{◌≡◌, refl, true, List, [], ◌∷◌, ◌++◌, ℕ, zero, suc, ◌+◌, ◌-◌, ◌<◌, ◌≤◌, get_or, length}
+use Rattle.timecode.specs.Answers.{done}
+use Rattle.std.specs.Prelude.{◌≡◌, refl, true, List, [], ◌∷◌, ◌++◌, ℕ, zero, suc, ◌+◌, ◌-◌, ◌<◌, ◌≤◌, get_or, length, Ok}
 use Rattle.std.proofs.Common.{sym, ap, ◌∙◌, not-suc-le-zero, arith, length-append, get_or-append-add}
 use Rattle.std.proofs.Math.Decide.{dec_lt}
 use Rattle.std.proofs.Math.ListN.{get_or-append}
@@ -8,9 +9,7 @@ use Rattle.timecode.specs.Frames.{second_added, Follows, write_of, Sent, no_fram
 use Rattle.timecode.proofs.Laws.Stepping.{goes, step-on-format}
 use Rattle.timecode.proofs.Laws.Writing.{takes}
 use Rattle.timecode.specs.declared.Format.{Format}
-use Rattle.timecode.specs.declared.Stepped.TheVariants.{To}
 use Rattle.timecode.specs.declared.Time.{Time}
-use Rattle.timecode.specs.declared.Written.TheVariants.{Done}
 use Rattle.timecode.specs.Laws.Existence.{after, frames}
 
 pub length-frames : (f : Format) (t : Time) (ws : List ℕ) → length (frames f t ws) ≡ length ws
@@ -32,7 +31,7 @@ first-time f t (w ∷ ws) h = refl
 steps-at : (f : Format) → known f ≡ true → (ws : List ℕ) (t : Time) → OnFormat f t → (j : ℕ) → suc j < length ws → Follows f (get_or (frames f t ws) j no_frame).time (get_or (frames f t ws) (suc j) no_frame).time
 unfolding frames
 steps-at f k [] t o j h = absurd (not-suc-le-zero h)
-steps-at f k (w ∷ ws) t o zero h = (366, second_added, goes f t k o ∙ ap To (sym (first-time f (after f t) ws (omega arith))))
+steps-at f k (w ∷ ws) t o zero h = (366, second_added, goes f t k o ∙ ap Ok (sym (first-time f (after f t) ws (omega arith))))
 steps-at f k (w ∷ ws) t o (suc j) h = steps-at f k ws (after f t) (step-on-format f t (after f t) (366, second_added, goes f t k o)) j (omega arith)
 
 pub generator : (f : Format) (t : Time) (ws : List ℕ) → ((j : ℕ) → j < length ws → Valid f t (get_or ws j 0)) → Generator f (frames f t ws)
@@ -57,14 +56,14 @@ module _ (sent : List Sent) (s : Sent) where
   newest j p = let u : j ≡ length sent + 0 = omega arith in rw u (get_or-append-add sent (s ∷ []) 0 no_frame)
 
   pub goes_on : (f : Format) → Generator f sent → 0 < length sent → Follows f (get_or sent (length sent - 1) no_frame).time s.time
-      → ((lent : List ℕ) → length lent ≡ size f → write_of f (get_or sent 0 no_frame).time s.control lent ≡ Done) → Generator f (sent ++ (s ∷ []))
+      → ((lent : List ℕ) → length lent ≡ size f → write_of f (get_or sent 0 no_frame).time s.control lent ≡ done) → Generator f (sent ++ (s ∷ []))
   goes_on f gen some follows takes =
       record {
         takes = λ j h lent n. rw (earlier 0 some) (takes_at j (omega (arith, length-append sent (s ∷ []))) (dec_lt j (length sent)) lent n);
         steps = λ j h. steps-at j (omega (arith, length-append sent (s ∷ []))) (dec_lt (suc j) (length sent));
       }
     where
-      takes_at : (j : ℕ) → j ≤ length sent → Dec (j < length sent) → (lent : List ℕ) → length lent ≡ size f → write_of f (get_or sent 0 no_frame).time (get_or (sent ++ (s ∷ [])) j no_frame).control lent ≡ Done
+      takes_at : (j : ℕ) → j ≤ length sent → Dec (j < length sent) → (lent : List ℕ) → length lent ≡ size f → write_of f (get_or sent 0 no_frame).time (get_or (sent ++ (s ∷ [])) j no_frame).control lent ≡ done
       takes_at j h (yes a) lent n = rw (earlier j a) (gen.takes j a lent n)
       takes_at j h (no a) lent n = rw (newest j (omega arith)) (takes lent n)
 

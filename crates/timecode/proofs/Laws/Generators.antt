@@ -1,4 +1,5 @@
 -- A generator's elements by their index: its frames are valid and read as they were sent, and two marks stand side by side only where one frame ends and the next begins; in X a mark stands only where a frame begins.
+use Rattle.timecode.specs.Answers.{accepted}
 use Rattle.std.specs.Prelude.{◌≡◌, true, false, List, [], ◌∷◌, ◌⊎◌, ℕ, zero, suc, ◌+◌, ◌*◌, ◌/◌, ◌%◌, ◌<◌, ◌≤◌, length, get_or, replicate}
 use Rattle.std.proofs.Common.{sym, ap, ◌∙◌, inl, inr, not-suc-le-zero, mod-lt, mul-zero, arith, length-append, get_or-append-add}
 use Rattle.std.proofs.Math.Nat.{div-add-mod, lt_of_mul-lt-mul_left}
@@ -13,7 +14,6 @@ use Rattle.timecode.proofs.Laws.Table.{two-sizes}
 use Rattle.timecode.proofs.Laws.Writing.{length-written, symbol-small, written-is-accepted, taken}
 use Rattle.timecode.specs.Layout.{filler, fields, runs, numbers, all_digits}
 use Rattle.timecode.specs.declared.Format.{Format}
-use Rattle.timecode.specs.declared.Reading.TheVariants.{Accepted}
 use Rattle.timecode.specs.Laws.Generators.{frame_of, PlaceInFrame, MarkAt, Pair}
 
 pub length-elements : (f : Format) (sent : List Sent) → length (elements f sent) ≡ size f * length sent
@@ -51,7 +51,7 @@ module _ (f : Format) (sent : List Sent) (gen : Generator f sent) where
   pub sent-valid : (j : ℕ) → j < length sent → Valid f (sent_at sent j).time (sent_at sent j).control
   sent-valid j h = let v = first-valid j h in record { format = v.format; time = times-on j h; room = v.room }
 
-  pub frame-reads : (j : ℕ) → j < length sent → read_of f (frame_of f (sent_at sent j)) ≡ Accepted (sent_at sent j).time (sent_at sent j).control
+  pub frame-reads : (j : ℕ) → j < length sent → read_of f (frame_of f (sent_at sent j)) ≡ accepted (sent_at sent j).time (sent_at sent j).control
   frame-reads j h = written-is-accepted f (sent_at sent j).time (sent_at sent j).control (sent-valid j h)
 
 -- each element is a symbol

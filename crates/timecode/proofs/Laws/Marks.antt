@@ -1,4 +1,5 @@
 -- Where the marks of a written frame stand, and of an accepted one: a frame begins with a mark and ends with what its format says.
+use Rattle.timecode.specs.Answers.{accepted}
 use Rattle.std.specs.Prelude.{◌≡◌, refl, true, false, not, ◌&&◌, List, ◌⊎◌, ℕ, ◌-◌, ◌%◌, ◌<◌, eqb, get_or, length}
 use Rattle.std.proofs.Common.{sym, ap, ◌∙◌, inl, inr, arith, eqb-true, eq-eqb}
 use Rattle.std.proofs.lemmas.Bool.{not-true}
@@ -12,7 +13,6 @@ use Rattle.timecode.proofs.Laws.Tests.{by-test, clash, and_left, and_right, or-o
 use Rattle.timecode.proofs.Laws.Writing.{length-written, written_small}
 use Rattle.timecode.specs.Layout.{seconds, minutes, hours, days, tenths, hundredths_digit, has_seconds, straight_seconds, control, years, time_fields, fields, runs, numbers, all_digits, is_mark, filler, ending, symbol_at}
 use Rattle.timecode.specs.declared.Format.{Format}
-use Rattle.timecode.specs.declared.Reading.TheVariants.{Accepted}
 use Rattle.timecode.specs.declared.Time.{Time}
 use Rattle.timecode.specs.Laws.Marks.{EndsSo}
 
@@ -87,18 +87,18 @@ ends-marked f n = rw n
 
 -- ---- an accepted frame
 
-pub accepted-first : (f : Format) (frame : List ℕ) (t : Time) (w : ℕ) → read_of f frame ≡ Accepted t w → get_or frame 0 0 ≡ 2
+pub accepted-first : (f : Format) (frame : List ℕ) (t : Time) (w : ℕ) → read_of f frame ≡ accepted t w → get_or frame 0 0 ≡ 2
 accepted-first f frame t w h =
     let p = accepted-was-written f frame t w h in
     ap (λ (x : List ℕ). get_or x 0 0) (sym p.1) ∙ first-mark f t w p.0
 
-pub accepted-ending : (f : Format) (frame : List ℕ) (t : Time) (w : ℕ) → read_of f frame ≡ Accepted t w → get_or frame (size f - 1) 0 ≡ ending f
+pub accepted-ending : (f : Format) (frame : List ℕ) (t : Time) (w : ℕ) → read_of f frame ≡ accepted t w → get_or frame (size f - 1) 0 ≡ ending f
 accepted-ending f frame t w h =
     let p = accepted-was-written f frame t w h in
     ap (λ (x : List ℕ). get_or x (size f - 1) 0) (sym p.1) ∙ last-element f t w p.0
 
-pub accepted-last : (f : Format) (frame : List ℕ) (t : Time) (w : ℕ) → is_x f ≡ false → read_of f frame ≡ Accepted t w → get_or frame (size f - 1) 0 ≡ 2
+pub accepted-last : (f : Format) (frame : List ℕ) (t : Time) (w : ℕ) → is_x f ≡ false → read_of f frame ≡ accepted t w → get_or frame (size f - 1) 0 ≡ 2
 accepted-last f frame t w n h = accepted-ending f frame t w h ∙ ends-marked f n
 
-pub accepted-length : (f : Format) (frame : List ℕ) (t : Time) (w : ℕ) → read_of f frame ≡ Accepted t w → length frame ≡ size f
+pub accepted-length : (f : Format) (frame : List ℕ) (t : Time) (w : ℕ) → read_of f frame ≡ accepted t w → length frame ≡ size f
 accepted-length f frame t w h = ap length (sym (accepted-was-written f frame t w h).1) ∙ length-written f t w

@@ -1,12 +1,12 @@
 -- Read accepts exactly the bytes as which a time and a control word are written, and gives those.
-use Rattle.std.specs.Prelude.{◌≡◌, Bool, true, false, ◌&&◌, List, [], ◌∷◌, ◌++◌, map, ℕ, zero, suc, ◌+◌, ◌*◌, ◌/◌, ◌%◌, ◌<◌, ◌≤◌, leb, eqb, get_or, length}
+use Rattle.std.specs.Prelude.{◌≡◌, Bool, true, false, ◌&&◌, List, [], ◌∷◌, ◌++◌, map, ℕ, zero, suc, ◌+◌, ◌*◌, ◌/◌, ◌%◌, ◌<◌, ◌≤◌, leb, eqb, get_or, length, Result, Err}
 use Rattle.std.proofs.Math.Path.{refl, ap}
 use Rattle.std.proofs.Common.{sym, ◌∙◌, subst, subst₂, inl, inr, not-suc-le-zero, add-zero, zero-add, add-suc, suc-add, mod-eq_of_lt, arith, leb-true, leb-false, eqb-true}
 use Rattle.std.proofs.Math.Nat.{mod-one}
-use Rattle.timecode.specs.Answers.{refusal_number}
+use Rattle.timecode.specs.Answers.{refusal_number, accepted}
 use Rattle.timecode.specs.Formats.{is_x, known, size, carries_year, control_places, year_carried, last_day_in, last_hundredth, day_length, carries_control, carries_leap, OnFormat}
 use Rattle.timecode.specs.Frames.{day_in, written, marks_agree, element_fits, check_elements, are_digits, last_second, is_time, time_in, seconds_agree, read_of, Valid, frame_checks, digit_checks}
-use Rattle.timecode.proofs.Laws.Checks.{passed, all-passed, accepted, refused-up-to}
+use Rattle.timecode.proofs.Laws.Checks.{passed, all-passed, accepted-taken, same_reading, refused-up-to}
 use Rattle.timecode.specs.Laws.Digits.{Below, capacity, joined}
 use Rattle.timecode.proofs.Laws.Digits.{joined-lt, digits-agree, number-joined}
 use Rattle.timecode.specs.Laws.Fields.{Binary}
@@ -18,7 +18,6 @@ use Rattle.timecode.proofs.Laws.Times.{last-range, year-carried, none-added, one
 use Rattle.timecode.specs.Layout.{day_carried, Run, binary_if, seconds, minutes, hours, days, tenths, hundredths_digit, has_seconds, straight_seconds, control, years, time_fields, fields, flatten, runs, second, minute, hour, time_numbers, numbers, field_digits, all_digits, filler, encode, value, number_in, Small, decode}
 use Rattle.timecode.specs.declared.Format.{Format}
 use Rattle.timecode.specs.declared.Reading.{Reading}
-use Rattle.timecode.specs.declared.Reading.TheVariants.{Accepted}
 use Rattle.timecode.specs.declared.Refusal.TheVariants.{MisplacedMark, InvalidElement}
 use Rattle.timecode.specs.declared.Refusal.{Refusal}
 use Rattle.timecode.specs.declared.Time.{Time}
@@ -26,13 +25,13 @@ use Rattle.timecode.specs.Laws.Reading.{InMinute, IsTime}
 
 -- ---- elements that offend
 
-elements-passed : (fillers : ℕ → ℕ) (rs : List Run) (ss : List ℕ) (i : ℕ) (a : Reading) (t : Time) (w : ℕ) → check_elements fillers rs i ss a ≡ Accepted t w
-    → ((k : ℕ) → k < length ss → element_fits fillers rs (i + k) (get_or ss k 0) ≡ true) × (a ≡ Accepted t w)
+elements-passed : (fillers : ℕ → ℕ) (rs : List Run) (ss : List ℕ) (i : ℕ) (a : Result Reading Refusal) (t : Time) (w : ℕ) → check_elements fillers rs i ss a ≡ accepted t w
+    → ((k : ℕ) → k < length ss → element_fits fillers rs (i + k) (get_or ss k 0) ≡ true) × (a ≡ accepted t w)
 unfolding check_elements
 elements-passed fillers rs [] i a t w h = (λ k l. absurd (not-suc-le-zero l), h)
 elements-passed fillers rs (s ∷ ss) i a t w h =
-    let marks = passed Reading.Refused (MisplacedMark i) (marks_agree fillers rs i s) _ (Accepted t w) (accepted t w) h in
-    let here = passed Reading.Refused (InvalidElement i) (element_fits fillers rs i s) _ (Accepted t w) (accepted t w) marks.1 in
+    let marks = passed Err (MisplacedMark i) (marks_agree fillers rs i s) _ (accepted t w) (accepted-taken t w) h in
+    let here = passed Err (InvalidElement i) (element_fits fillers rs i s) _ (accepted t w) (accepted-taken t w) marks.1 in
     let later = elements-passed fillers rs ss (suc i) a t w here.1 in
     (clean here.0 later.0, later.1)
   where
@@ -40,7 +39,7 @@ elements-passed fillers rs (s ∷ ss) i a t w h =
     clean z c zero l = rw (add-zero i) z
     clean z c (suc k) l = rw (add-suc i k, ← suc-add i k) (c k (omega arith))
 
-pub elements-pass : (fillers : ℕ → ℕ) (rs : List Run) (ss : List ℕ) (i : ℕ) (a : Reading) → ((k : ℕ) → k < length ss → element_fits fillers rs (i + k) (get_or ss k 0) ≡ true) → check_elements fillers rs i ss a ≡ a
+pub elements-pass : (fillers : ℕ → ℕ) (rs : List Run) (ss : List ℕ) (i : ℕ) (a : Result Reading Refusal) → ((k : ℕ) → k < length ss → element_fits fillers rs (i + k) (get_or ss k 0) ≡ true) → check_elements fillers rs i ss a ≡ a
 unfolding check_elements
 elements-pass fillers rs [] i a c = refl
 elements-pass fillers rs (s ∷ ss) i a c =
@@ -216,23 +215,21 @@ module _ (f : Format) (frame : List ℕ) (k : known f ≡ true) (n : length fram
   unfolding written
   read-written = ap (encode (size f) (filler f) (runs f)) digits_same ∙ encode-decode (size f) (filler f) (runs f) frame (layout-proper f k) n clean
 
-pub accepted-was-written : (f : Format) (frame : List ℕ) (t : Time) (w : ℕ) → read_of f frame ≡ Accepted t w → Valid f t w × (written f t w ≡ frame)
+pub accepted-was-written : (f : Format) (frame : List ℕ) (t : Time) (w : ℕ) → read_of f frame ≡ accepted t w → Valid f t w × (written f t w ≡ frame)
 unfolding read_of
 accepted-was-written f frame t w h =
-    let a = all-passed Reading.Refused (frame_checks f frame) _ (Accepted t w) (accepted t w) h in
+    let a = all-passed Err (frame_checks f frame) _ (accepted t w) (accepted-taken t w) h in
     let d = elements-passed (filler f) (runs f) frame 0 _ t w a.1 in
-    let e = all-passed Reading.Refused (digit_checks f frame) _ (Accepted t w) (accepted t w) d.1 in
-    let last = e.1 in
-    let same-time : time_in f frame ≡ t = cc in
-    let same-control : number_in frame (control f) ≡ w = cc in
+    let e = all-passed Err (digit_checks f frame) _ (accepted t w) (accepted-taken t w) d.1 in
+    let same = same_reading (time_in f frame) t (number_in frame (control f)) w e.1 in
     let n = eqb-true (length frame) (size f) (a.0 1) in
     let clean : Clean (size f) (filler f) (runs f) frame = λ i l. rw (zero-add i) at (d.0 i (omega arith)) in
-    subst₂ (λ (x : Time) (y : ℕ). Valid f x y × (written f x y ≡ frame)) same-time same-control
+    subst₂ (λ (x : Time) (y : ℕ). Valid f x y × (written f x y ≡ frame)) same.0 same.1
     (read-valid f frame (a.0 0) n clean (is-time f frame (e.0 0)) (e.0 1), read-written f frame (a.0 0) n clean (is-time f frame (e.0 0)) (e.0 1))
 
 -- ---- the numbers that Read refuses with
 
-pub elements-up-to : (fillers : ℕ → ℕ) (rs : List Run) (ss : List ℕ) (i : ℕ) (a : Reading) (r : Refusal) → (a ≡ Reading.Refused r → refusal_number r ≤ 8) → check_elements fillers rs i ss a ≡ Reading.Refused r → refusal_number r ≤ 8
+pub elements-up-to : (fillers : ℕ → ℕ) (rs : List Run) (ss : List ℕ) (i : ℕ) (a : Result Reading Refusal) (r : Refusal) → (a ≡ Err r → refusal_number r ≤ 8) → check_elements fillers rs i ss a ≡ Err r → refusal_number r ≤ 8
 unfolding check_elements
 elements-up-to fillers rs [] i a r later = later
 elements-up-to fillers rs (s ∷ ss) i a r later =

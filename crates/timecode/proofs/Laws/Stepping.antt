@@ -1,5 +1,5 @@
 -- Step taken apart: a step of a time on the format is on the format, next after is some step, and the times that follow one.
-use Rattle.std.specs.Prelude.{◌≡◌, refl, Bool, true, false, ◌&&◌, List, [], ◌∷◌, ◌⊎◌, ℕ, suc, ◌+◌, ◌*◌, ◌/◌, ◌%◌, ◌≤◌, ◌<◌, leb, ltb, eqb}
+use Rattle.std.specs.Prelude.{◌≡◌, refl, Bool, true, false, ◌&&◌, List, [], ◌∷◌, ◌⊎◌, ℕ, suc, ◌+◌, ◌*◌, ◌/◌, ◌%◌, ◌≤◌, ◌<◌, leb, ltb, eqb, Result, Ok, Err}
 use Rattle.std.proofs.Common.{sym, ap, ◌∙◌, subst, inl, inr, mul-le-mul_left, arith, leb-true, ltb-true, eqb-true, le-leb, lt-ltb, ne_eqb}
 use Rattle.std.proofs.Math.Nat.{add-mod_right, zero-mod, div-add-mod, lt_of_mul-lt-mul_left}
 use Rattle.std.proofs.lemmas.Bool.{eqb-false}
@@ -14,17 +14,15 @@ use Rattle.timecode.proofs.Laws.Times.{same-is, same_self, last-range, day-in-ye
 use Rattle.timecode.specs.declared.Format.{Format}
 use Rattle.timecode.specs.declared.Refusal.TheVariants.{InvalidYearLength, InvalidKind}
 use Rattle.timecode.specs.declared.Refusal.{Refusal}
-use Rattle.timecode.specs.declared.Stepped.{Stepped}
-use Rattle.timecode.specs.declared.Stepped.TheVariants.{To}
 use Rattle.timecode.specs.declared.Time.{Time}
 use Rattle.timecode.specs.Laws.Stepping.{Went, length_for, OfYear, every, IsDayEnd, Lands, Alike}
 
 -- ---- the checks of both steps
 
-pub went_to : (f : Format) (t : Time) (length kind : ℕ) (v u : Time) → check_step f t length kind (To v) ≡ To u → Went f t length kind v u
+pub went_to : (f : Format) (t : Time) (length kind : ℕ) (v u : Time) → check_step f t length kind (Ok v) ≡ Ok u → Went f t length kind v u
 unfolding in_year on_day
 went_to f t length kind v u h =
-    let all = all-passed Stepped.Refused (step_checks f t length kind) (To v) (To u) (next u) h in
+    let all = all-passed Err (step_checks f t length kind) (Ok v) (Ok u) (next u) h in
     let passed = all.0 in
     let last = all.1 in
     record {
@@ -39,18 +37,18 @@ went_to f t length kind v u h =
 
 -- both steps answer where the checks are passed
 pub step-answers : (f : Format) (t : Time) (length kind : ℕ) → known f ≡ true → OnFormat f t → member length year_lengths ≡ true → t.day ≤ length → member kind kinds ≡ true → t.hundredths < day_end f kind
-    → (answer : Stepped) → check_step f t length kind answer ≡ answer
+    → (answer : Result Time Refusal) → check_step f t length kind answer ≡ answer
 unfolding in_year on_day
 step-answers f t length kind k o l i m b answer = rw (k, o.year_is, is-on-format f t o, is_carried f t o, l, le-leb t.day length i, m, lt-ltb t.hundredths (day_end f kind) b)
 
-pub answers-alike : (f : Format) (t : Time) (length kind : ℕ) (v u : Time) → check_step f t length kind (To v) ≡ To u → (answer : Stepped) → check_step f t length kind answer ≡ answer
+pub answers-alike : (f : Format) (t : Time) (length kind : ℕ) (v u : Time) → check_step f t length kind (Ok v) ≡ Ok u → (answer : Result Time Refusal) → check_step f t length kind answer ≡ answer
 answers-alike f t length kind v u h answer =
     let w = went_to f t length kind v u h in
     step-answers f t length kind w.format w.from w.length_is w.inside w.kind_is w.before answer
 
 -- and refuse alike where one is not
-pub refuses-alike : (f : Format) (t : Time) (length kind : ℕ) (v : Time) (r : Refusal) → check_step f t length kind (To v) ≡ Stepped.Refused r → (answer : Stepped) → check_step f t length kind answer ≡ Stepped.Refused r
-refuses-alike f t length kind v r h answer = refused-alike Stepped.Refused (step_checks f t length kind) (To v) answer (Stepped.Refused r) (λ e. next v r (sym e)) h
+pub refuses-alike : (f : Format) (t : Time) (length kind : ℕ) (v : Time) (r : Refusal) → check_step f t length kind (Ok v) ≡ Err r → (answer : Result Time Refusal) → check_step f t length kind answer ≡ Err r
+refuses-alike f t length kind v r h answer = refused-alike Err (step_checks f t length kind) (Ok v) answer (Err r) (λ e. next v r (sym e)) h
 
 -- ---- the length of the year
 
@@ -75,12 +73,12 @@ pub own-length : (f : Format) (t : Time) (given : ℕ) → carries_year f ≡ tr
 unfolding in_year
 own-length f t given y h = rw (of-year f t.year given y, days-length t.year) (le-leb t.day (days_in t.year) (omega (arith, day-in-year f t h, last-known f t.year y)))
 
-pub never-refuses-length : (f : Format) (t : Time) (given kind : ℕ) → carries_year f ≡ true → step_of f t given kind ≡ Stepped.Refused InvalidYearLength → ⊥
+pub never-refuses-length : (f : Format) (t : Time) (given kind : ℕ) → carries_year f ≡ true → step_of f t given kind ≡ Err InvalidYearLength → ⊥
 unfolding step_of
 never-refuses-length f t given kind y h =
     let length = length_for f t given in
-    let answer = To (following f t length kind) in
-    let first = refused-later (time_checks f t) (checks Stepped.Refused ((InvalidYearLength, in_year t length) ∷ (InvalidKind, on_day f t kind) ∷ []) answer) InvalidYearLength refl h in
+    let answer = Ok (following f t length kind) in
+    let first = refused-later (time_checks f t) (checks Err ((InvalidYearLength, in_year t length) ∷ (InvalidKind, on_day f t kind) ∷ []) answer) InvalidYearLength refl h in
     let later = refused-later ((InvalidKind, on_day f t kind) ∷ []) answer InvalidYearLength refl (rw (own-length f t given y (first.0 2)) at first.1) in
     next (following f t length kind) InvalidYearLength (sym later.1)
 
@@ -91,7 +89,7 @@ last-in-length f year =
     (λ y. omega (arith, last-known f year y, of-year f year 366 y))
     (λ m. omega (arith, last-range f year, as-given f year 366 m))
 
-pub went : (f : Format) (t : Time) (given kind : ℕ) (u : Time) → step_of f t given kind ≡ To u → Went f t (length_for f t given) kind (following f t (length_for f t given) kind) u
+pub went : (f : Format) (t : Time) (given kind : ℕ) (u : Time) → step_of f t given kind ≡ Ok u → Went f t (length_for f t given) kind (following f t (length_for f t given) kind) u
 unfolding step_of
 went f t given kind u h = went_to f t (length_for f t given) kind (following f t (length_for f t given) kind) u h
 
@@ -101,18 +99,18 @@ unfolding day_end day_length_of
 longest-day f t o = by-test (carries_leap f) (λ y. rw y (omega (arith, o.below))) (λ m. rw m (o.carried m))
 
 -- Step takes a time on the format with 366 and a second added always
-pub goes : (f : Format) (t : Time) → known f ≡ true → OnFormat f t → step_of f t 366 second_added ≡ To (following f t (length_for f t 366) second_added)
+pub goes : (f : Format) (t : Time) → known f ≡ true → OnFormat f t → step_of f t 366 second_added ≡ Ok (following f t (length_for f t 366) second_added)
 unfolding step_of
 goes f t k o =
-    step-answers f t (length_for f t 366) second_added k o (length-in f t.year 366 refl) (omega (arith, o.within_year, last-in-length f t.year)) refl (longest-day f t o) (To (following f t (length_for f t 366) second_added))
+    step-answers f t (length_for f t 366) second_added k o (length-in f t.year 366 refl) (omega (arith, o.within_year, last-in-length f t.year)) refl (longest-day f t o) (Ok (following f t (length_for f t 366) second_added))
 
 -- ---- next after is some step
 
-steps-to-is : (s : Stepped) (u : Time) → steps_to s u ≡ true → s ≡ To u
-steps-to-is (To v) u h = ap To (same-is v u h)
-steps-to-is (Stepped.Refused r) u h = clash h refl
+steps-to-is : (s : Result Time Refusal) (u : Time) → steps_to s u ≡ true → s ≡ Ok u
+steps-to-is (Ok v) u h = ap Ok (same-is v u h)
+steps-to-is (Err r) u h = clash h refl
 
-is-given : (s : Stepped) (u : Time) → s ≡ To u → steps_to s u ≡ true
+is-given : (s : Result Time Refusal) (u : Time) → s ≡ Ok u → steps_to s u ≡ true
 is-given s u h = rw h (same_self u)
 
 any-one : (p : ℕ → Bool) (xs : List ℕ) → any p xs ≡ true → (x : ℕ) × (p x ≡ true)
@@ -138,7 +136,7 @@ pub any-length : (f : Format) (t : Time) (a b kind : ℕ) → carries_year f ≡
 unfolding step_of
 any-length f t a b kind y = ap (λ (n : ℕ). step_by f t n kind) (of-year f t.year a y ∙ sym (of-year f t.year b y))
 
-step-found : (f : Format) (t u : Time) (given kind : ℕ) → member given year_lengths ≡ true → member kind kinds ≡ true → step_of f t given kind ≡ To u → next_after f t u ≡ true
+step-found : (f : Format) (t u : Time) (given kind : ℕ) → member given year_lengths ≡ true → member kind kinds ≡ true → step_of f t given kind ≡ Ok u → next_after f t u ≡ true
 unfolding next_after
 step-found f t u given kind l k s =
     one-any (λ length. any (λ kind. steps_to (step_of f t length kind) u) kinds) year_lengths given l

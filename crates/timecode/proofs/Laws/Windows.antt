@@ -1,5 +1,7 @@
 -- A window of its lead and m + 1 frames, each accepted and each time next after the one before: with the setting m + 1 it reports exactly then. Document 01's window is the case m = 1.
-use Rattle.std.specs.Prelude.{◌≡◌, refl, Bool, true, false, List, length, get_or, drop}
+use Rattle.timecode.specs.declared.Refusal.{Refusal}
+use Rattle.timecode.specs.Answers.{accepted}
+use Rattle.std.specs.Prelude.{◌≡◌, refl, Bool, true, false, List, length, get_or, drop, Result, Ok, Err}
 use Rattle.std.proofs.Common.{sym, ◌∙◌, subst, subst₂, not-suc-le-zero, eqb-true, eq-eqb, get_or-take, get_or-drop}
 use Rattle.std.proofs.Math.Path.{ap, ap₂}
 use Rattle.std.proofs.Math.Bool.{cond}
@@ -20,7 +22,6 @@ use Rattle.timecode.specs.declared.Answer.{Answer}
 use Rattle.timecode.specs.declared.Answer.TheVariants.{Quiet, Report}
 use Rattle.timecode.specs.declared.Format.{Format}
 use Rattle.timecode.specs.declared.Reading.{Reading}
-use Rattle.timecode.specs.declared.Reading.TheVariants.{Accepted}
 use Rattle.timecode.specs.declared.Time.{Time}
 use Rattle.timecode.specs.Laws.Windows.{long, Confirmed, time_of, control_of, Next}
 
@@ -49,38 +50,38 @@ pub window-long : (f : Format) (m : ℕ) → window_length f (suc m) ≡ long f 
 unfolding window_length
 window-long f m = omega arith
 
-accepted-is : (r : Reading) (t : Time) (w : ℕ) → r ≡ Accepted t w → r ≡ Accepted (time_of r) (control_of r)
-accepted-is r t w h = h ∙ ap (λ (x : Reading). Accepted (time_of x) (control_of x)) (sym h)
+accepted-is : (r : Result Reading Refusal) (t : Time) (w : ℕ) → r ≡ accepted t w → r ≡ accepted (time_of r) (control_of r)
+accepted-is r t w h = h ∙ ap (λ (x : Result Reading Refusal). accepted (time_of x) (control_of x)) (sym h)
 
-first-accepted : (r : Reading) (t : Time) (w : ℕ) → first_in_row r ≡ Report t w → r ≡ Accepted t w
-first-accepted (Accepted s v) t w h = let p : s ≡ t = cc in let q : v ≡ w = cc in cc
-first-accepted (Reading.Refused r) t w h = quiet-no-report t w h
+first-accepted : (r : Result Reading Refusal) (t : Time) (w : ℕ) → first_in_row r ≡ Report t w → r ≡ accepted t w
+first-accepted (Ok read) t w h = let p : read.time ≡ t = cc in let q : read.control ≡ w = cc in ap₂ accepted p q
+first-accepted (Err r) t w h = quiet-no-report t w h
 
 picked : (b : Bool) (a : Answer) (t : Time) (w : ℕ) → cond b a Quiet ≡ Report t w → (b ≡ true) × (a ≡ Report t w)
 picked true a t w h = (refl, h)
 picked false a t w h = quiet-no-report t w h
 
-next : (f : Format) (a : Answer) (r : Reading) (t : Time) (w : ℕ) → next_in_row f a r ≡ Report t w → Next f a r t w
+next : (f : Format) (a : Answer) (r : Result Reading Refusal) (t : Time) (w : ℕ) → next_in_row f a r ≡ Report t w → Next f a r t w
 unfolding next_in_row
-next f (Report s v) (Accepted u x) t w h =
-    let y = picked (next_after f s u) (Report u x) t w h in
+next f (Report s v) (Ok read) t w h =
+    let y = picked (next_after f s read.time) (Report read.time read.control) t w h in
     let same = y.1 in
-    let p : u ≡ t = cc in
-    let q : x ≡ w = cc in
-    record { before = s; control_before = v; was = refl; is = cc; follows = next-follows f s t (rw (← p) y.0) }
-next f (Report s v) (Reading.Refused r) t w h = quiet-no-report t w h
+    let p : read.time ≡ t = cc in
+    let q : read.control ≡ w = cc in
+    record { before = s; control_before = v; was = refl; is = ap₂ accepted p q; follows = next-follows f s t (rw (← p) y.0) }
+next f (Report s v) (Err r) t w h = quiet-no-report t w h
 next f Quiet r t w h = quiet-no-report t w h
 next f (Answer.Refused x) r t w h = quiet-no-report t w h
 
 module _ (f : Format) (window : List ℕ) where
-  abbrev read_at : ℕ → Reading
+  abbrev read_at : ℕ → Result Reading Refusal
   read_at j = read_of f (frame_in f window j)
 
   record Row (m : ℕ) : Type 0 where
-    reads : (j : ℕ) → j ≤ m → read_at j ≡ Accepted (time_of (read_at j)) (control_of (read_at j))
+    reads : (j : ℕ) → j ≤ m → read_at j ≡ accepted (time_of (read_at j)) (control_of (read_at j))
     follows : (j : ℕ) → j < m → Follows f (time_of (read_at j)) (time_of (read_at (suc j)))
 
-  row : (m : ℕ) (t : Time) (w : ℕ) → in_row f window (suc m) ≡ Report t w → Row m × (read_at m ≡ Accepted t w)
+  row : (m : ℕ) (t : Time) (w : ℕ) → in_row f window (suc m) ≡ Report t w → Row m × (read_at m ≡ accepted t w)
   unfolding in_row
   row zero t w h =
       let a = first-accepted (read_at 0) t w h in (
@@ -97,11 +98,11 @@ module _ (f : Format) (window : List ℕ) where
         x.is,
       )
     where
-      reads : Row m → read_at (suc m) ≡ Accepted t w → (j : ℕ) → j ≤ suc m → Dec (j ≡ suc m) → read_at j ≡ Accepted (time_of (read_at j)) (control_of (read_at j))
+      reads : Row m → read_at (suc m) ≡ accepted t w → (j : ℕ) → j ≤ suc m → Dec (j ≡ suc m) → read_at j ≡ accepted (time_of (read_at j)) (control_of (read_at j))
       reads r a j b (yes p) = rw p (accepted-is (read_at (suc m)) t w a)
       reads r a j b (no n) = r.reads j (omega arith)
 
-      follows : Row m → {s : Time} {v : ℕ} → read_at m ≡ Accepted s v → read_at (suc m) ≡ Accepted t w → Follows f s t → (j : ℕ) → j < suc m → Dec (j ≡ m) → Follows f (time_of (read_at j)) (time_of (read_at (suc j)))
+      follows : Row m → {s : Time} {v : ℕ} → read_at m ≡ accepted s v → read_at (suc m) ≡ accepted t w → Follows f s t → (j : ℕ) → j < suc m → Dec (j ≡ m) → Follows f (time_of (read_at j)) (time_of (read_at (suc j)))
       follows r {s} {v} a c g j b (yes p) = rw p (rw (ap time_of a, ap time_of c) g)
       follows r {s} {v} a c g j b (no n) = r.follows j (omega arith)
 
@@ -144,8 +145,8 @@ module _ (f : Format) (m : ℕ) (window : List ℕ) (t : Time) (w : ℕ) where
         (row-report f window m r
         ∙ ap₂ (λ (x : Time) (y : ℕ). Report x y) (time m (omega arith) ∙ c.last_time) (ap control_of (c.reads m (omega arith)) ∙ c.last_control))
 
-    pub last-reads : read_of f (frame_in f window m) ≡ Accepted t w
-    last-reads = subst₂ (λ (x : Time) (y : ℕ). read_of f (frame_in f window m) ≡ Accepted x y) c.last_time c.last_control (c.reads m (omega arith))
+    pub last-reads : read_of f (frame_in f window m) ≡ accepted t w
+    last-reads = subst₂ (λ (x : Time) (y : ℕ). read_of f (frame_in f window m) ≡ accepted x y) c.last_time c.last_control (c.reads m (omega arith))
 
 -- ---- an answer that is no report is Quiet
 
@@ -153,14 +154,14 @@ or_quiet : (b : Bool) (a : Answer) → (((t : Time) (w : ℕ) → a ≡ Report t
 or_quiet true a quiet n = quiet n
 or_quiet false a quiet n = refl
 
-first-quiet : (r : Reading) → ((t : Time) (w : ℕ) → first_in_row r ≡ Report t w → ⊥) → first_in_row r ≡ Quiet
-first-quiet (Accepted t w) n = absurd (n t w refl)
-first-quiet (Reading.Refused r) n = refl
+first-quiet : (r : Result Reading Refusal) → ((t : Time) (w : ℕ) → first_in_row r ≡ Report t w → ⊥) → first_in_row r ≡ Quiet
+first-quiet (Ok read) n = absurd (n read.time read.control refl)
+first-quiet (Err r) n = refl
 
-next-quiet : (f : Format) (a : Answer) (r : Reading) → ((t : Time) (w : ℕ) → next_in_row f a r ≡ Report t w → ⊥) → next_in_row f a r ≡ Quiet
+next-quiet : (f : Format) (a : Answer) (r : Result Reading Refusal) → ((t : Time) (w : ℕ) → next_in_row f a r ≡ Report t w → ⊥) → next_in_row f a r ≡ Quiet
 unfolding next_in_row
-next-quiet f (Report s v) (Accepted t w) n = or_quiet (next_after f s t) (Report t w) (λ z. absurd (z t w refl)) n
-next-quiet f (Report s v) (Reading.Refused r) n = refl
+next-quiet f (Report s v) (Ok read) n = or_quiet (next_after f s read.time) (Report read.time read.control) (λ z. absurd (z read.time read.control refl)) n
+next-quiet f (Report s v) (Err r) n = refl
 next-quiet f Quiet r n = refl
 next-quiet f (Answer.Refused x) r n = refl
 
@@ -176,11 +177,11 @@ window-quiet f k window n = or_quiet (opens f window) (in_row f window k) (row-q
 
 -- ---- k = 2 is document 01's machine
 
-row-of-two : (f : Format) (first second : Reading) → next_in_row f (first_in_row first) second ≡ confirm f first second
+row-of-two : (f : Format) (first second : Result Reading Refusal) → next_in_row f (first_in_row first) second ≡ confirm f first second
 unfolding next_in_row confirm
-row-of-two f (Accepted s v) (Accepted t w) = refl
-row-of-two f (Accepted s v) (Reading.Refused r) = refl
-row-of-two f (Reading.Refused r) second = refl
+row-of-two f (Ok read) (Ok second) = refl
+row-of-two f (Ok read) (Err r) = refl
+row-of-two f (Err r) second = refl
 
 pub two-frames : (f : Format) (window : List ℕ) → window_answer f two_frames window ≡ cond (opens f window) (confirm f (read_of f (frame_in f window 0)) (read_of f (frame_in f window 1))) Quiet
 unfolding window_answer in_row

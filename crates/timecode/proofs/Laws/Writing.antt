@@ -1,5 +1,6 @@
 -- What is written is accepted, and read as it was written. Demand 2 follows, and Write's answer taken apart.
-use Rattle.std.specs.Prelude.{◌≡◌, true, false, ◌&&◌, ℕ, zero, suc, ◌+◌, ◌*◌, ◌/◌, ◌%◌, ◌^◌, ◌≤◌, ◌<◌, leb, eqb, length}
+use Rattle.timecode.specs.Answers.{accepted, done}
+use Rattle.std.specs.Prelude.{◌≡◌, true, false, ◌&&◌, ℕ, zero, suc, ◌+◌, ◌*◌, ◌/◌, ◌%◌, ◌^◌, ◌≤◌, ◌<◌, leb, eqb, length, Err}
 use Rattle.std.proofs.Math.Path.{refl, ap₂}
 use Rattle.std.proofs.Common.{sym, ◌∙◌, subst, zero-add, arith}
 use mathlib.Core.List.{List, [], ◌∷◌, ◌++◌}
@@ -7,7 +8,7 @@ use Rattle.std.proofs.Math.Decide.{dec_lt}
 use borrow.Author.Tests.{ltb-true, eqb-true, lt-ltb, le-leb, eq-eqb}
 use Rattle.timecode.specs.Formats.{is_x, size, carries_year, last_day_in, last_hundredth, day_length, carries_leap, OnFormat}
 use Rattle.timecode.specs.Frames.{total_width, control_fits, written, write_of, write_leaves, are_symbols, are_digits, last_second, day_in, is_time, time_in, seconds_agree, read_of, Valid, write_checks, frame_checks, digit_checks}
-use Rattle.timecode.proofs.Laws.Checks.{done, all-passed, all_pass}
+use Rattle.timecode.proofs.Laws.Checks.{done-taken, all-passed, all_pass}
 use Rattle.timecode.specs.Laws.Fields.{Each, AreDigits}
 use Rattle.timecode.proofs.Laws.Fields.{fields-apart, fields-together, number-back, digits_are, binary-positive, binary-capacity, binary-small}
 use Rattle.timecode.proofs.Laws.Reading.{elements-pass, straight-binary, control-binary, straight-wide}
@@ -18,10 +19,7 @@ use Rattle.timecode.proofs.Laws.Times.{only-day, carried-day, carried-small, tim
 use Rattle.timecode.specs.Layout.{Run, day_carried, seconds, minutes, hours, days, tenths, hundredths_digit, has_seconds, straight_seconds, control, years, time_fields, fields, flatten, runs, second, minute, hour, time_numbers, numbers, field_digits, all_digits, in_run, is_mark, filler, symbol_at, tabulate, encode, number_in, Small, decode}
 use Rattle.timecode.specs.declared.Format.{Format}
 use Rattle.timecode.specs.declared.Reading.{Reading}
-use Rattle.timecode.specs.declared.Reading.TheVariants.{Accepted}
 use Rattle.timecode.specs.declared.Time.{Time}
-use Rattle.timecode.specs.declared.Written.{Written}
-use Rattle.timecode.specs.declared.Written.TheVariants.{Done}
 
 -- ---- each symbol of a written frame is at most 3
 
@@ -177,29 +175,29 @@ module _ (f : Format) (t : Time) (w : ℕ) (v : Valid f t w) where
       (λ y. rw (y, time-back) (eq-eqb (number_in frame (straight_seconds f)) (t.hundredths / 100) (straight-back y)))
       (λ m. rw m)
 
-  pub written-is-accepted : read_of f frame ≡ Accepted t w
+  pub written-is-accepted : read_of f frame ≡ accepted t w
   unfolding read_of written
   written-is-accepted =
-      all_pass Reading.Refused (frame_checks f frame) _ (v.format, (eq-eqb (length frame) (size f) (length-written f t w), (written-symbols f t w, tt)))
+      all_pass Err (frame_checks f frame) _ (v.format, (eq-eqb (length frame) (size f) (length-written f t w), (written-symbols f t w, tt)))
       ∙ elements-pass (filler f) (runs f) frame 0 _ (λ i h. rw (zero-add i) (encode-clean (size f) (filler f) (runs f) (all_digits (fields f) (numbers f t w)) (small-length (runs f) (all_digits (fields f) (numbers f t w)) written_small) i (rw (length-written f t w) at h)))
-      ∙ all_pass Reading.Refused (digit_checks f frame) _ (time-passes, (seconds-pass, tt))
-      ∙ ap₂ Accepted time-back control-back
+      ∙ all_pass Err (digit_checks f frame) _ (time-passes, (seconds-pass, tt))
+      ∙ ap₂ accepted time-back control-back
 
 -- ---- Write's answer
 
-pub taken : (f : Format) (t : Time) (w : ℕ) (lent : List ℕ) → write_of f t w lent ≡ Done → Valid f t w × (length lent ≡ size f)
+pub taken : (f : Format) (t : Time) (w : ℕ) (lent : List ℕ) → write_of f t w lent ≡ done → Valid f t w × (length lent ≡ size f)
 unfolding write_of control_fits
 taken f t w lent h =
-    let passed = (all-passed Written.Refused (write_checks f t w lent) Done Done done h).0 in (
+    let passed = (all-passed Err (write_checks f t w lent) done done done-taken h).0 in (
       record { format = passed 0; time = on-format f t (passed 1) (passed 2) (passed 3); room = ltb-true w (2 ^ total_width (control f)) (passed 4) },
       eqb-true (length lent) (size f) (passed 5),
     )
 
-pub takes : (f : Format) (t : Time) (w : ℕ) (lent : List ℕ) → Valid f t w → length lent ≡ size f → write_of f t w lent ≡ Done
+pub takes : (f : Format) (t : Time) (w : ℕ) (lent : List ℕ) → Valid f t w → length lent ≡ size f → write_of f t w lent ≡ done
 unfolding write_of control_fits
 takes f t w lent v n =
     rw (v.format, v.time.year_is, is-on-format f t v.time, is_carried f t v.time, lt-ltb w (2 ^ total_width (control f)) v.room, eq-eqb (length lent) (size f) n)
 
-pub leaves : (f : Format) (t : Time) (w : ℕ) (lent : List ℕ) → write_of f t w lent ≡ Done → write_leaves f t w lent ≡ written f t w
+pub leaves : (f : Format) (t : Time) (w : ℕ) (lent : List ℕ) → write_of f t w lent ≡ done → write_leaves f t w lent ≡ written f t w
 unfolding write_leaves
 leaves f t w lent h = rw h

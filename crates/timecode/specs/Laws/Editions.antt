@@ -1,11 +1,11 @@
 -- Frames converted forward and back are the same: each conversion is a frame that Write writes, so Read takes it. All but the elements 50 to 58 stay.
+use Rattle.timecode.specs.Answers.{accepted}
 use Rattle.std.specs.Prelude.{◌≡◌, Bool, true, false, cond, not, ◌&&◌, List, [], ◌∷◌, ℕ, ◌-◌, ◌/◌, ◌%◌, ◌≤◌, eqb, take, drop, replicate}
 use Rattle.timecode.specs.Editions.{with_year, time_in_year, nine_bits}
 use Rattle.timecode.specs.Formats.{known, carries_control, carries_year, last_year, days_in}
 use Rattle.timecode.specs.Frames.{written, total_width, read_of}
 use Rattle.timecode.specs.Layout.{control}
 use Rattle.timecode.specs.declared.Format.{Format}
-use Rattle.timecode.specs.declared.Reading.TheVariants.{Accepted}
 use Rattle.timecode.specs.declared.Time.{Time}
 
 -- ---- the two formats
@@ -39,7 +39,7 @@ pub record Forward (f : Format) (frame : List ℕ) (year : ℕ) : Type 0 where
   pub both : Editions f
   pub time : Time
   pub word : ℕ
-  pub reads : read_of f frame ≡ Accepted time word
+  pub reads : read_of f frame ≡ accepted time word
   pub year_is : year ≤ last_year
   pub within_year : time.day ≤ days_in year
   pub free : word % nine_bits ≡ 0

@@ -1,5 +1,6 @@
--- `hold` is safe and ends.
+-- `hold` is safe and ends: a read's bytes have room behind the elements held.
+use Rattle.std.proofs.Common.{◌≤◌}
 use Rattle.timelook.proofs.hold.Given as goal
 
-abbrev pub decreases-loop-left : goal.decreases-loop-left
-decreases-loop-left l = l.left
+abbrev pub invariant-loop : goal.invariant-loop
+invariant-loop l = l.count ≤ 4194304

@@ -11,3 +11,9 @@ loop-left-preserved c = (
   omega (arith, c.generate-generated.ensures.1, c.loop-left.invariant.0),
   starts-turn _ _ c.loop-left.next _ _ _ c.loop-left.left _ c.loop-left.invariant.0 c.generate-generated.ensures.1 c.loop-left.invariant.1 c.generate-generated.ensures.2,
 )
+
+pub returns-then-not-write_first : goal.returns-then-not-write_first
+returns-then-not-write_first c = (
+  omega (arith, c.generate-generated.ensures.1, c.loop-left.invariant.0),
+  starts-turn _ _ c.loop-left.next _ _ _ c.loop-left.left _ c.loop-left.invariant.0 c.generate-generated.ensures.1 c.loop-left.invariant.1 c.generate-generated.ensures.2,
+)

@@ -4,10 +4,10 @@ use Rattle.windows.specs.Ways.{booked, add-taken, add-refused}
 use Rattle.windows.proofs.add.Goals as goal
 
 pub with_keys-requires : goal.with_keys-requires
-with_keys-requires c = (booked _ c.args.start c.args.end _ _ (sym c.in-Keys.is ∙ c.book-keyed.ensures)).room
+with_keys-requires c = (booked _ c.args.start c.args.end _ _ (sym c.in-Ok.is ∙ c.book-keyed.ensures)).room
 
-pub returns-in-Keys : goal.returns-in-Keys
-returns-in-Keys c = add-taken _ _ _ _ _ _ (sym c.in-Keys.is ∙ c.book-keyed.ensures) c.with_keys.ensures
+pub returns-in-Ok : goal.returns-in-Ok
+returns-in-Ok c = add-taken _ _ _ _ _ _ (sym c.in-Ok.is ∙ c.book-keyed.ensures) c.with_keys.ensures
 
-pub returns-in-Refused : goal.returns-in-Refused
-returns-in-Refused c = add-refused _ _ _ _ (sym c.in-Refused.is ∙ c.book-keyed.ensures)
+pub returns-in-Err : goal.returns-in-Err
+returns-in-Err c = add-refused _ _ _ _ (sym c.in-Err.is ∙ c.book-keyed.ensures)

@@ -3,6 +3,3 @@ use Rattle.windows.proofs.look.Given as goal
 
 abbrev pub invariant-loop-i : goal.invariant-loop-i
 invariant-loop-i l = Looked l.key l.starts l.ends l.count l.i l.mask l.next
-
-abbrev pub decreases-loop-i : goal.decreases-loop-i
-decreases-loop-i l = l.i

@@ -10,4 +10,4 @@ pub returns-then-feed_inside : goal.returns-then-feed_inside
 returns-then-feed_inside c =
     let is-inside = sym c.feed_inside.ensures.value ∙ c.if-feed_inside.true in
     let quiet = inside-quiet c.args.reader.now c.args.symbol c.args.n c.requires.0 is-inside in
-    both ((rw quiet c.feed_result.ensures, rw is-inside at c.feed_inside.ensures.reader_after))
+    both ((rw quiet c.from.ensures, rw is-inside at c.feed_inside.ensures.reader_after))

@@ -6,5 +6,5 @@ use Rattle.word_feed.proofs.is_set.Goals as goal
 pub returns-then-setting-ge2 : goal.returns-then-setting-ge2
 returns-then-setting-ge2 c = rw (setting-within, le-leb _ _ c.if-setting-ge2.true)
 
-pub returns : goal.returns
-returns c = rw (setting-within, lt-leb _ _ c.if-setting-ge2.false)
+pub returns-else-setting-ge2 : goal.returns-else-setting-ge2
+returns-else-setting-ge2 c = rw (setting-within, lt-leb _ _ c.if-setting-ge2.false)

@@ -1,29 +1,37 @@
 -- `known_size` meets its contract: each letter takes the expressions of its row, and any other letter none.
-use mathlib.Core.Path.{refl, sym, ◌∙◌}
+use mathlib.Core.Path.{◌≡◌, refl, sym, ◌∙◌}
+use mathlib.Core.Bool.{cond, ◌&&◌}
+use Prim.Native.Nat.{ℕ, ◌<◌, ◌≤◌}
 use native.Mathlib.Omega.{arith}
-use borrow.Author.Tests.{le-leb, lt-leb}
+use lib.Dec.{leb, ltb}
+use borrow.Author.Tests.{ltb-true, ltb-false}
 use Rattle.timecode.specs.Formats.{A, B, X, table, look_up}
+use Rattle.timecode.proofs.Laws.Tests.{by-test}
 use Rattle.reader_words.specs.Words.{byte_in}
-use Rattle.word_feed.specs.InPlace.{letter-size, other-sizes}
+use Rattle.word_feed.specs.InPlace.{known_size, other_size, letter-size, other-sizes}
 use Rattle.word_feed.proofs.known_size.Goals as goal
+use Rattle.word_feed.proofs.known_size.Goals.{in_default-via-then-letter-lt65, in_default-via-else-letter-lt65+else-letter-lt67}
 
-pub returns-then-letter-eq-X : goal.returns-then-letter-eq-X
+a_or_b : (l e : ℕ) → 65 ≤ l → l < 67 → known_size l e ≡ cond (leb 0 e && leb e 7) 100 0
 unfolding look_up table byte_in
-returns-then-letter-eq-X c = rw c.if-letter-eq-X.true (c.size_within.ensures ∙ sym (letter-size X c.args.expression 1 2 2 25 refl refl refl refl (omega arith) (omega arith)))
+a_or_b l e low high =
+    by-test (ltb l 66)
+    (λ y. let is : l ≡ 65 = omega (arith, ltb-true l 66 y) in rw is (letter-size A e 8 0 7 100 refl refl refl refl (omega arith) (omega arith)))
+    (λ n. let is : l ≡ 66 = omega (arith, ltb-false l 66 n) in rw is (letter-size B e 8 0 7 100 refl refl refl refl (omega arith) (omega arith)))
 
-pub returns-then-letter-eq-A : goal.returns-then-letter-eq-A
+other : (l e n m : ℕ) → (l ≡ 65 → ⊥) → (l ≡ 66 → ⊥) → (l ≡ 88 → ⊥) → n ≡ other_size l → m ≡ cond (leb 1 e && leb e 2) n 0 → m ≡ known_size l e
+other l e n m a b x h g = rw (g, h) (sym (other-sizes l e a b x))
+
+pub returns-in-88 : goal.returns-in-88
 unfolding look_up table byte_in
-returns-then-letter-eq-A c = rw c.if-letter-eq-A.true (c.size_within-then-letter-eq-A.ensures ∙ sym (letter-size A c.args.expression 8 0 7 100 refl refl refl refl (omega arith) (omega arith)))
+returns-in-88 c = rw c.in-88.is (c.size_within.ensures ∙ sym (letter-size X c.args.expression 1 2 2 25 refl refl refl refl (omega arith) (omega arith)))
 
-pub returns-then-letter-eq-B : goal.returns-then-letter-eq-B
-unfolding look_up table byte_in
-returns-then-letter-eq-B c = rw c.if-letter-eq-B.true (c.size_within-then-letter-eq-B.ensures ∙ sym (letter-size B c.args.expression 8 0 7 100 refl refl refl refl (omega arith) (omega arith)))
+pub returns-in-65 : goal.returns-in-65
+returns-in-65 c = c.size_within-in-65.ensures ∙ sym (a_or_b c.args.letter c.args.expression (omega arith) (omega arith))
 
-pub returns-then-expression-le2 : goal.returns-then-expression-le2
-returns-then-expression-le2 c = c.other_size.ensures ∙ sym (other-sizes c.args.letter c.args.expression c.if-letter-eq-A.false c.if-letter-eq-B.false c.if-letter-eq-X.false ∙ rw (le-leb _ _ c.if-expression-ge1.true, le-leb _ _ c.if-expression-le2.true))
-
-pub returns-else-expression-le2 : goal.returns-else-expression-le2
-returns-else-expression-le2 c = sym (other-sizes c.args.letter c.args.expression c.if-letter-eq-A.false c.if-letter-eq-B.false c.if-letter-eq-X.false ∙ rw (le-leb _ _ c.if-expression-ge1.true, lt-leb _ _ c.if-expression-le2.false))
-
-pub returns-else-expression-ge1 : goal.returns-else-expression-ge1
-returns-else-expression-ge1 c = sym (other-sizes c.args.letter c.args.expression c.if-letter-eq-A.false c.if-letter-eq-B.false c.if-letter-eq-X.false ∙ rw (lt-leb _ _ c.if-expression-ge1.false))
+pub returns-in_default : goal.returns-in_default
+returns-in_default c =
+    elim c.in_default.branch [
+      | in_default-via-then-letter-lt65 w ↦ other c.args.letter c.args.expression _ _ (λ p. omega arith) (λ p. omega arith) (λ p. omega arith) c.other_size.ensures c.size_within-in_default.ensures
+      | in_default-via-else-letter-lt65+else-letter-lt67 w ↦ other c.args.letter c.args.expression _ _ (λ p. omega arith) (λ p. omega arith) (λ p. omega arith) c.other_size.ensures c.size_within-in_default.ensures
+    ]

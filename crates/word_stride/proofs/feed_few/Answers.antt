@@ -1,5 +1,5 @@
 -- `feed_few` meets its contract: one symbol after another is received, and the words are stored at the end.
-use mathlib.Core.Path.{refl}
+use mathlib.Core.Path.{◌≡◌, refl}
 use native.Mathlib.Omega.{arith}
 use Prim.Native.Nat.{◌-◌}
 use lib.ListN.{get_or}
@@ -63,7 +63,7 @@ put_few-requires-2 c =
     let words = start.args.reader.now in
     let reached = c.loop-i in
     let end = c.few_end-end in
-    rw reached.invariant.0 (start.requires.0.inside, (ready-place words start.args.n start.requires.0).1, omega (arith, reached.invariant.1.within, end.ensures.1, start.requires.4))
+    rw reached.invariant.0 (start.requires.0.inside, (ready-place words start.args.n start.requires.0).1, omega (arith, end.ensures.1, start.requires.4))
 
 pub returns : goal.returns
 returns c =
@@ -71,4 +71,5 @@ returns c =
     let words = start.args.reader.now in
     let reached = c.loop-i in
     let end = c.few_end-end in
-    few-in words start.args.n start.args.symbols.now start.args.from end.result start.requires.0 start.requires.1 (omega (arith, end.ensures.1, start.requires.4)) end.ensures.1 end.ensures.3 reached.invariant.1 _ (rw reached.invariant.0 at c.put_few-2.ensures)
+    let all : reached.i ≡ end.result = omega arith in
+    few-in words start.args.n start.args.symbols.now start.args.from end.result start.requires.0 start.requires.1 (omega (arith, end.ensures.1, start.requires.4)) end.ensures.1 end.ensures.3 (rw all at reached.invariant.1) _ (rw reached.invariant.0 at c.put_few-2.ensures)

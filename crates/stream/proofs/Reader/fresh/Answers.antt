@@ -1,15 +1,19 @@
 -- `fresh` meets its contract.
+use mathlib.Core.Path.{◌≡◌, sym, ◌∙◌}
+use Rattle.timecode.specs.Frames.{no_time}
 use Rattle.stream.specs.Feeding.{made_of}
 use Rattle.stream.proofs.Reader.fresh.Goals as goal
 
-pub returns-then-is_setting : goal.returns-then-is_setting
+pub returns-then-not-is_known : goal.returns-then-not-is_known
 unfolding made_of
-returns-then-is_setting c = rw (← c.is_known.ensures, c.if-is_known.true, ← c.is_setting.ensures, c.if-is_setting.true)
+returns-then-not-is_known c = rw (sym c.is_known.ensures ∙ c.if-not-is_known.true)
 
-pub returns-then-is_known : goal.returns-then-is_known
+pub returns-then-not-is_setting : goal.returns-then-not-is_setting
 unfolding made_of
-returns-then-is_known c = rw (← c.is_known.ensures, c.if-is_known.true, ← c.is_setting.ensures, c.if-is_setting.false)
+returns-then-not-is_setting c = rw (sym c.is_known.ensures ∙ c.if-not-is_known.false, sym c.is_setting.ensures ∙ c.if-not-is_setting.true)
 
 pub returns : goal.returns
 unfolding made_of
-returns c = rw (← c.is_known.ensures, c.if-is_known.false)
+returns c =
+    let none : c.default.result ≡ no_time = λ i. record { year = c.default.ensures.0 i; day = c.default.ensures.1.0 i; hundredths = c.default.ensures.1.1 i } in
+    rw (sym c.is_known.ensures ∙ c.if-not-is_known.false, sym c.is_setting.ensures ∙ c.if-not-is_setting.false, none)

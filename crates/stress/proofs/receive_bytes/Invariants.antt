@@ -1,6 +1,0 @@
--- `receive_bytes` is safe and ends.
-use Rattle.std.proofs.Common.{◌-◌}
-use Rattle.stress.proofs.receive_bytes.Given as goal
-
-abbrev pub decreases-loop-i : goal.decreases-loop-i
-decreases-loop-i l = 256 - l.i

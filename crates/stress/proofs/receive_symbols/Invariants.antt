@@ -1,6 +1,0 @@
--- `receive_symbols` is safe and ends.
-use Rattle.std.proofs.Common.{◌-◌}
-use Rattle.stress.proofs.receive_symbols.Given as goal
-
-abbrev pub decreases-loop-i : goal.decreases-loop-i
-decreases-loop-i l = l.count - l.i

@@ -1,6 +1,0 @@
--- `is_word` is safe and ends.
-use Rattle.std.proofs.Common.{length, ◌-◌}
-use Rattle.timepulse.proofs.is_word.Given as goal
-
-abbrev pub decreases-loop-i : goal.decreases-loop-i
-decreases-loop-i l = length l.word - l.i
