@@ -1,17 +1,16 @@
 -- Each struct's number and fields are those of its answer's result; the calendar refuses with no index, so the structs leave out no value.
 use Rattle.calendar.specs.declared.Asked.{Asked}
 use Rattle.timecode.specs.declared.Refusal.{Refusal}
-use Rattle.std.specs.Prelude.{◌≡◌, refl, ◌&&◌, List, [], ◌∷◌, ℕ, ltb, pos, Result, Ok, Err, Option, Some, None}
+use Rattle.std.specs.Prelude.{◌≡◌, refl, ◌&&◌, [], ◌∷◌, ℕ, ltb, pos, Result, Ok, Err, Option, Some, None}
 use Rattle.timecode.specs.Answers.{time_values, written_result}
 use Rattle.timecode.proofs.Laws.Tests.{by-test}
 use Rattle.timecode.specs.declared.Time.{Time}
 use Rattle.calendar.specs.Dates.{is_year, has_day, has_date, date_of, day_of, dated_result, counted_result}
-use Rattle.calendar.specs.Moments.{earlier, is_hundredth, mask_of, edges_of, next_of, ask_of, asked_result, asked}
+use Rattle.calendar.specs.Moments.{earlier, is_hundredth, asked_result, asked}
 use Rattle.calendar.specs.Windows.{moment_of, add_answer}
 use Rattle.calendar.specs.declared.Date.{Date}
 use Rattle.calendar.specs.declared.DateTime.{DateTime}
-use Rattle.calendar.specs.declared.Window.{Window}
-use Rattle.ffi.specs.Fields.{values_in, time_zeros}
+use Rattle.ffi.specs.Fields.{values_in}
 use Rattle.ffi.proofs.Fields.{refusal-numbered}
 use Rattle.ffi.specs.Indexes.{refused_values}
 use Rattle.calendar_words.specs.CalendarStructs.{date_result_of, day_result_of, windows_result, ask_result_of}

@@ -1,7 +1,6 @@
 -- The calendar as 65 words in the caller's memory, and the struct of each of its answers: the number first, then the values; a field for which the answer has no value is 0.
 use Rattle.calendar.specs.declared.Asked.{Asked}
 use Rattle.timecode.specs.declared.Refusal.{Refusal}
-use Rattle.calendar.specs.Moments.{asked}
 use Rattle.timecode.specs.declared.Time.{Time}
 use Rattle.std.specs.Prelude.{List, ◌∷◌, ◌++◌, ℕ, get_or, take, drop, Result, Ok, Err, Option, Some, None}
 use Rattle.timecode.specs.Answers.{refusal_number}

@@ -16,15 +16,11 @@ use layout::{carries_leap, carries_year, frame_interval, is_known};
 use timecode::{Format, Refusal, Time};
 
 // The day is at most the last one, and both day and hundredths are in range.
+#[tactic(auto, unfolding(timecode::specs::Formats::in_range), using(std::proofs::lemmas::Bool::Decides::nat_tests))]
 fn in_range(last: u16, time: Time) -> bool
     ensures { result ≡ in_range last time }
 {
-    if Time::FIRST_DAY <= time.day {
-        if time.day <= last {
-            return time.hundredths <= Time::LAST_HUNDREDTH;
-        }
-    }
-    false
+    Time::FIRST_DAY <= time.day && time.day <= last && time.hundredths <= Time::LAST_HUNDREDTH
 }
 
 // The time is in range, up to the last day of its year, and the frame interval divides its hundredths.
@@ -32,12 +28,10 @@ pub fn lies_on(interval: u32, last: u16, time: Time) -> bool
     requires { 1 ≤ interval }
     ensures { result ≡ (in_range last time && eqb (time.hundredths % interval) 0) }
 {
-    if in_range(last, time) {
-        return time.hundredths % interval == 0;
-    }
-    false
+    in_range(last, time) && time.hundredths % interval == 0
 }
 
+#[tactic(auto, unfolding(timecode::specs::Formats::on_format, timecode::specs::Formats::last_day_in))]
 fn on_format(format: Format, time: Time) -> bool
     ensures { result ≡ on_format format time }
 {
@@ -55,12 +49,10 @@ fn year_on_format(format: Format, time: Time) -> bool
 pub fn second_allowed(leap: bool, time: Time) -> bool
     ensures { result ≡ cond leap true (ltb time.hundredths day_length) }
 {
-    if leap {
-        return true;
-    }
-    time.hundredths < Time::DAY_LENGTH
+    leap || time.hundredths < Time::DAY_LENGTH
 }
 
+#[tactic(auto, unfolding(timecode::specs::Formats::second_carried))]
 fn second_carried(format: Format, time: Time) -> bool
     ensures { result ≡ second_carried format time }
 {
@@ -68,41 +60,33 @@ fn second_carried(format: Format, time: Time) -> bool
 }
 
 // The year's length is 365 or 366, and the day is not beyond it.
+#[tactic(auto, unfolding(timecode::specs::Frames::in_year), using(std::proofs::lemmas::Bool::Decides::nat_tests))]
 fn in_year(time: Time, length: u16) -> bool
     ensures { result ≡ in_year time length }
 {
-    if length == 365 {
-        return time.day <= length;
-    }
-    if length == 366 {
-        return time.day <= length;
-    }
-    false
+    (length == 365 || length == 366) && time.day <= length
 }
 
 // Where a day of that kind ends; a format that does not carry the leap second goes on as usual.
+#[tactic(auto, unfolding(timecode::specs::Frames::day_end, timecode::specs::Frames::day_length_of), using(std::proofs::lemmas::Bool::Decides::nat_tests))]
 fn day_end(format: Format, kind: u8) -> u32
     ensures { result ≡ day_end format kind }
 {
-    if carries_leap(format) {
-        if kind == Time::SECOND_ADDED {
-            return Time::ADDED_DAY_LENGTH;
-        }
-        if kind == Time::SECOND_TAKEN {
-            return Time::TAKEN_DAY_LENGTH;
-        }
+    if !carries_leap(format) {
+        return Time::DAY_LENGTH;
     }
-    Time::DAY_LENGTH
+    match kind {
+        Time::SECOND_ADDED => Time::ADDED_DAY_LENGTH,
+        Time::SECOND_TAKEN => Time::TAKEN_DAY_LENGTH,
+        _ => Time::DAY_LENGTH,
+    }
 }
 
 // The kind is one of the three, and the time is not past the end of a day of that kind.
 fn on_day(format: Format, time: Time, kind: u8) -> bool
     ensures { result ≡ on_day format time kind }
 {
-    if kind <= Time::SECOND_TAKEN {
-        return time.hundredths < day_end(format, kind);
-    }
-    false
+    kind <= Time::SECOND_TAKEN && time.hundredths < day_end(format, kind)
 }
 
 // The time one frame interval later, in a year of that length and after a day of that kind.
@@ -112,17 +96,11 @@ fn later(format: Format, time: Time, length: u16, kind: u8) -> Time
 {
     let hundredths = time.hundredths + frame_interval(format);
     if hundredths != day_end(format, kind) {
-        return Time {
-            year: time.year,
-            day: time.day,
-            hundredths: hundredths,
-        };
+        return Time { hundredths, ..time };
     }
-    let year = year_of_day_after(carries_year(format), time, length);
-    let day = day_after(time.day, turn_day(is_x(format), length));
     Time {
-        year: year,
-        day: day,
+        year: year_of_day_after(carries_year(format), time, length),
+        day: day_after(time.day, turn_day(is_x(format), length)),
         hundredths: 0,
     }
 }
@@ -135,16 +113,13 @@ fn earlier(format: Format, time: Time, length: u16, kind: u8) -> Time
     let interval = frame_interval(format);
     if time.hundredths != 0 {
         return Time {
-            year: time.year,
-            day: time.day,
             hundredths: time.hundredths - interval,
+            ..time
         };
     }
-    let year = year_of_time_before(carries_year(format), time);
-    let day = day_before(time.day, turn_day(is_x(format), length));
     Time {
-        year: year,
-        day: day,
+        year: year_of_time_before(carries_year(format), time),
+        day: day_before(time.day, turn_day(is_x(format), length)),
         hundredths: day_end(format, kind) - interval,
     }
 }
@@ -200,76 +175,51 @@ pub fn step_back(format: Format, time: Time, given: u16, kind: u8) -> Result<Tim
     Ok(earlier(format, time, length, kind))
 }
 
-fn same_time(first: Time, second: Time) -> bool
-    ensures { result ≡ same_time first second }
-{
-    if first.year != second.year {
-        return false;
-    }
-    if first.day != second.day {
-        return false;
-    }
-    first.hundredths == second.hundredths
-}
-
 fn leads_to(stepped: Result<Time, Refusal>, time: Time) -> bool
     ensures { result ≡ steps_to stepped time }
 {
-    match stepped {
-        Ok(next) => same_time(next, time),
-        Err(_) => false,
-    }
+    stepped == Ok(time)
 }
 
 // In a year of that length, without a known kind: one of the three gives it.
 fn next_in_year(format: Format, first: Time, second: Time, length: u16) -> bool
     ensures { result ≡ any (λ kind. steps_to (step_of format first length kind) second) kinds }
 {
-    if leads_to(step(format, first, length, Time::USUAL_DAY), second) {
-        return true;
-    }
-    if leads_to(step(format, first, length, Time::SECOND_ADDED), second) {
-        return true;
-    }
-    leads_to(step(format, first, length, Time::SECOND_TAKEN), second)
+    leads_to(step(format, first, length, Time::USUAL_DAY), second)
+        || leads_to(step(format, first, length, Time::SECOND_ADDED), second)
+        || leads_to(step(format, first, length, Time::SECOND_TAKEN), second)
 }
 
 // Without a known length: one of the two gives it. Where the format carries the year, both give what its own does.
+#[tactic(auto, unfolding(timecode::specs::Frames::next_after))]
 pub fn next_after(format: Format, first: Time, second: Time) -> bool
     ensures { result ≡ next_after format first second }
 {
-    if next_in_year(format, first, second, 365) {
-        return true;
-    }
-    next_in_year(format, first, second, 366)
+    next_in_year(format, first, second, 365) || next_in_year(format, first, second, 366)
 }
 
 // Hundredths since the start of day 0.
 fn total(time: Time) -> u64
     ensures { (result ≡ time.day * 8640000 + time.hundredths) × (result < 1000000000000) }
 {
-    let day = time.day as u64;
-    let hundredths = time.hundredths as u64;
-    day * (Time::DAY_LENGTH as u64) + hundredths
+    u64::from(time.day) * u64::from(Time::DAY_LENGTH) + u64::from(time.hundredths)
 }
 
 fn minus(first: u64, second: u64) -> i64
     requires { (first < 1000000000000) × (second < 1000000000000) }
     ensures { result ≡ pos first -ℤ pos second }
 {
-    let a = first as i64;
-    let b = second as i64;
-    a - b
+    first as i64 - second as i64
 }
 
 // The first time less the second, within one year, in signed hundredths. It passes over the years.
+#[tactic(auto, unfolding(timecode::specs::Calls::difference_of))]
 pub fn difference(first: Time, second: Time) -> Result<i64, Refusal>
     ensures { result ≡ difference_of first second }
 {
-    if in_range(Time::LAST_DAY, first) {
-        if in_range(Time::LAST_DAY, second) {
-            return Ok(minus(total(first), total(second)));
-        }
+    if in_range(Time::LAST_DAY, first) && in_range(Time::LAST_DAY, second) {
+        Ok(minus(total(first), total(second)))
+    } else {
+        Err(Refusal::InvalidTime)
     }
-    Err(Refusal::InvalidTime)
 }

@@ -177,11 +177,6 @@ digits-small zero j ds h k l = absurd (not-suc-le-zero l)
 digits-small (suc n) j ds h zero l = rw (add-zero j) (leb-true (get_or ds j 0) 9 (and_left (leb (get_or ds j 0) 9) (digits_from n (suc j) ds) h))
 digits-small (suc n) j ds h (suc k) l = rw (add-suc j k, ← suc-add j k) (digits-small n (suc j) ds (and_right (leb (get_or ds j 0) 9) (digits_from n (suc j) ds) h) k (omega arith))
 
--- where it is not 23:59 the 60th second is the last
-pub other-minute : (leap : Bool) (h m : ℕ) → (eqb h 23 && eqb m 59) ≡ false → last_second_of leap h m ≡ 59
-unfolding last_second_of
-other-minute leap h m n = by-test leap (λ y. rw (y, n)) (λ k. rw k)
-
 last-second-60 : (leap : Bool) (h m : ℕ) → last_second_of leap h m ≤ 60
 unfolding last_second_of
 last-second-60 leap h m = by-test (leap && (eqb h 23 && eqb m 59)) (λ y. rw y (omega arith)) (λ n. rw n (omega arith))

@@ -25,7 +25,7 @@ fn width(widths: &[u8], j: usize) -> usize
     requires { Widths widths.now × (j < 20) }
     ensures { (result ≡ get_or widths.now j 0) × (result ≤ 9) }
 {
-    widths[j] as usize
+    usize::from(widths[j])
 }
 
 // The control word needs no more bits than are carried.
@@ -46,10 +46,7 @@ fn carried(widths: &[u8], j: usize, x: u64) -> u64
     requires { Widths widths.now × (j < 20) }
     ensures { result ≡ cond (eqb (get_or widths.now j 0) 0) 0 x }
 {
-    if width(widths, j) == 0 {
-        return 0;
-    }
-    x
+    if width(widths, j) == 0 { 0 } else { x }
 }
 
 // The digits of a time and a control word. The added second is one more than the second before it: 23:59:60.
@@ -59,11 +56,11 @@ pub fn digits_of(widths: &[u8], time: Time, control: u64) -> [u64; 20]
     requires { Widths widths.now }
     ensures { (f : Format) → is_x f ≡ false → widths.now ≡ widths_of f → Valid f time control → result ≡ all_digits (code_fields f) (numbers f time control) }
 {
-    let year = time.year as u64;
-    let day = time.day as u64;
-    let c = time.hundredths as u64;
+    let year = u64::from(time.year);
+    let day = u64::from(time.day);
+    let c = u64::from(time.hundredths);
     let seconds = c / 100;
-    let added = (time.hundredths / Time::DAY_LENGTH) as u64;
+    let added = u64::from(time.hundredths / Time::DAY_LENGTH);
     let usual = seconds - added;
     let second = usual % 60 + added;
     let minute = usual / 60 % 60;
@@ -114,25 +111,21 @@ fn are_digits(digits: &[u64]) -> bool
     requires { length digits.now ≡ 20 }
     ensures { result ≡ digits_from 11 0 digits.now }
 {
-    let mut j = 0;
-    while j < DECIMAL_RUNS {
-        if 9 < digits[j] {
+    for digit in &digits[..DECIMAL_RUNS] {
+        if 9 < *digit {
             return false;
         }
-        j += 1;
     }
     true
 }
 
 // No digit of the year is over 9; they are 0 where it is not carried.
+#[tactic(auto, unfolding(crate::specs::Meaning::digits_from), using(std::proofs::lemmas::Bool::Decides::nat_tests))]
 fn are_year_digits(digits: &[u64]) -> bool
     requires { length digits.now ≡ 20 }
     ensures { result ≡ digits_from 2 18 digits.now }
 {
-    if 9 < digits[YEAR_UNITS] {
-        return false;
-    }
-    digits[YEAR_TENS] <= 9
+    digits[YEAR_UNITS] <= 9 && digits[YEAR_TENS] <= 9
 }
 
 fn year_in(digits: &[u64]) -> u8
@@ -143,49 +136,36 @@ fn year_in(digits: &[u64]) -> u8
 }
 
 // The last second of a minute: the 61st at 23:59 only, where the leap second is carried.
+#[tactic(auto, unfolding(crate::specs::Meaning::last_second_of), using(std::proofs::lemmas::Bool::Decides::nat_tests))]
 fn last_second(leap: bool, hour: u64, minute: u64) -> u64
     ensures { result ≡ last_second_of leap hour minute }
 {
-    if hour == 23 {
-        if minute == 59 {
-            if leap {
-                return 60;
-            }
-        }
+    if leap && hour == 23 && minute == 59 {
+        60
+    } else {
+        59
     }
-    59
 }
 
 // Number 7: no digit over 9, hours over 23, minutes over 59, seconds over the minute's last, day 0 or over the year's last.
+#[tactic(auto, unfolding(crate::specs::Meaning::is_time_of), using(std::proofs::lemmas::Bool::Decides::nat_tests))]
 fn is_time(leap: bool, year: bool, digits: &[u64]) -> bool
     requires { Digits digits.now }
     ensures { result ≡ is_time_of leap year digits.now }
 {
-    if !are_digits(digits) {
-        return false;
-    }
-    if !are_year_digits(digits) {
-        return false;
-    }
     let hour = pair(digits, HOUR);
-    if 23 < hour {
-        return false;
-    }
     let minute = pair(digits, MINUTE);
-    if 59 < minute {
-        return false;
-    }
-    if last_second(leap, hour, minute) < pair(digits, SECOND) {
-        return false;
-    }
     let day = day_in(digits);
-    if day < (Time::FIRST_DAY as u64) {
-        return false;
-    }
-    let last = last_day_in(year, year_in(digits));
-    day <= last as u64
+    are_digits(digits)
+        && are_year_digits(digits)
+        && hour <= 23
+        && minute <= 59
+        && pair(digits, SECOND) <= last_second(leap, hour, minute)
+        && u64::from(Time::FIRST_DAY) <= day
+        && day <= u64::from(last_day_in(year, year_in(digits)))
 }
 
+#[tactic(auto, unfolding(crate::specs::Meaning::time_from))]
 fn time_in(digits: &[u64]) -> Time
     requires { Digits digits.now × Bounds digits.now }
     ensures { result ≡ time_from digits.now }
@@ -194,25 +174,21 @@ fn time_in(digits: &[u64]) -> Time
         * 100
         + digits[TENTH] * 10
         + digits[HUNDREDTH];
-    let day = day_in(digits);
-    let year = year_in(digits);
     Time {
-        year: year,
-        day: day as u16,
+        year: year_in(digits),
+        day: day_in(digits) as u16,
         hundredths: hundredths as u32,
     }
 }
 
 // Number 8: where straight binary seconds are carried, they are the seconds that the digits say.
+#[tactic(auto, unfolding(crate::specs::Meaning::agree_of), using(std::proofs::lemmas::Bool::Decides::nat_tests))]
 fn seconds_agree(widths: &[u8], digits: &[u64], time: Time) -> bool
     requires { Widths widths.now × Digits digits.now × (time ≡ time_from digits.now) }
     ensures { result ≡ agree_of widths.now digits.now }
 {
-    if width(widths, STRAIGHT_LOW) == 0 {
-        return true;
-    }
-    let seconds = time.hundredths / 100;
-    digits[STRAIGHT_LOW] + 512 * digits[STRAIGHT_HIGH] == seconds as u64
+    width(widths, STRAIGHT_LOW) == 0
+        || digits[STRAIGHT_LOW] + 512 * digits[STRAIGHT_HIGH] == u64::from(time.hundredths / 100)
 }
 
 // A number's low bits and those above them.
@@ -239,17 +215,20 @@ fn control_in(widths: &[u8], digits: &[u64]) -> u64
 }
 
 // What digits say that come from a frame in which nothing offends.
+#[tactic(auto, unfolding(crate::specs::Meaning::meaning_of))]
 pub fn meaning(leap: bool, year: bool, widths: &[u8], digits: &[u64]) -> Result<Reading, Refusal>
     requires { Widths widths.now × Digits digits.now }
     ensures { result ≡ meaning_of leap year widths.now digits.now }
 {
-    if is_time(leap, year, digits) {
-        let time = time_in(digits);
-        if seconds_agree(widths, digits, time) {
-            let control = control_in(widths, digits);
-            return Ok(Reading { time, control });
-        }
+    if !is_time(leap, year, digits) {
+        return Err(Refusal::InvalidDigit);
+    }
+    let time = time_in(digits);
+    if !seconds_agree(widths, digits, time) {
         return Err(Refusal::SecondsDiffer);
     }
-    Err(Refusal::InvalidDigit)
+    Ok(Reading {
+        time,
+        control: control_in(widths, digits),
+    })
 }

@@ -17,16 +17,11 @@ use timecode::{Format, Reading, Refusal, Time};
 const NINE_BITS: u64 = 512;
 
 // A and B without the year.
+#[tactic(auto, unfolding(timecode::specs::Editions::is_earlier), using(std::proofs::lemmas::Bool::Decides::nat_tests))]
 fn is_earlier(format: Format) -> bool
     ensures { result ≡ is_earlier format }
 {
-    if 3 < format.expression {
-        return false;
-    }
-    if format.letter == b'A' {
-        return true;
-    }
-    format.letter == b'B'
+    format.expression <= 3 && matches!(format.letter, b'A' | b'B')
 }
 
 fn with_year(format: Format) -> Format
@@ -34,8 +29,8 @@ fn with_year(format: Format) -> Format
     ensures { result ≡ with_year format }
 {
     Format {
-        letter: format.letter,
         expression: format.expression + 4,
+        ..format
     }
 }
 
@@ -44,19 +39,15 @@ fn without_year(format: Format) -> Format
     ensures { result ≡ without_year format }
 {
     Format {
-        letter: format.letter,
         expression: format.expression - 4,
+        ..format
     }
 }
 
 fn time_in_year(time: Time, year: u8) -> Time
     ensures { result ≡ time_in_year time year }
 {
-    Time {
-        year: year,
-        day: time.day,
-        hundredths: time.hundredths,
-    }
+    Time { year, ..time }
 }
 
 // Both frames are as long as the format's.
@@ -64,13 +55,11 @@ fn both_fit(format: Format, first: usize, second: usize) -> bool
     ensures { result ≡ (eqb first (size format) && eqb second (size format)) }
 {
     let n = frame_size(format);
-    if first != n {
-        return false;
-    }
-    second == n
+    first == n && second == n
 }
 
 // The forward converter's own checks.
+#[tactic(auto, unfolding(timecode::specs::Editions::check_forward), using(std::proofs::lemmas::Bool::Decides::nat_tests))]
 fn check_forward(year: u8, reading: Reading) -> Result<(), Refusal>
     ensures { result ≡ check_forward year (Ok reading) }
 {

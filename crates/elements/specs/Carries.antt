@@ -1,7 +1,7 @@
 -- Elements below an index come from elements below it: a 2 or a 3 among the elements of a digit carries to higher indices only.
-use Rattle.std.specs.Prelude.{◌≡◌, true, false, cond, ◌||◌, ℕ, zero, suc, ◌+◌, ◌*◌, ◌-◌, ◌/◌, ◌%◌, ◌^◌, ◌<◌, ◌≤◌, leb, ltb, get_or}
+use Rattle.std.specs.Prelude.{◌≡◌, true, false, ℕ, zero, suc, ◌+◌, ◌*◌, ◌-◌, ◌/◌, ◌%◌, ◌^◌, ◌<◌, ◌≤◌, leb, ltb, get_or}
 use Rattle.std.proofs.Math.Path.{refl, sym, ap₂}
-use Rattle.std.proofs.Common.{ap, ◌∙◌, add-zero, mul_assoc, mul-div_cancel, add-one, arith, ltb-true, ltb-false, leb-true, leb-false, pow-add, pow_pos}
+use Rattle.std.proofs.Common.{ap, ◌∙◌, add-zero, mul_assoc, mul-div_cancel, add-one, arith, ltb-false, leb-true, leb-false, pow-add, pow_pos}
 use mathlib.Core.List.{List, [], ◌∷◌, map}
 use Rattle.std.proofs.Math.Nat.{add-mod, add-mod-mod, mod-one, mul-mod_left}
 use Rattle.std.proofs.Math.Pow.{mod-mod-pow}

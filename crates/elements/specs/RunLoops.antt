@@ -154,8 +154,3 @@ value-turn frame s w k v a b e =
 pub value-start : (frame : List ℕ) (s w : ℕ) → 0 ≡ value (w - w) (λ b. get_or frame (s + (w + b)) 0)
 unfolding value
 value-start frame s w = let z : w - w ≡ 0 = omega arith in rw z
-
-pub value-end : (frame : List ℕ) (s w k v : ℕ) → k ≡ 0 → v ≡ value (w - k) (λ b. get_or frame (s + (k + b)) 0) → v ≡ value w (λ b. get_or frame (s + b) 0)
-value-end frame s w k v z e =
-    let m : w - k ≡ w = omega arith in
-    e ∙ ap (λ (n : ℕ). value n (λ b. get_or frame (s + (k + b)) 0)) m ∙ value_same w (λ b. get_or frame (s + (k + b)) 0) (λ b. get_or frame (s + b) 0) (λ b. ap (λ (i : ℕ). get_or frame i 0) (omega arith))

@@ -35,12 +35,6 @@ const FOURS: [u32; 16] = [
     0x0101_0101,
 ];
 
-fn to_usize(x: u8) -> usize
-    ensures { result ≡ x }
-{
-    x as usize
-}
-
 // A digit's low nine bits where its run starts, counted from an index; below 2^59, since no run of nine starts late.
 fn placed(start: u8, digit: u64, from: u8) -> u64
     requires { (from ≤ start) × (start ≤ from + 50) }
@@ -55,9 +49,7 @@ fn bits_from(places: &[u8], digits: &[u64], first: usize, last: usize, from: u8)
     ensures { (result ≡ packed_runs from digits.now first (last - first)) × (result ≤ (last - first) * 576460752303423488) }
 {
     let mut bits = 0;
-    let mut j = last;
-    while first < j {
-        j -= 1;
+    for j in (first..last).rev() {
         bits += placed(places[j], digits[j], from);
     }
     bits
@@ -93,9 +85,9 @@ fn put_ten(fours: &[u32], marks: &[u8], frame: &mut [u8], k: usize, x: u64)
         frame[at + j] = element(fours, x, j);
     }
     frame[at + 8] = (x / 256 % 2) as u8;
-    frame[to_usize(marks[k + 1])] = MARK;
+    frame[usize::from(marks[k + 1])] = MARK;
     if k == 0 {
-        frame[to_usize(marks[k])] = MARK;
+        frame[usize::from(marks[k])] = MARK;
     }
 }
 
@@ -132,11 +124,12 @@ pub fn tail_bits(places: &[u8], digits: &[u64], elements: usize) -> u64
     requires { (places.now ≡ run_starts) × (length digits.now ≡ 20) }
     ensures { elements ≡ 100 → result ≡ packed 60 100 run_starts digits.now }
 {
-    if elements != 100 {
-        return 0;
+    if elements == 100 {
+        bits_from(places, digits, STRAIGHT_LOW, CONTROL_1, 60)
+            + bits_from(places, digits, CONTROL_2, YEAR_UNITS, 60)
+    } else {
+        0
     }
-    bits_from(places, digits, STRAIGHT_LOW, CONTROL_1, 60)
-        + bits_from(places, digits, CONTROL_2, YEAR_UNITS, 60)
 }
 
 // The digit that stands at a run.
@@ -145,10 +138,8 @@ fn digit_at(frame: &[u8], start: usize, width: usize) -> u64
     ensures { result ≡ value width (λ b. get_or frame.now (start + b) 0) }
 {
     let mut digit: u64 = 0;
-    let mut k = width;
-    while 0 < k {
-        k -= 1;
-        digit = digit * 2 + frame[start + k] as u64;
+    for k in (0..width).rev() {
+        digit = digit * 2 + u64::from(frame[start + k]);
     }
     digit
 }
@@ -162,7 +153,7 @@ fn run_digit(places: &[u8], runs: u32, frame: &[u8], run: usize) -> u64
         return 0;
     }
     let widths = full_widths();
-    digit_at(frame, to_usize(places[run]), to_usize(widths[run]))
+    digit_at(frame, usize::from(places[run]), usize::from(widths[run]))
 }
 
 // The digits that stand at a row's runs. One after the other, not in a loop, so that each is compiled for its own place and width.

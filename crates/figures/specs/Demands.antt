@@ -1,8 +1,8 @@
 -- What holds of the figures: they are those by which Write, the frame and the digits go; and worked rows for every format and for the ends of a day.
-use Rattle.std.specs.Prelude.{◌≡◌, refl, true, cond, List, [], ◌∷◌, ℕ, ◌+◌, ◌*◌, ◌/◌, ◌%◌, ◌^◌, ◌≤◌, ltb, length}
+use Rattle.std.specs.Prelude.{◌≡◌, refl, true, [], ◌∷◌, ℕ, ◌+◌, ◌*◌, ◌/◌, ◌%◌, ◌^◌, ◌≤◌, ltb, length}
 use Rattle.std.proofs.Common.{arith, ltb-true, ltb-false}
 use Rattle.timecode.specs.Formats.{A, B, D, E, G, H, X, table, look_up, row_of, known, size, interval, carries_control, carries_year, control_places, day_length, last_day, last_hundredth, in_range}
-use Rattle.timecode.specs.Frames.{total_width, written, control_fits}
+use Rattle.timecode.specs.Frames.{written, control_fits}
 use Rattle.timecode.proofs.Laws.Tests.{by-test}
 use Rattle.timecode.proofs.Laws.Times.{none-added, one-added}
 use Rattle.timecode.proofs.Laws.Writing.{length-written}

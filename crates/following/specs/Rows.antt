@@ -5,7 +5,7 @@ use Rattle.timecode.specs.Answers.{accepted}
 use Rattle.std.specs.Prelude.{◌≡◌, Bool, cond, ◌&&◌, leb, take, drop, Result}
 use Rattle.std.proofs.Math.Bool.{true}
 use mathlib.Core.List.{List, ◌∷◌}
-use Prim.Native.Nat.{ℕ, zero, suc, ◌+◌, ◌-◌, ◌≤◌}
+use Prim.Native.Nat.{ℕ, zero, suc, ◌-◌, ◌≤◌}
 use Rattle.std.proofs.Math.Dec.{eqb}
 use Rattle.std.proofs.Math.ListN.{get_or}
 use Rattle.timecode.specs.Formats.{is_x, size}

@@ -1,4 +1,5 @@
 // A frame as a line of text in the characters that timeread reads, and the first line of a recording.
+// The line and the place in it stay two parameters: the one function that takes both goes between the functions of lines, whose promises name both.
 #![tactic(auto)]
 
 ghost use Rattle.std.specs.Prelude.{◌≡◌, ◌++◌, ◌+◌, ◌≤◌, length, take};

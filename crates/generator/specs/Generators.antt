@@ -1,6 +1,6 @@
 -- The parts put one behind another are the lines of all the frames; these are a generator's, as document 01 has it.
 use Rattle.std.specs.Prelude.{◌≡◌, Bool, true, ◌&&◌, eqb, Ok}
-use Prim.Native.Nat.{ℕ, zero, suc, ◌-◌}
+use Prim.Native.Nat.{ℕ, zero, suc}
 use Rattle.timecode.specs.Frames.{step_of}
 use Rattle.timecode.specs.declared.Format.{Format}
 use Rattle.timecode.specs.declared.Time.{Time}

@@ -1,5 +1,6 @@
 // The lines of a generator's frames, as many at a time as lent memory has room for.
 // The day on which it starts has any kind that Step takes; every later day is usual.
+// The lent memory and the place in it stay two parameters of the one function that takes both: `put_text` of lines promises by both.
 #![tactic(auto)]
 
 ghost use Rattle.std.specs.Prelude.{◌≡◌, ◌++◌, ◌+◌, ◌≤◌, take};
@@ -54,12 +55,10 @@ fn kind_after(time: Time, next: Time, kind: u8) -> u8
 fn next_start(format: Format, start: Start, given: u16) -> Start
     ensures { result ≡ next_start format start given }
 {
-    let time = start.time;
-    let stepped = step(format, time, given, start.kind);
-    match stepped {
+    match step(format, start.time, given, start.kind) {
         Ok(next) => Start {
             time: next,
-            kind: kind_after(time, next, start.kind),
+            kind: kind_after(start.time, next, start.kind),
         },
         Err(_) => start,
     }
@@ -70,8 +69,7 @@ fn put_next(out: &mut [u8; 65536], at: usize, format: Format, time: Time, contro
     ensures { (result ≤ 65536) × (take result out.new ≡ take at out.old ++ frame_line_for format time control) }
 {
     let mut line = [0u8; 256];
-    let lined = frame_line(format, time, control, &mut line);
-    match lined {
+    match frame_line(format, time, control, &mut line) {
         Ok(k) => put_text(out, at, &line[..k]),
         Err(_) => at,
     }

@@ -1,4 +1,5 @@
 // Some bytes of a recording heard at once: the progress after them, and their lines.
+// The lent memory and the place in it stay two parameters: the promises of `hear` and of progress's functions name both.
 #![tactic(auto)]
 
 ghost use Rattle.std.specs.Prelude.{◌≡◌, false, ◌++◌, ◌+◌, ◌*◌, ◌≤◌, length, take};
@@ -44,6 +45,7 @@ fn reports_of(answer: Result<Taken, Refusal>) -> usize
 }
 
 // Puts a line for each of the first records. The symbol at index 0 is the next element.
+// The lists and their count stay side by side, and an index is counted over them: the C interface's block gives its reports so.
 fn put_lines(
     elements: u64,
     indexes: &[usize],

@@ -219,101 +219,69 @@ const OTHER: Row = Row {
 };
 
 // The row of a letter in one of its editions, without the year or with it, in expression 0 or 4, which carries everything.
-// One test of each letter, so that it is compiled into its callers, which then know what all rows have in common.
+// One match on the letter, so that it is compiled into its callers, which then know what all rows have in common.
 fn row_in(letter: u8, year: bool) -> Row
     ensures { (e : ℕ) → carries_year (with_letter letter e) ≡ (year && takes_year letter) → RowFor (with_letter letter e) result }
 {
-    if letter == b'A' {
-        if year {
-            return A_YEAR;
-        }
-        return A;
+    match letter {
+        b'A' if year => A_YEAR,
+        b'A' => A,
+        b'B' if year => B_YEAR,
+        b'B' => B,
+        b'D' => D,
+        b'E' => E,
+        b'G' => G,
+        b'H' => H,
+        b'X' => X,
+        _ => OTHER,
     }
-    if letter == b'B' {
-        if year {
-            return B_YEAR;
-        }
-        return B;
-    }
-    if letter == b'D' {
-        return D;
-    }
-    if letter == b'E' {
-        return E;
-    }
-    if letter == b'G' {
-        return G;
-    }
-    if letter == b'H' {
-        return H;
-    }
-    if letter == b'X' {
-        return X;
-    }
-    OTHER
 }
 
 // Expressions 4 to 7 are those with the year.
+#[tactic(auto, unfolding(crate::specs::Tables::has_year), using(std::proofs::lemmas::Bool::Decides::nat_tests))]
 fn has_year(expression: u8) -> bool
     ensures { result ≡ has_year expression }
 {
-    if 4 <= expression {
-        return expression <= 7;
-    }
-    false
+    matches!(expression, 4..=7)
 }
 
 // The expression is one of the row's.
 pub fn takes(row: Row, expression: u8) -> bool
     ensures { result ≡ (leb row.first expression && leb expression row.last) }
 {
-    if row.first <= expression {
-        return expression <= row.last;
-    }
-    false
+    row.first <= expression && expression <= row.last
 }
 
 // A and B in the expressions with the year.
+#[tactic(auto, unfolding(timecode::specs::Formats::carries_year, crate::specs::Tables::has_year), using(std::proofs::lemmas::Bool::Decides::nat_tests))]
 pub fn carries_year(format: Format) -> bool
     ensures { result ≡ carries_year format }
 {
-    if has_year(format.expression) {
-        if format.letter == b'A' {
-            return true;
-        }
-        return format.letter == b'B';
-    }
-    false
+    has_year(format.expression) && matches!(format.letter, b'A' | b'B')
 }
 
 pub fn is_known(format: Format) -> bool
     ensures { result ≡ known format }
 {
-    if carries_year(format) {
-        return true;
-    }
-    takes(row_in(format.letter, false), format.expression)
+    carries_year(format) || takes(row_in(format.letter, false), format.expression)
 }
 
 pub fn frame_size(format: Format) -> usize
     ensures { (result ≡ size format) × (25 ≤ result) × (result ≤ 100) }
 {
-    let row = row_in(format.letter, false);
-    row.elements
+    row_in(format.letter, false).elements
 }
 
 pub fn frame_interval(format: Format) -> u32
     ensures { (result ≡ interval format) × (1 ≤ result) × (result ≤ 360000) }
 {
-    let row = row_in(format.letter, false);
-    row.interval
+    row_in(format.letter, false).interval
 }
 
 pub fn carries_leap(format: Format) -> bool
     ensures { result ≡ carries_leap format }
 {
-    let row = row_in(format.letter, false);
-    row.leap
+    row_in(format.letter, false).leap
 }
 
 pub fn full_widths() -> [u8; 20]
@@ -323,6 +291,7 @@ pub fn full_widths() -> [u8; 20]
 }
 
 // The run with this number is one of those that are carried.
+#[tactic(auto, unfolding(crate::specs::Tables::is_carried))]
 pub fn is_carried(runs: u32, run: usize) -> bool
     requires { run < 20 }
     ensures { result ≡ is_carried runs run }
@@ -334,10 +303,7 @@ fn width_in(runs: u32, run: usize, full: u8) -> u8
     requires { run < 20 }
     ensures { result ≡ cond (is_carried runs run) full 0 }
 {
-    if is_carried(runs, run) {
-        return full;
-    }
-    0
+    if is_carried(runs, run) { full } else { 0 }
 }
 
 // How many elements each run has, 0 where it is not carried.
@@ -346,10 +312,8 @@ pub fn widths_of(runs: u32) -> [u8; 20]
 {
     let full = WIDTHS;
     let mut widths = [0u8; RUNS];
-    let mut run = 0;
-    while run < RUNS {
+    for run in 0..RUNS {
         widths[run] = width_in(runs, run, full[run]);
-        run += 1;
     }
     widths
 }
@@ -359,25 +323,23 @@ fn without_year(expression: u8) -> u8
     ensures { result ≡ without_year expression }
 {
     if has_year(expression) {
-        return expression - 4;
+        expression - 4
+    } else {
+        expression
     }
-    expression
 }
 
 // The runs that an expression may carry, counted from its edition's first. 0 = BCD, CF, SBS; 1 = BCD, CF; 2 = BCD; 3 = BCD, SBS.
+#[tactic(auto, unfolding(crate::specs::Tables::runs_in), using(std::proofs::lemmas::Bool::Decides::nat_tests))]
 fn runs_in(expression: u8) -> u32
     ensures { result ≡ runs_in expression }
 {
-    if expression == 0 {
-        return 0b11_11111_11_11_111_11_11_11;
+    match expression {
+        0 => 0b11_11111_11_11_111_11_11_11,
+        1 => 0b11_11111_00_11_111_11_11_11,
+        3 => 0b11_00000_11_11_111_11_11_11,
+        _ => 0b11_00000_00_11_111_11_11_11,
     }
-    if expression == 1 {
-        return 0b11_11111_00_11_111_11_11_11;
-    }
-    if expression == 3 {
-        return 0b11_00000_11_11_111_11_11_11;
-    }
-    0b11_00000_00_11_111_11_11_11
 }
 
 // The row of a format: its edition's, with what its expression carries.
@@ -385,7 +347,7 @@ pub fn row_of(format: Format) -> Row
     ensures { RowOf format result }
 {
     let mut row = row_in(format.letter, has_year(format.expression));
-    row.runs = row.runs & runs_in(without_year(format.expression));
+    row.runs &= runs_in(without_year(format.expression));
     row
 }
 

@@ -89,7 +89,7 @@ fn hear(
     let mut current = reader;
     let mut counted = counts;
     let mut i = 0;
-    // a while: each stride says itself how many symbols it took
+    // No `for`: how many symbols a turn takes, the stride says.
     while i < n {
         let stride = advance(current, symbols, i, n);
         let following = stride.reader;

@@ -30,18 +30,16 @@ pub struct Listed {
 pub fn begin(head: &[u8]) -> Result<Reader, Refusal>
     ensures { result ≡ made_from_head head.now }
 {
-    if 3 <= head.len() {
-        if head[2] == b'\n' {
-            if b'0' <= head[1] {
-                let format = Format {
-                    letter: head[0],
-                    expression: head[1] - 48,
-                };
-                return Reader::fresh(format, SETTING);
-            }
+    match head {
+        [letter, digit @ b'0'.., b'\n', ..] => {
+            let format = Format {
+                letter: *letter,
+                expression: *digit - b'0',
+            };
+            Reader::fresh(format, SETTING)
         }
+        _ => Err(Refusal::UnknownFormat),
     }
-    Err(Refusal::UnknownFormat)
 }
 
 // Nothing received, nothing printed.

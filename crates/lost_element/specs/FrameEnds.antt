@@ -1,5 +1,5 @@
 -- How the frames of a format end: the last mark, in X the four 3s, alike in all of them, and before these another symbol.
-use Rattle.std.specs.Prelude.{Bool, ◌&&◌, ◌+◌, ◌-◌}
+use Rattle.std.specs.Prelude.{Bool, ◌&&◌, ◌+◌}
 use Rattle.std.proofs.Math.Bool.{not}
 use Rattle.timecode.specs.Frames.{covered}
 use Rattle.timecode.specs.Laws.Tests.{every_below}

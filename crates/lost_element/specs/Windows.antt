@@ -1,6 +1,6 @@
 -- A confirmed window of a generator's elements with one left out or one symbol put in: the frame that fills its last n is the generator's, whole.
 -- Marks tell where the generator's frames begin in it. No time needs to be next after another for that.
-use Rattle.std.specs.Prelude.{◌≡◌, List, ◌⊎◌, ℕ, suc, ◌+◌, ◌*◌, ◌-◌, ◌<◌, ◌≤◌, length, get_or}
+use Rattle.std.specs.Prelude.{◌≡◌, List, ◌⊎◌, ℕ, suc, ◌+◌, ◌*◌, ◌<◌, ◌≤◌, length, get_or}
 use Rattle.timecode.specs.Formats.{size}
 use Rattle.timecode.specs.Frames.{Sent, elements, sent_at}
 use Rattle.timecode.specs.Laws.Generators.{frame_of}

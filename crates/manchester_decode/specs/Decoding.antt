@@ -1,6 +1,7 @@
 -- The loops of decoding, turn by turn.
+use Rattle.timecode.proofs.Laws.Tests.{by-test}
 use Rattle.timecode.specs.Answers.{done}
-use Rattle.std.specs.Prelude.{◌≡◌, refl, Bool, true, false, ◌&&◌, List, ℕ, suc, ◌+◌, ◌*◌, ◌-◌, ◌<◌, ◌≤◌, leb, length, take, drop, get_or, set, Err, [], ◌∷◌, zero}
+use Rattle.std.specs.Prelude.{◌≡◌, refl, Bool, true, false, ◌&&◌, List, ℕ, suc, ◌+◌, ◌*◌, ◌-◌, ◌<◌, ◌≤◌, leb, length, take, drop, get_or, set, Err, [], ◌∷◌, zero, eqb}
 use Rattle.std.proofs.Common.{sym, ap, ◌∙◌, le_trans, le_of_eq, add-one, arith, ne_eqb, le-leb, drop_of_length-le, length-drop, drop-cons, length-take-le, take_all}
 use Rattle.std.proofs.lemmas.Bool.{lt-leb}
 use Rattle.timecode.proofs.Laws.Runs.{fill_step, fill_end}
@@ -23,6 +24,17 @@ leading-is (x ∷ xs) zero h b f = rw (ne_eqb x 1 (f (omega arith)))
 leading-is (x ∷ xs) (suc i) h b f =
     let e : x ≡ 1 = b 0 (omega arith) in
     rw e (ap suc (leading-is xs i (omega arith) (λ k u. b (suc k) (omega arith)) (λ u. f (omega arith))))
+
+pub low-all : (xs : List ℕ) → ((k : ℕ) → k < length xs → get_or xs k 0 ≡ 2) → true ≡ all_low xs
+unfolding all_low
+low-all [] b = refl
+low-all (x ∷ xs) b = let e : x ≡ 2 = b 0 (omega arith) in rw e (low-all xs (λ k u. b (suc k) (omega arith)))
+
+pub low-not : (xs : List ℕ) (i : ℕ) → i < length xs → (get_or xs i 0 ≡ 2 → ⊥) → false ≡ all_low xs
+unfolding all_low
+low-not [] i h f = absurd (omega arith)
+low-not (x ∷ xs) zero h f = rw (ne_eqb x 2 f)
+low-not (x ∷ xs) (suc i) h f = by-test (eqb x 2) (λ y. rw y (low-not xs i (omega arith) f)) (λ n. rw n)
 
 pub improper-is : (xs : List ℕ) (i : ℕ) → i ≤ length xs → ((k : ℕ) → k < i → is_proper (get_or xs k 0) ≡ true) → (i < length xs → is_proper (get_or xs i 0) ≡ false) → i ≡ first_improper xs
 unfolding first_improper

@@ -1,7 +1,7 @@
 -- The loops of encoding, turn by turn.
 use Rattle.timecode.specs.Answers.{done}
-use Rattle.std.specs.Prelude.{◌≡◌, refl, true, false, ◌&&◌, List, [], ◌∷◌, ◌++◌, ℕ, zero, suc, ◌+◌, ◌*◌, ◌-◌, ◌%◌, ◌<◌, ◌≤◌, leb, eqb, length, take, drop, get_or, set, replicate, Err}
-use Rattle.std.proofs.Common.{sym, ap, ap₂, ◌∙◌, append_assoc, append-nil, add-zero, add-one, arith, leb-true, le-leb, drop_of_length-le, length-append, length-set, length-drop, take-suc, take-suc-set, take-take, take-add, length-take-le, drop-cons, drop-drop, drop_at, take_at, get_or-drop}
+use Rattle.std.specs.Prelude.{◌≡◌, refl, true, false, ◌&&◌, List, [], ◌∷◌, ◌++◌, ℕ, zero, suc, ◌+◌, ◌*◌, ◌-◌, ◌%◌, ◌<◌, ◌≤◌, leb, eqb, length, take, drop, get_or, set, replicate, Err, ltb, max}
+use Rattle.std.proofs.Common.{sym, ap, ap₂, ◌∙◌, append_assoc, append-nil, add-zero, add-one, arith, leb-true, le-leb, drop_of_length-le, length-append, length-set, length-drop, take-suc, take-suc-set, take-take, take-add, length-take-le, drop-cons, drop-drop, drop_at, take_at, get_or-drop, ltb-true, ltb-false}
 use Rattle.std.proofs.lemmas.List.{replicate-append-replicate, length-replicate}
 use Rattle.std.proofs.Math.Seq.{take-length, take-append-add}
 use Rattle.timecode.proofs.Laws.Marks.{size-positive}
@@ -12,17 +12,21 @@ use Rattle.timecode.specs.declared.Refusal.TheVariants.{UnknownSymbol}
 use Rattle.cycles.proofs.Checks.{checked, checks-pass, checks-refuse}
 use Rattle.cycles.specs.Cycles.{check_frame, highs, element, cycles_of, unspoiled, encode_of, encode_leaves}
 use Rattle.cycles.proofs.Elements.{count-parts, highs-within}
+use borrow.Rule.Slice.PartMut.{put_mid}
 
--- ---- a run of one level: one more cycle
+-- ---- a run of one level
 
-pub run_step : (xs old : List ℕ) (from i v : ℕ) → from ≤ i → i < length xs → take i xs ≡ take from old ++ replicate (i - from) v → take (i + 1) (set xs i v) ≡ take from old ++ replicate (i + 1 - from) v
-run_step xs old from i v h k e =
-    let more : i - from + 1 ≡ i + 1 - from = omega arith in
-    rw (add-one i)
-    (take-suc-set xs i v k
-    ∙ ap (λ (ys : List ℕ). ys ++ (v ∷ [])) e
-    ∙ append_assoc (take from old) (replicate (i - from) v) (v ∷ [])
-    ∙ ap (λ (ys : List ℕ). take from old ++ ys) (replicate-append-replicate (i - from) 1 v ∙ ap (λ (j : ℕ). replicate j v) (more ∙ ap (λ (j : ℕ). j - from) (add-one i))))
+pub run_put : (old part : List ℕ) (from to v : ℕ) → from ≤ to → to ≤ length old → part ≡ replicate (to - from) v → (length (put_mid from (to - from) old part) ≡ length old) × (take to (put_mid from (to - from) old part) ≡ take from old ++ replicate (to - from) v)
+run_put old part from to v h k e =
+    let front : length (take from old) ≡ from = length-take-le from old (omega arith) in
+    let run : length part ≡ to - from = ap length e ∙ length-replicate (to - from) v in
+    let rest = drop (to - from) (drop from old) in
+    let place : to ≡ length (take from old) + (to - from) = omega arith in (
+      simp (length-append, length-drop) (omega arith),
+      ap (λ (m : ℕ). take m (take from old ++ (part ++ rest))) place
+          ∙ take-append-add (take from old) (part ++ rest) (to - from)
+          ∙ ap (λ (l : List ℕ). take from old ++ l) (take_at part rest (to - from) run ∙ e),
+    )
 
 -- ---- one more element
 
@@ -207,9 +211,6 @@ element-copied M s ss ls old new at h k st l c = c.1 ∙ ap (λ (x : List ℕ). 
 pub short-copied : (s : ℕ) (es old new : List ℕ) (at : ℕ) → s ≤ 2 → Short es → Copied es (16 * s) old new at 10 → take (at + 10) new ≡ take at old ++ element 10 s
 short-copied s es old new at h e c = c.1 ∙ ap (λ (x : List ℕ). take at old ++ x) (ap (λ (x : List ℕ). take 10 (drop (16 * s) x)) e ∙ short-element s h)
 
-pub run_none : (xs : List ℕ) (from v : ℕ) → take from xs ≡ take from xs ++ replicate (from - from) v
-run_none xs from v = let none : from - from ≡ 0 = omega arith in rw none (sym (append-nil (take from xs)))
-
 pub all_set : (M : ℕ) (frame cycles : List ℕ) (i at : ℕ) → i ≡ length frame → at ≡ i * M → length cycles ≡ length frame * M → take at cycles ≡ cycles_of M (take i frame) → cycles ≡ cycles_of M frame
 all_set M frame cycles i at h a l e =
     let whole : length cycles ≡ at = l ∙ ap (λ (k : ℕ). k * M) (sym h) ∙ sym a in
@@ -217,11 +218,14 @@ all_set M frame cycles i at h a l e =
 
 -- ---- no symbol above 2
 
-pub larger-second : (a b : ℕ) → a < b → leb b 2 ≡ (leb a 2 && leb b 2)
+larger-second : (a b : ℕ) → a < b → leb b 2 ≡ (leb a 2 && leb b 2)
 larger-second a b h = by-test (leb b 2) (λ y. let le = leb-true b 2 y in rw (y, le-leb a 2 (omega arith))) (λ n. by-test (leb a 2) (λ y. rw (n, y)) (λ m. rw (n, m)))
 
-pub larger-first : (a b : ℕ) → b ≤ a → leb a 2 ≡ (leb a 2 && leb b 2)
+larger-first : (a b : ℕ) → b ≤ a → leb a 2 ≡ (leb a 2 && leb b 2)
 larger-first a b h = by-test (leb a 2) (λ y. let le = leb-true a 2 y in rw (y, le-leb b 2 (omega arith))) (λ n. rw n)
+
+pub larger-of : (a b m : ℕ) → m ≡ max a b → leb m 2 ≡ (leb a 2 && leb b 2)
+larger-of a b m e = by-test (ltb a b) (λ y. let lt = ltb-true a b y in let is : m ≡ b = omega arith in rw is (larger-second a b lt)) (λ n. let le = ltb-false a b n in let is : m ≡ a = omega arith in rw is (larger-first a b le))
 
 -- the largest so far, and the symbols that are left
 pub unspoiled-start : (xs : List ℕ) → unspoiled xs ≡ (leb 0 2 && unspoiled (drop 0 xs))

@@ -1,6 +1,5 @@
 // A frame of A, B or G in the modified Manchester form: each symbol as its clock cycles, the high ones first.
 // Elements are copied in whole blocks of 16 cycles: those of 10 cycles from a block each, longer ones as parts of one run of levels.
-// Its loops count an index: with `for`, `copy_from_slice` and `fill` an element of 10 or 20 cycles took 1.5 to 1.9 times as long.
 #![tactic(auto)]
 
 ghost use Rattle.std.specs.Prelude.{◌≡◌, true, ◌&&◌, ◌++◌, ◌+◌, ◌*◌, ◌-◌, ◌%◌, ◌<◌, ◌≤◌, leb, length, take, replicate};
@@ -11,28 +10,23 @@ use manchester::{HIGH, LOW, check_frame};
 use timecode::{Format, MARK, ONE, Refusal, ZERO};
 
 // How many high cycles begin the element of a symbol: 2, 5 or 8 tenths of it.
+#[tactic(auto, unfolding(cycles::specs::Cycles::highs))]
 fn highs_of(count: usize, symbol: u8) -> usize
     requires { count ≤ 100 }
     ensures { (result ≡ highs count symbol) × (result ≤ 80) }
 {
-    if symbol == ZERO {
-        return count / 5;
+    match symbol {
+        ZERO => count / 5,
+        ONE => count / 2,
+        _ => 4 * count / 5,
     }
-    if symbol == ONE {
-        return count / 2;
-    }
-    4 * count / 5
 }
 
 fn put_run(cycles: &mut [u8], from: usize, to: usize, level: u8)
     requires { (from ≤ to) × (to ≤ length cycles.old) }
     ensures { (length cycles.new ≡ length cycles.old) × (take to cycles.new ≡ take from cycles.old ++ replicate (to - from) level) }
 {
-    let mut i = from;
-    while i < to {
-        cycles[i] = level;
-        i += 1;
-    }
+    cycles[from..to].fill(level);
 }
 
 // So many cycles, from one place to another.
@@ -40,10 +34,8 @@ fn copy_cycles(levels: &[u8], from: usize, cycles: &mut [u8], at: usize, count: 
     requires { (from + count ≤ length levels.now) × (at + count ≤ length cycles.old) }
     ensures { Copied levels.now from cycles.old cycles.new at count }
 {
-    let mut i = 0;
-    while i < count {
+    for i in 0..count {
         cycles[at + i] = levels[from + i];
-        i += 1;
     }
 }
 
@@ -57,38 +49,37 @@ fn copy_block(levels: &[u8], from: usize, cycles: &mut [u8], at: usize)
     copy_cycles(&block, 0, cycles, at, 16);
 }
 
-fn copy_blocks(levels: &[u8], from: usize, cycles: &mut [u8], at: usize, blocks: usize)
-    requires { (blocks ≤ 7) × (from + 16 * blocks ≤ length levels.now) × (at + 16 * blocks ≤ length cycles.old) }
-    ensures { Copied levels.now from cycles.old cycles.new at (16 * blocks) }
+fn copy_blocks<const BLOCKS: usize>(levels: &[u8], from: usize, cycles: &mut [u8], at: usize)
+    requires { (BLOCKS ≤ 7) × (from + 16 * BLOCKS ≤ length levels.now) × (at + 16 * BLOCKS ≤ length cycles.old) }
+    ensures { Copied levels.now from cycles.old cycles.new at (16 * BLOCKS) }
 {
-    let mut i = 0;
-    while i < blocks {
+    for i in 0..BLOCKS {
         copy_block(levels, from + 16 * i, cycles, at + 16 * i);
-        i += 1;
     }
 }
 
 // The frame, each element in so many whole blocks: what they set behind it, the next element sets again. The last one has no room for that.
-fn copy_elements(
+fn copy_elements<const BLOCKS: usize>(
     levels: &[u8],
     starts: &[usize],
-    blocks: usize,
     count: usize,
     frame: &[u8],
     cycles: &mut [u8],
 )
-    requires { (blocks ≤ 7) × (8 * blocks ≤ count) × (count ≤ 16 * blocks) × (count ≤ 100) × Levels levels.now × Starts count starts.now × (unspoiled frame.now ≡ true) × (0 < length frame.now) × (length cycles.old ≡ length frame.now * count) }
+    requires { (BLOCKS ≤ 7) × (8 * BLOCKS ≤ count) × (count ≤ 16 * BLOCKS) × (count ≤ 100) × Levels levels.now × Starts count starts.now × (unspoiled frame.now ≡ true) × (0 < length frame.now) × (length cycles.old ≡ length frame.now * count) }
     ensures { cycles.new ≡ cycles_of count frame.now }
 {
     let last = frame.len() - 1;
-    let mut i = 0;
-    let mut at = 0;
-    while i < last {
-        copy_blocks(levels, starts[frame[i] as usize], cycles, at, blocks);
-        at += count;
-        i += 1;
+    for i in 0..last {
+        copy_blocks::<BLOCKS>(levels, starts[frame[i] as usize], cycles, i * count);
     }
-    copy_cycles(levels, starts[frame[i] as usize], cycles, at, count);
+    copy_cycles(
+        levels,
+        starts[frame[last] as usize],
+        cycles,
+        last * count,
+        count,
+    );
 }
 
 // A loop of its own for each number of blocks, which the compiler then writes out.
@@ -98,12 +89,12 @@ fn copy_frame(levels: &[u8], starts: &[usize], count: usize, frame: &[u8], cycle
 {
     let blocks = (count + 15) / 16;
     match blocks {
-        2 => copy_elements(levels, starts, 2, count, frame, cycles),
-        3 => copy_elements(levels, starts, 3, count, frame, cycles),
-        4 => copy_elements(levels, starts, 4, count, frame, cycles),
-        5 => copy_elements(levels, starts, 5, count, frame, cycles),
-        6 => copy_elements(levels, starts, 6, count, frame, cycles),
-        _ => copy_elements(levels, starts, 7, count, frame, cycles),
+        2 => copy_elements::<2>(levels, starts, count, frame, cycles),
+        3 => copy_elements::<3>(levels, starts, count, frame, cycles),
+        4 => copy_elements::<4>(levels, starts, count, frame, cycles),
+        5 => copy_elements::<5>(levels, starts, count, frame, cycles),
+        6 => copy_elements::<6>(levels, starts, count, frame, cycles),
+        _ => copy_elements::<7>(levels, starts, count, frame, cycles),
     }
 }
 
@@ -138,14 +129,10 @@ fn copy_short_elements(elements: &[u8], frame: &[u8], cycles: &mut [u8])
     ensures { cycles.new ≡ cycles_of 10 frame.now }
 {
     let last = frame.len() - 1;
-    let mut i = 0;
-    let mut at = 0;
-    while i < last {
-        copy_block(elements, 16 * (frame[i] as usize), cycles, at);
-        at += 10;
-        i += 1;
+    for i in 0..last {
+        copy_block(elements, 16 * frame[i] as usize, cycles, i * 10);
     }
-    copy_cycles(elements, 16 * (frame[i] as usize), cycles, at, 10);
+    copy_cycles(elements, 16 * frame[last] as usize, cycles, last * 10, 10);
 }
 
 fn put_short_cycles(frame: &[u8], cycles: &mut [u8])
@@ -165,18 +152,9 @@ fn put_cycles(count: usize, frame: &[u8], cycles: &mut [u8])
 {
     if count == 10 {
         put_short_cycles(frame, cycles);
-        return;
+    } else {
+        put_long_cycles(count, frame, cycles);
     }
-    put_long_cycles(count, frame, cycles);
-}
-
-fn larger(a: u8, b: u8) -> u8
-    ensures { leb result 2 ≡ (leb a 2 && leb b 2) }
-{
-    if a < b {
-        return b;
-    }
-    a
 }
 
 // By the largest symbol, which the processor finds for 16 at once.
@@ -184,10 +162,8 @@ fn is_unspoiled(frame: &[u8]) -> bool
     ensures { result ≡ unspoiled frame.now }
 {
     let mut largest = ZERO;
-    let mut i = 0;
-    while i < frame.len() {
-        largest = larger(largest, frame[i]);
-        i += 1;
+    for symbol in frame {
+        largest = largest.max(*symbol);
     }
     largest <= MARK
 }

@@ -1,15 +1,16 @@
 -- What reading and printing leave of the progress. That a read or a write failed stands in no contract of the C library:
 -- these say what a failure leaves, and not that there was one.
-use Rattle.std.specs.Prelude.{◌≡◌, refl, Bool, true, false, not, List, [], ◌++◌, ◌⊎◌, ℕ, zero, suc, ◌≤◌, ℤ, pos, negsuc, length, take}
-use Rattle.std.proofs.Common.{sym, ap, ◌∙◌, inl, inr, arith, ltb-true}
+use Rattle.std.specs.Prelude.{◌≡◌, true, false, List, [], ◌∷◌, ◌++◌, ◌⊎◌, ℕ, ◌≤◌, length, take}
+use Rattle.std.proofs.Common.{refl, sym, ap, ◌∙◌, inl, inr, arith, Option, None, Some, ControlFlow, Continue, Break}
 use Rattle.std.proofs.lemmas.Bool.{false≢true}
-use Rattle.std.specs.Int.Signed.{lt_z}
 use Rattle.std.proofs.Math.Seq.{take-length}
-use Rattle.io.specs.Counts.{clamp_len}
 use Rattle.hearing.specs.Bytes.{after_of, after-parts}
 use Rattle.listing.specs.Parts.{reached-start}
 use Rattle.progress.specs.declared.Progress.{Progress}
-use Rattle.printing.specs.declared.Printed.{Printed}
+
+-- the progress to go on with where another read is to come, or the last one
+abbrev pub Printed : Type 0
+Printed = ControlFlow Progress Progress
 
 -- where a read or a write has failed, no other line follows
 abbrev pub stopped : Progress → Progress
@@ -21,13 +22,14 @@ Reaches p bytes q = (q ≡ after_of p bytes) ⊎ ((k : ℕ) × (k ≤ length byt
 
 -- what one read's bytes leave: another read is to come unless no other line follows
 abbrev pub Prints : Progress → List ℕ → Printed → Type 0
-Prints p bytes r = Reaches p bytes r.progress × (r.more ≡ not r.progress.ended)
+Prints p bytes (Continue q) = Reaches p bytes q × (q.ended ≡ false)
+Prints p bytes (Break q) = Reaches p bytes q × (q.ended ≡ true)
 
 -- what a read's result leaves: a failure stops the listing, the end of the input leaves the progress, and bytes are printed
-abbrev pub AfterRead : Progress → ℤ → List ℕ → Printed → Type 0
-AfterRead p (negsuc k) input r = (r.more ≡ false) × (r.progress ≡ stopped p)
-AfterRead p (pos zero) input r = (r.more ≡ false) × (r.progress ≡ p)
-AfterRead p (pos (suc k)) input r = Prints p (take (clamp_len (pos (suc k)) (length input)) input) r
+abbrev pub AfterRead : Progress → Option (List ℕ) → Printed → Type 0
+AfterRead p None r = r ≡ Break (stopped p)
+AfterRead p (Some []) r = r ≡ Break p
+AfterRead p (Some (b ∷ bs)) r = Prints p (b ∷ bs) r
 
 -- what all reads leave, whatever they bring
 abbrev pub ReadsAll : Progress → Progress → Type 0
@@ -35,7 +37,8 @@ ReadsAll p q = (bytes : List ℕ) × Reaches p bytes q
 
 -- and what one leaves
 abbrev pub Reads : Progress → Printed → Type 0
-Reads p r = ReadsAll p r.progress × (r.more ≡ true → r.progress.ended ≡ false)
+Reads p (Continue q) = ReadsAll p q × (q.ended ≡ false)
+Reads p (Break q) = ReadsAll p q
 
 -- ---- no bytes, and a failure before any
 
@@ -46,10 +49,6 @@ pub reads-failed : (p q : Progress) → q ≡ stopped p → Reaches p [] q
 reads-failed p q e = inr (0, omega arith, e ∙ ap stopped (reached-start p []))
 
 -- ---- one read more
-
-pub not-true : (b m : Bool) → m ≡ not b → m ≡ true → b ≡ false
-not-true true m e t = absurd (false≢true (sym e ∙ t))
-not-true false m e t = refl
 
 not-ended : (p : Progress) (bytes : List ℕ) (q : Progress) → q.ended ≡ false → Reaches p bytes q → q ≡ after_of p bytes
 not-ended p bytes q n (inl e) = e
@@ -68,17 +67,22 @@ module _ (p q : Progress) (n : q.ended ≡ false) where
 
 -- ---- whatever a read gives
 
-pub after_read : (p : Progress) (got : ℤ) (input : List ℕ) (r : Printed) → AfterRead p got input r → Reads p r
-after_read p (negsuc k) input r (m, e) = (([], reads-failed p r.progress e), λ t. absurd (false≢true (sym m ∙ t)))
-after_read p (pos zero) input r (m, e) = (([], inl (e ∙ reached-start p [])), λ t. absurd (false≢true (sym m ∙ t)))
-after_read p (pos (suc k)) input r (a, m) = ((take (clamp_len (pos (suc k)) (length input)) input, a), not-true r.progress.ended r.more m)
+after-bytes : (p : Progress) (bytes : List ℕ) (r : Printed) → Prints p bytes r → Reads p r
+after-bytes p bytes (Continue q) (a, n) = ((bytes, a), n)
+after-bytes p bytes (Break q) (a, n) = (bytes, a)
 
-module _ (p : Progress) (input : List ℕ) (r : Printed) where
-  pub after-read-failed : (got : ℤ) → lt_z got (pos 0) ≡ true → (r.more ≡ false) × (r.progress ≡ stopped p) → AfterRead p got input r
-  after-read-failed (pos k) t a = let n : ⊥ = omega (arith, ltb-true k 0 t) in absurd n
-  after-read-failed (negsuc k) t a = a
+pub after_read : (p : Progress) (got : Option (List ℕ)) (r : Printed) → AfterRead p got r → Reads p r
+after_read p None (Continue q) e = cc
+after_read p None (Break q) e = ([], reads-failed p q cc)
+after_read p (Some []) (Continue q) e = cc
+after_read p (Some []) (Break q) e = let same : q ≡ p = cc in ([], inl (same ∙ reached-start p []))
+after_read p (Some (b ∷ bs)) r a = after-bytes p (b ∷ bs) r a
 
-  pub after-read-bytes : (got : ℤ) → lt_z got (pos 0) ≡ false → (got ≡ pos 0 → ⊥) → Prints p (take (clamp_len got (length input)) input) r → AfterRead p got input r
-  after-read-bytes (pos zero) t n a = absurd (n refl)
-  after-read-bytes (pos (suc k)) t n a = a
-  after-read-bytes (negsuc k) t n a = absurd (false≢true (sym t))
+module _ (p : Progress) (r : Printed) where
+  pub after-read-failed : (got : Option (List ℕ)) → got ≡ None → r ≡ Break (stopped p) → AfterRead p got r
+  after-read-failed None n e = e
+  after-read-failed (Some bytes) n e = cc
+
+  pub after-read-bytes : (bytes : List ℕ) → (bytes ≡ [] → ⊥) → Prints p bytes r → AfterRead p (Some bytes) r
+  after-read-bytes [] n a = absurd (n refl)
+  after-read-bytes (b ∷ bs) n a = a

@@ -3,35 +3,31 @@
 // or that a call failed.
 #![tactic(auto)]
 
-ghost use Rattle.std.specs.Prelude.{◌≡◌, false};
+ghost use Rattle.std.specs.Prelude.{◌≡◌, option_map};
+ghost use Rattle.std.proofs.Common.{Break};
 ghost use Rattle.progress.specs.Progress.{running_at};
 ghost use Rattle.printing.specs.Printing.{stopped, Prints, AfterRead, Reads, ReadsAll};
 
 use listing::{begin, finish, list, start};
 use output::{print_refused, write_first};
-use program_io::read;
+use program_io::read_bytes;
 use progress::Progress;
 use recording_head::read_head;
 use std::io::Read;
+use std::ops::ControlFlow;
 use stream::Reader;
 
-// The progress after a read, and whether another is to come.
-#[derive(Clone, Copy)]
-struct Printed {
-    progress: Progress,
-    more: bool,
-}
+// The progress after a read: to go on with where another read is to come, or the last one.
+type Printed = ControlFlow<Progress, Progress>;
 
 // Where a read or a write has failed, no other line follows.
 fn stop(progress: Progress) -> Printed
-    ensures { (result.more ≡ false) × (result.progress ≡ stopped progress) }
+    ensures { result ≡ Break (stopped progress) }
 {
-    let mut last = progress;
-    last.ended = true;
-    Printed {
-        progress: last,
-        more: false,
-    }
+    ControlFlow::Break(Progress {
+        ended: true,
+        ..progress
+    })
 }
 
 // Lists one read's bytes, and writes the lines whenever the output is full, and at the end.
@@ -40,43 +36,36 @@ fn print_part(rt: &HostRuntime, progress: Progress, bytes: &[u8], out: &mut [u8;
 {
     let mut current = progress;
     let mut taken = 0;
+    // No `for`: how many bytes a turn takes, the listing says.
     while taken < bytes.len() {
         let listed = list(current, &bytes[taken..], out);
         current = listed.progress;
         taken += listed.taken;
-        if write_first(rt, out, listed.filled) {
-            continue;
+        if !write_first(rt, out, listed.filled) {
+            return stop(current);
         }
-        return stop(current);
     }
-    let more = !current.ended;
-    Printed {
-        progress: current,
-        more: more,
+    if current.ended {
+        ControlFlow::Break(current)
+    } else {
+        ControlFlow::Continue(current)
     }
 }
 
-// Prints by what one read gave: that it failed, the end of the input, or how many bytes it brought.
+// Prints by what one read gave: that it failed, the end of the input, or the bytes that it brought.
 fn print_result(
     rt: &HostRuntime,
     progress: Progress,
-    got: isize,
-    input: &[u8],
+    got: Option<&[u8]>,
     out: &mut [u8; 65536],
 ) -> Printed
-    ensures { AfterRead progress got input.now result }
+    ensures { AfterRead progress (option_map (λ bytes. bytes.now) got.entry) result }
 {
-    if got < 0 {
-        return stop(progress);
+    match got {
+        None => stop(progress),
+        Some([]) => ControlFlow::Break(progress),
+        Some(bytes) => print_part(rt, progress, bytes, out),
     }
-    if got == 0 {
-        return Printed {
-            progress: progress,
-            more: false,
-        };
-    }
-    let n = io::count(got, input);
-    print_part(rt, progress, &input[..n], out)
 }
 
 fn print_read<R: Read>(
@@ -88,11 +77,11 @@ fn print_read<R: Read>(
     ensures { Reads progress result }
 {
     let mut bytes = [0u8; 65536];
-    let got = read(rt, input, &mut bytes);
-    print_result(rt, progress, got, &bytes, out)
+    let got = read_bytes(rt, input, &mut bytes);
+    print_result(rt, progress, got, out)
 }
 
-// A proved loop has to end, and nothing says that the input does: the reads are counted down from a number that no run uses up.
+// A proved loop has to end, and nothing says that the input does: the reads are counted up to a number that no run reaches.
 fn print_reads<R: Read>(
     rt: &HostRuntime,
     input: &mut R,
@@ -102,13 +91,11 @@ fn print_reads<R: Read>(
     ensures { ReadsAll (running_at reader 0 0) result }
 {
     let mut progress = start(reader);
-    let mut more = true;
-    let mut left = u64::MAX;
-    while 0 < left && more {
-        let printed = print_read(rt, input, progress, out);
-        progress = printed.progress;
-        more = printed.more;
-        left -= 1;
+    for _ in 0..u64::MAX {
+        match print_read(rt, input, progress, out) {
+            ControlFlow::Continue(next) => progress = next,
+            ControlFlow::Break(last) => return last,
+        }
     }
     progress
 }

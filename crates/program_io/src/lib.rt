@@ -106,14 +106,6 @@ pub fn read_bytes<'a, R: Read>(
     }
 }
 
-// The same as a number: how many bytes one read brings, or -1 where it fails.
-pub fn read<R: Read>(rt: &HostRuntime, input: &mut R, bytes: &mut [u8]) -> isize {
-    match read_bytes(rt, input, bytes) {
-        Some(got) => got.len() as isize,
-        None => -1,
-    }
-}
-
 // Reads until the bytes are full, the input ends or a read fails; how many there are.
 pub fn read_full<R: Read>(input: &mut R, bytes: &mut [u8]) -> usize
     ensures { result ≤ length bytes.new }

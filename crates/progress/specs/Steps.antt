@@ -1,5 +1,5 @@
 -- Laws of the counts and of Feeds one after the other.
-use Rattle.std.specs.Prelude.{◌≡◌, refl, Bool, true, false, cond, List, [], ◌∷◌, ◌++◌, ℕ, zero, suc, ◌+◌, ◌<◌, ◌≤◌, ltb}
+use Rattle.std.specs.Prelude.{◌≡◌, refl, Bool, true, false, cond, List, [], ◌∷◌, ◌++◌, ℕ, zero, suc, ◌+◌, ◌<◌, ◌≤◌, min, ltb}
 use Rattle.std.proofs.Common.{sym, ap, ◌∙◌, append_assoc, add-zero, arith, lt-ltb, ltb-true, ltb-false}
 use Rattle.timecode.proofs.Laws.Tests.{by-test}
 use Rattle.timecode.specs.declared.Answer.{Answer}
@@ -23,6 +23,23 @@ more-beyond (suc k) e b h =
     by-test (ltb e 18446744073709551615)
     (λ y. rw y (more-beyond k (suc e) (omega (arith, ltb-true e 18446744073709551615 y)) (omega arith)))
     (λ n. rw n (more-beyond k e b (omega (arith, ltb-false e 18446744073709551615 n))))
+
+-- both in one: a saturating sum
+pub more_is : (k e r : ℕ) → e < 18446744073709551616 → r ≡ min (e + k) 18446744073709551615 → r ≡ more_by k e
+more_is k e r b h =
+    by-test (ltb (e + k) 18446744073709551616)
+    (λ y.
+    let fits : e + k < 18446744073709551616 = ltb-true (e + k) 18446744073709551616 y in
+    let sum : more_by k e ≡ e + k = more_within k e fits in
+    omega arith)
+    (λ n.
+    let past : 18446744073709551615 ≤ e + k = omega (arith, ltb-false (e + k) 18446744073709551616 n) in
+    let end : more_by k e ≡ 18446744073709551615 = more-beyond k e b past in
+    omega arith)
+
+pub one_more_is : (e r : ℕ) → e < 18446744073709551616 → r ≡ min (e + 1) 18446744073709551615 → r ≡ one_more e
+unfolding more_by
+one_more_is e r b h = more_is 1 e r b h
 
 -- ---- lists of Feeds
 

@@ -1,4 +1,5 @@
 // timeread's progress: what one Feed makes of it, and the line of its answer.
+// The lent memory and the place in it stay two parameters: the promises of `put_report` and `feed_one`, which hearing calls, name both.
 #![tactic(auto)]
 
 ghost use Rattle.std.specs.Prelude.{◌≡◌, false, ◌++◌, ◌+◌, ◌≤◌, length, take};
@@ -42,18 +43,13 @@ pub fn progress_at(reader: Reader, elements: u64, reports: u64) -> Progress
 pub fn more_by(count: u64, k: usize) -> u64
     ensures { result ≡ more_by k count }
 {
-    let more = k as u64;
-    if more < u64::MAX - count {
-        count + more
-    } else {
-        u64::MAX
-    }
+    count.saturating_add(k as u64)
 }
 
 pub fn one_more(count: u64) -> u64
     ensures { result ≡ one_more count }
 {
-    if count < u64::MAX { count + 1 } else { count }
+    count.saturating_add(1)
 }
 
 fn advance(progress: Progress, reader: Reader, answer: Answer) -> Progress
@@ -63,21 +59,21 @@ fn advance(progress: Progress, reader: Reader, answer: Answer) -> Progress
     let reports = progress.reports;
     match answer {
         Answer::Quiet => Progress {
-            reader: reader,
+            reader,
             elements: one_more(elements),
-            reports: reports,
+            reports,
             ended: false,
         },
         Answer::Report { .. } => Progress {
-            reader: reader,
+            reader,
             elements: one_more(elements),
             reports: one_more(reports),
             ended: false,
         },
         Answer::Refused(_) => Progress {
-            reader: reader,
-            elements: elements,
-            reports: reports,
+            reader,
+            elements,
+            reports,
             ended: true,
         },
     }

@@ -1,6 +1,6 @@
 -- What fits the code's numbers; the pulses of a list by their index, and what the list call leaves in the lent memory.
 use Rattle.timecode.specs.Answers.{done}
-use Rattle.std.specs.Prelude.{◌≡◌, refl, Bool, true, false, cond, ◌&&◌, List, [], ◌∷◌, map, ℕ, zero, suc, ◌+◌, ◌*◌, ◌-◌, ◌^◌, ◌≤◌, ◌<◌, ltb, ℤ, pos, negsuc, nat_abs, ◌-ℤ◌, get_or, length, Result, Err}
+use Rattle.std.specs.Prelude.{◌≡◌, refl, true, cond, List, [], ◌∷◌, map, ℕ, zero, suc, ◌+◌, ◌*◌, ◌-◌, ◌^◌, ◌≤◌, ◌<◌, ltb, ℤ, pos, negsuc, nat_abs, ◌-ℤ◌, get_or, length, Result, Err}
 use Rattle.std.proofs.Common.{sym, ◌∙◌, not-suc-le-zero, zero-add, mul-le-mul, mul-le-mul_right, le_of_lt, ext_get_or, SFits, to_z, of_z}
 use Rattle.std.proofs.Math.Path.{ap}
 use native.Mathlib.Omega.{arith}

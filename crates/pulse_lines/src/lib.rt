@@ -7,7 +7,7 @@ ghost use Rattle.pulse_lines.specs.PulseLines.{is_blank, is_digit, opens_heading
 
 use arguments::decimal_in;
 
-// What a line says: a pulse, nothing at all, or anything else.
+// What a line says: a pulse, nothing at all, or anything else. Three cases, so no Option.
 #[derive(Clone, Copy, Debug, PartialEq, Eq)]
 pub enum PulseLine {
     Pulse { width: u32, period: u32 },

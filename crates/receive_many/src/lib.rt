@@ -31,13 +31,14 @@ fn push_four(word: u64, first: u8, second: u8, third: u8, fourth: u8) -> u64
 }
 
 // A word with symbols from one index to another pushed.
+// The fours are counted by index and not cut into chunks, as the contract speaks of indexes.
 fn push_all(word: u64, symbols: &[u8], from: usize, to: usize) -> u64
     requires { (from ≤ to) × (to ≤ length symbols.now) × SymbolsBelow symbols.now to }
     ensures { result ≡ push_all word (slice symbols.now from to) }
 {
     let mut newest = word;
-    let mut i = from;
-    while 4 <= to - i {
+    let whole = to - (to - from) % 4;
+    for i in (from..whole).step_by(4) {
         newest = push_four(
             newest,
             symbols[i],
@@ -45,9 +46,8 @@ fn push_all(word: u64, symbols: &[u8], from: usize, to: usize) -> u64
             symbols[i + 2],
             symbols[i + 3],
         );
-        i += 4;
     }
-    for k in i..to {
+    for k in whole..to {
         newest = push(newest, symbols[k]);
     }
     newest
@@ -59,10 +59,10 @@ pub fn push_many(word: u64, symbols: &[u8], from: usize, to: usize) -> u64
     ensures { result ≡ push_all word (slice symbols.now from to) }
 {
     if 32 < to - from {
-        let start = to - 32;
-        return push_all(word, symbols, start, to);
+        push_all(word, symbols, to - 32, to)
+    } else {
+        push_all(word, symbols, from, to)
     }
-    push_all(word, symbols, from, to)
 }
 
 // One or more symbols joined to the frame, so that it has `count`; a word that is full then is copied.

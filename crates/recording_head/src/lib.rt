@@ -2,7 +2,7 @@
 // Nothing beneath says which bytes a read brings, so no contract here can.
 #![tactic(auto)]
 
-use program_io::read;
+use program_io::read_bytes;
 use std::io::Read;
 
 // A read has failed, and standard error says why.
@@ -12,14 +12,8 @@ pub struct ReadFailed;
 // The next byte of the input, or none at its end.
 fn next_byte<R: Read>(rt: &HostRuntime, input: &mut R) -> Result<Option<u8>, ReadFailed> {
     let mut byte = [0u8; 1];
-    let got = read(rt, input, &mut byte);
-    if got < 0 {
-        Err(ReadFailed)
-    } else if got == 0 {
-        Ok(None)
-    } else {
-        Ok(Some(byte[0]))
-    }
+    let got = read_bytes(rt, input, &mut byte).ok_or(ReadFailed)?;
+    Ok(got.first().copied())
 }
 
 // The input's first three bytes, fewer where it ends: they are put into the lent ones.

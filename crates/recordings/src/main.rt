@@ -24,10 +24,7 @@ fn print_recording(rt: &HostRuntime, i: usize) {
 }
 
 fn main(rt: HostRuntime) {
-    let count = argument_count(&rt);
-    let mut i = 1;
-    while i < count {
+    for i in 1..argument_count(&rt) {
         print_recording(&rt, i);
-        i += 1;
     }
 }

@@ -61,7 +61,8 @@ pub fn next_report(reader: Reader, recording: &[u8], from: usize) -> Option<Repo
     None
 }
 
-// A symbol of the recording as it is read: from the front or from the end.
+// A symbol of the recording as it is read: from the front or from the end. It stays a function of an index: the edit backwards_twice
+// halves that index, which no reversed iterator has.
 fn symbol_at(recording: &[u8], backwards: bool, i: usize) -> u8
     requires { i < length recording.now }
     ensures { result ≡ get_or (directed backwards recording.now) i 0 }
@@ -91,8 +92,7 @@ fn count_reports(reader: Reader, recording: &[u8], backwards: bool) -> usize
 pub fn reports_in(format: Format, recording: &[u8], backwards: bool) -> usize
     ensures { result ≡ reports_in format (directed backwards recording.now) }
 {
-    let made = Reader::fresh(format, SETTING);
-    match made {
+    match Reader::fresh(format, SETTING) {
         Ok(reader) => count_reports(reader, recording, backwards),
         Err(_) => 0,
     }

@@ -4,7 +4,7 @@ use Rattle.std.specs.Prelude.{◌≡◌, refl, true, List, [], ◌∷◌, ◌++�
 use Rattle.std.proofs.Common.{ap, subst, ◌∙◌, not-suc-le-zero, arith, length-set, get_or-set_same, get_or-set_other}
 use Rattle.std.proofs.Math.Decide.{ℕ_discrete}
 use Rattle.std.proofs.lemmas.List.{length-replicate, get_or-replicate}
-use Rattle.timecode.specs.Answers.{checks, done}
+use Rattle.timecode.specs.Answers.{checks}
 use Rattle.timecode.specs.Formats.{known}
 use Rattle.timecode.specs.Frames.{usual, step_of, Sent}
 use Rattle.timecode.specs.Stream.{is_setting}

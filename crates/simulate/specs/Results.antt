@@ -1,6 +1,6 @@
 -- The lent lists that pass 26, 3 and 27, the run from frame to frame, and the result of the call.
 use Rattle.timecode.specs.Answers.{done}
-use Rattle.std.specs.Prelude.{◌≡◌, refl, Bool, cond, ◌&&◌, List, [], ◌∷◌, ◌++◌, map, ℕ, zero, suc, ◌+◌, ◌*◌, ◌-◌, ◌<◌, ◌≤◌, eqb, leb, ltb, get_or, length, take, drop, replicate, Result, Ok, Err}
+use Rattle.std.specs.Prelude.{◌≡◌, refl, Bool, ◌&&◌, List, ◌++◌, map, ℕ, zero, suc, ◌+◌, ◌*◌, ◌-◌, ◌<◌, ◌≤◌, eqb, leb, ltb, get_or, length, take, drop, replicate, Result, Ok, Err}
 use Rattle.std.proofs.Common.{sym, ap, subst, ◌∙◌, not-suc-le-zero, mul-le-mul, add-one, arith, leb-true, ltb-true, le-ltb, eqb-true, length-append, length-drop, pow_pos, ext_get_or, get_or-take, get_or-append-add, length-take-le, take_at}
 use Rattle.std.proofs.Math.Bool.{true, false}
 use Rattle.std.proofs.Math.Decide.{dec_lt}
@@ -23,7 +23,7 @@ use Rattle.timecode.specs.declared.Refusal.TheVariants.{WrongLength, InvalidSett
 use Rattle.timecode.specs.declared.Time.{Time}
 use Rattle.simulation.specs.Lent.{start_of, listener_at, listeners_of, ends_fit, are_lists, simulate_lent}
 use Rattle.simulation.proofs.Run.{first-time, control-none, steps-at, length_run}
-use Rattle.simulation.specs.Simulation.{run_of, Listener, heard, counts_of, Simulated, have_settings, are_listeners}
+use Rattle.simulation.specs.Simulation.{run_of, Listener, heard, counts_of, have_settings, are_listeners}
 use Rattle.simulation.specs.declared.Counts.{Counts}
 use Rattle.receive_many.specs.ManySymbols.{SymbolsBelow}
 use Rattle.stream.specs.Feeding.{fresh_reader, made_of}

@@ -1,5 +1,5 @@
 -- The struct's number and counts are those of its answer; a simulation has at most eight listeners and refuses with no index, so the struct leaves out no value.
-use Rattle.std.specs.Prelude.{Bool, true, false, List, [], ◌∷◌, ◌-◌, ℤ, pos, Ok, Err}
+use Rattle.std.specs.Prelude.{Bool, true, false, List, [], ◌∷◌, ℤ, pos, Ok, Err}
 use Rattle.timecode.specs.Answers.{Outcome, success, refusal_result}
 use Rattle.simulation.specs.Simulation.{Simulated}
 use Rattle.simulation.specs.declared.Counts.{Counts}

@@ -1,5 +1,5 @@
 -- Demand 3 with the setting k, of the program's reader: from a fresh reader of any format and setting, the answers to any list of Feeds are the plain machine's.
-use Rattle.std.specs.Prelude.{◌≡◌, ℕ, ◌-◌, ◌%◌, length}
+use Rattle.std.specs.Prelude.{◌≡◌, ℕ, ◌%◌, length}
 use mathlib.Core.List.{List, [], ◌∷◌}
 use Rattle.timecode.specs.Formats.{size}
 use Rattle.timecode.specs.declared.Answer.{Answer}

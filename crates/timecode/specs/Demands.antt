@@ -1,6 +1,6 @@
 -- The demands, stated over the definitions and proved for every format, time, control word, list and length.
 use Rattle.timecode.specs.Answers.{done}
-use Rattle.std.specs.Prelude.{◌≡◌, List, ℕ, ◌-◌, length}
+use Rattle.std.specs.Prelude.{◌≡◌, List, ℕ, length}
 use Rattle.timecode.specs.Formats.{size}
 use Rattle.timecode.specs.Frames.{write_of, write_leaves}
 use Rattle.timecode.specs.declared.Format.{Format}

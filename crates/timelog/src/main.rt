@@ -12,7 +12,7 @@ use program_io::{argument_as, argument_count, tell};
 use version::print_version;
 
 // A log printed, or one made: of reports with their own years, or all with a given year.
-#[derive(Clone, Copy)]
+#[derive(Clone, Copy, Debug, PartialEq, Eq)]
 enum Asked {
     Print,
     Make(Option<u8>),

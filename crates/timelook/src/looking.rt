@@ -26,8 +26,7 @@ fn put_recording(page: &mut Page, format: Format, recording: &[u8], longer: bool
 
 // The place of the first frame that Scan finds.
 fn first_frame(format: Format, recording: &[u8]) -> Option<usize> {
-    let scanned = scan(format, recording, 0);
-    match scanned {
+    match scan(format, recording, 0) {
         Ok(Some(Found { start, .. })) => Some(start),
         _ => None,
     }

@@ -9,30 +9,27 @@ use characters::decode;
 use listing::begin;
 use openings::accepted;
 use output::print_refused;
-use program_io::{print, print_number, read};
+use program_io::{print, print_number, read_bytes};
 use recording_head::read_head;
 use stream::Reader;
 use timecode::Refusal;
 use version::{print_help, print_version};
 
-// So many elements are looked at; a read more is held.
+// So many elements are looked at; a read more is held. The array stands with a count beside it: Decode puts the symbols behind those that
+// are held, into a lent slice, and an ArrayVec lends no room behind its items.
 const MOST: usize = 4_194_304;
 
 // ---- the input
 
 // How many elements are held; none where a read failed. A read of no bytes is the input's end.
-// A proved loop has to end: the reads are counted down from a number that no run uses up.
+// A proved loop has to end: the reads are counted up to a number that no run reaches.
 fn hold(rt: &HostRuntime, recording: &mut [u8; 4259840]) -> Option<usize> {
     let mut count = 0usize;
     for _ in 0..u64::MAX {
         let mut input = [0u8; 65536];
-        let got = read(rt, &mut rt.stdin(), &mut input);
-        if got < 0 {
-            return None;
-        }
-        let bytes = &input[..io::count(got, &input)];
+        let bytes = read_bytes(rt, &mut rt.stdin(), &mut input)?;
         count = count.wrapping_add(decode(bytes, &mut recording[count..]));
-        if got == 0 || MOST < count {
+        if bytes.is_empty() || MOST < count {
             break;
         }
     }

@@ -10,7 +10,7 @@ use command_line::{format_argument, limited_8, limited_32, number_argument};
 use frametext::{character_of, first_line};
 use layout::{frame_size, is_known};
 use output::print_refused;
-use program_io::{argument, argument_count, read, tell, tell_number};
+use program_io::{argument, argument_count, read_bytes, tell, tell_number};
 use pulse::classify;
 use pulse_lines::{PulseLine, is_heading, pulse_line};
 use texts::{Output, WriteFailed};
@@ -239,15 +239,14 @@ impl<'a> Pulses<'a> {
     // Where a read fails, what came before it is written.
     fn take_read(&mut self) -> Result<(), Stop> {
         let mut input = [0u8; 65536];
-        let got = read(self.rt, &mut self.rt.stdin(), &mut input);
-        if got < 0 {
+        let Some(bytes) = read_bytes(self.rt, &mut self.rt.stdin(), &mut input) else {
             self.write_rest()?;
             return Err(Stop::Failed);
-        }
-        if got == 0 {
+        };
+        if bytes.is_empty() {
             return self.take_end();
         }
-        for byte in &input[..io::count(got, &input)] {
+        for byte in bytes {
             self.take_byte(*byte)?;
         }
         Ok(())
@@ -271,7 +270,7 @@ fn print_pulses(rt: &HostRuntime, request: Request) {
     if !request.deviations {
         pulses.out.page.put_bytes(&first_line(request.format));
     }
-    // A proved loop has to end: the reads are counted down from a number that no run uses up.
+    // A proved loop has to end: the reads are counted up to a number that no run reaches.
     for _ in 0..u64::MAX {
         if pulses.take_read().is_err() {
             break;

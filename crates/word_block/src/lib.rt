@@ -65,9 +65,10 @@ fn known_in(symbols: &[u8]) -> usize
     ensures { 16 < length symbols.now → result ≡ accepted_in symbols.now }
 {
     if symbols.len() <= FEW_SYMBOLS {
-        return 0;
+        0
+    } else {
+        accepted(symbols)
     }
-    accepted(symbols)
 }
 
 // The symbol i is refused, or the block has not all of the frame that it makes whole.
@@ -75,10 +76,7 @@ fn is_in_words(symbol: u8, i: usize, n: u64) -> bool
     requires { 1 ≤ n }
     ensures { result ≡ false → (symbol ≤ 3) × (n ≤ i + 1) }
 {
-    if SPOILED < symbol {
-        return true;
-    }
-    i < (n - 1) as usize
+    SPOILED < symbol || i < (n - 1) as usize
 }
 
 // The row with the frame that ends in the block, which is read where it lies: in X in the newest word, which has all of it.
@@ -136,6 +134,7 @@ fn feed_strides(
     let known = known_in(symbols);
     let mut reports = 0;
     let mut i = 0;
+    // No `for`: how many symbols a turn takes, the run says.
     while i < symbols.len() {
         if feed_inside(reader, symbols[i], n) {
             i = feed_run(reader, n, symbols, i + 1, known);
@@ -167,14 +166,7 @@ fn feed_strides(
 fn are_equal(first: usize, second: usize, third: usize, fourth: usize, fifth: usize) -> bool
     ensures { result ≡ (eqb second first && (eqb third first && (eqb fourth first && eqb fifth first))) }
 {
-    if second == first {
-        if third == first {
-            if fourth == first {
-                return fifth == first;
-            }
-        }
-    }
-    false
+    second == first && third == first && fourth == first && fifth == first
 }
 
 // The place is below n, which is 0 where the format is not known. By value, the words are known to be fourteen.
@@ -189,12 +181,9 @@ fn is_placed(words: [u64; 14], n: u64) -> bool
 fn fit_time(reader: &mut [u64; 14])
     ensures { reader.new ≡ time_fitted reader.old }
 {
-    let year = reader[10] % 256;
-    let day = reader[11] % 65536;
-    let hundredths = reader[12] % 4294967296;
-    reader[10] = year;
-    reader[11] = day;
-    reader[12] = hundredths;
+    reader[10] %= 256;
+    reader[11] %= 65536;
+    reader[12] %= 4294967296;
 }
 
 // Feeds a block of symbols. A report is a record of the lent list: the index of its symbol in the block, its year, its day, its

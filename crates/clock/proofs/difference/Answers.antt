@@ -16,11 +16,3 @@ returns-then-in_range-2 c =
     let b = c.total-then-in_range-2.ensures in
     rw (← c.in_range.ensures, c.if-in_range.true, ← c.in_range-then-in_range.ensures, c.if-in_range-2.true)
     (ap Ok (difference-back c.total.result c.total-then-in_range-2.result a.1 b.1 _ c.minus.ensures ∙ ap₂ (λ (u v : ℕ). pos u -ℤ pos v) a.0 b.0 ∙ as-printed first second))
-
-pub returns-else-in_range-2 : goal.returns-else-in_range-2
-unfolding difference_of
-returns-else-in_range-2 c = rw (← c.in_range.ensures, c.if-in_range.true, ← c.in_range-then-in_range.ensures, c.if-in_range-2.false)
-
-pub returns-else-in_range : goal.returns-else-in_range
-unfolding difference_of
-returns-else-in_range c = rw (← c.in_range.ensures, c.if-in_range.false)

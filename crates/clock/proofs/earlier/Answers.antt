@@ -15,12 +15,12 @@ pub returns-then-time-ne0 : goal.returns-then-time-ne0
 unfolding preceding
 returns-then-time-ne0 c = rw (← c.frame_interval-interval.ensures.0, ne_eqb _ _ c.if-time-ne0.true)
 
-pub day_before-day-requires : goal.day_before-day-requires
-day_before-day-requires c = (on-format c.args.format c.args.time c.requires.2 c.requires.0 c.requires.1).first
+pub day_before-requires : goal.day_before-requires
+day_before-requires c = (on-format c.args.format c.args.time c.requires.2 c.requires.0 c.requires.1).first
 
 pub overflow_sub-result-2 : goal.overflow_sub-result-2
 overflow_sub-result-2 c = omega (arith, c.frame_interval-interval.ensures.2, subst (λ (x : ℕ). 8639900 ≤ x) (sym c.day_end.ensures) (day-end-range _ _).0)
 
 pub returns : goal.returns
 unfolding preceding turn_day
-returns c = rw (← c.frame_interval-interval.ensures.0, eq-eqb _ _ c.if-time-ne0.false, ← c.year_of_time_before-year.ensures c.args.format c.carries_year.ensures, ← c.is_x.ensures, ← c.turn_day.ensures, ← c.day_before-day.ensures, ← c.day_end.ensures)
+returns c = rw (← c.frame_interval-interval.ensures.0, eq-eqb _ _ c.if-time-ne0.false, ← c.year_of_time_before.ensures c.args.format c.carries_year.ensures, ← c.is_x.ensures, ← c.turn_day.ensures, ← c.day_before.ensures, ← c.day_end.ensures)

@@ -12,12 +12,12 @@ pub returns-then-hundredths-day_end : goal.returns-then-hundredths-day_end
 unfolding following
 returns-then-hundredths-day_end c = rw (← c.frame_interval.ensures.0, ← c.day_end.ensures, ne_eqb _ _ c.if-hundredths-day_end.true)
 
-pub year_of_day_after-year-requires : goal.year_of_day_after-year-requires
-year_of_day_after-year-requires c = year-below c.args.format c.args.time.year c.requires.2
+pub year_of_day_after-requires : goal.year_of_day_after-requires
+year_of_day_after-requires c = year-below c.args.format c.args.time.year c.requires.2
 
-pub day_after-day-requires : goal.day_after-day-requires
-day_after-day-requires c = (on-format c.args.format c.args.time c.requires.2 c.requires.0 c.requires.1).last
+pub day_after-requires : goal.day_after-requires
+day_after-requires c = (on-format c.args.format c.args.time c.requires.2 c.requires.0 c.requires.1).last
 
 pub returns : goal.returns
 unfolding following turn_day
-returns c = rw (← c.frame_interval.ensures.0, ← c.day_end.ensures, eq-eqb _ _ c.if-hundredths-day_end.false, ← c.year_of_day_after-year.ensures c.args.format c.carries_year.ensures, ← c.is_x.ensures, ← c.turn_day.ensures, ← c.day_after-day.ensures)
+returns c = rw (← c.frame_interval.ensures.0, ← c.day_end.ensures, eq-eqb _ _ c.if-hundredths-day_end.false, ← c.year_of_day_after.ensures c.args.format c.carries_year.ensures, ← c.is_x.ensures, ← c.turn_day.ensures, ← c.day_after.ensures)

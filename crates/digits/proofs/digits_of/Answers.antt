@@ -15,6 +15,7 @@ returns c =
     let w = a.control in
     λ f x same valid.
     let width : c.width.result ≡ get_or (widths_of f) 13 0 = c.width.ensures.0 ∙ ap (λ ws. get_or ws 13 0) same in
-    split-digits f a.time w c.carried-straight.result _ x valid
-    (c.carried-straight.ensures ∙ ap (λ ws. cond (eqb (get_or ws 11 0) 0) 0 (a.time.hundredths / 100)) same)
-    (moved-fits f w c.width.result (subst Widths same c.requires) valid.room c.width.ensures.1 ∙ ap (λ n. w * 2 ^ (9 - n)) width)
+    rw (c.from-year.ensures, c.from-day.ensures, c.from-c.ensures, c.from-added.ensures)
+    (split-digits f a.time w c.carried-straight.result _ x valid
+    (c.carried-straight.ensures ∙ rw c.from-c.ensures (ap (λ ws. cond (eqb (get_or ws 11 0) 0) 0 (a.time.hundredths / 100)) same))
+    (moved-fits f w c.width.result (subst Widths same c.requires) valid.room c.width.ensures.1 ∙ ap (λ n. w * 2 ^ (9 - n)) width))

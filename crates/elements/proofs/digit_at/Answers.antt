@@ -16,6 +16,6 @@ loop-k-preserved c =
     let k = c.loop-k.k in
     let more : w - (k - 1) ≡ suc (w - k) = omega arith in (
       omega arith,
-      value-turn a.frame.now a.start w k c.loop-k.digit (omega arith) (omega arith) c.loop-k.invariant.1,
-      rw more (omega (arith, two-pow-succ (w - k), c.shared_slice_known-1.given (a.start + (k - 1)))),
+      rw c.from.ensures (value-turn a.frame.now a.start w k c.loop-k.digit (omega arith) (omega arith) c.loop-k.invariant.1),
+      rw more (omega (arith, two-pow-succ (w - k), c.from.ensures, c.type_inv.frame (a.start + (k - 1)))),
     )

@@ -1,6 +1,4 @@
 use mathlib.Core.Path.{◌≡◌}
-use Prim.Native.Nat.{◌-◌, ◌≤◌}
-use lib.ListN.{length}
 use Rattle.elements.specs.Stores.{bits_stored}
 use Rattle.elements.proofs.put_ten.Given as goal
 

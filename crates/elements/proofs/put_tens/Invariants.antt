@@ -1,6 +1,4 @@
 use mathlib.Core.Path.{◌≡◌}
-use Prim.Native.Nat.{◌-◌, ◌≤◌}
-use lib.ListN.{length}
 use Rattle.elements.specs.Tens.{tens}
 use Rattle.elements.proofs.put_tens.Given as goal
 

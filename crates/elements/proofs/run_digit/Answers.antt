@@ -1,10 +1,9 @@
 -- `run_digit` meets its contract: 0, or the digit at a run that lies in the frame.
 use mathlib.Core.Path.{◌≡◌, sym, ap, ap₂, ◌∙◌}
-use mathlib.Core.Bool.{true}
 use Prim.Native.Nat.{◌+◌}
 use lib.ListN.{get_or}
 use Rattle.timecode.specs.Layout.{value}
-use Rattle.layout.specs.Tables.{run_starts, is_carried, run_widths}
+use Rattle.layout.specs.Tables.{run_starts, run_widths}
 use Rattle.elements.specs.RunLoops.{run_digit, carried-width, no_digit}
 use Rattle.elements.proofs.run_digit.Goals as goal
 
@@ -20,8 +19,8 @@ digit_at-requires c =
     let run = start.args.run in
     let inside = start.requires.1 in
     let carried = sym c.is_carried.ensures ∙ c.if-not-is_carried.false in
-    let width : get_or (run_widths runs) run 0 ≡ c.to_usize-2.result = carried-width runs run start.requires.2 carried ∙ sym (c.to_usize-2.ensures ∙ ap (λ ws. get_or ws run 0) c.full_widths-widths.ensures) in
-    let at : get_or run_starts run 0 ≡ c.to_usize.result = sym (c.to_usize.ensures ∙ ap (λ ss. get_or ss run 0) start.requires.0) in
+    let width : get_or (run_widths runs) run 0 ≡ c.from-2.result = carried-width runs run start.requires.2 carried ∙ sym (c.from-2.ensures ∙ ap (λ ws. get_or ws run 0) c.full_widths-widths.ensures) in
+    let at : get_or run_starts run 0 ≡ c.from.result = sym (c.from.ensures ∙ ap (λ ss. get_or ss run 0) start.requires.0) in
     (rw (← width) (inside.narrow run), λ k h. rw (← at) (inside.inside run k start.requires.2 (rw (← width) at h)))
 
 pub returns : goal.returns
@@ -31,6 +30,6 @@ returns c =
     let runs = start.args.runs in
     let run = start.args.run in
     let carried = sym c.is_carried.ensures ∙ c.if-not-is_carried.false in
-    let width = c.to_usize-2.ensures ∙ ap (λ ws. get_or ws run 0) c.full_widths-widths.ensures ∙ sym (carried-width runs run start.requires.2 carried) in
-    let at = c.to_usize.ensures ∙ ap (λ ss. get_or ss run 0) start.requires.0 in
+    let width = c.from-2.ensures ∙ ap (λ ws. get_or ws run 0) c.full_widths-widths.ensures ∙ sym (carried-width runs run start.requires.2 carried) in
+    let at = c.from.ensures ∙ ap (λ ss. get_or ss run 0) start.requires.0 in
     c.digit_at.ensures ∙ ap₂ (λ w s. value w (λ b. get_or start.args.frame.now (s + b) 0)) width at

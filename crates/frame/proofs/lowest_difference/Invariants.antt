@@ -1,6 +1,6 @@
 use mathlib.Core.Path.{◌≡◌}
 use Prim.Native.Nat.{◌-◌, ◌≤◌, ◌<◌}
-use lib.ListN.{length, drop}
+use lib.ListN.{drop}
 use Rattle.frame.specs.Offences.{lowest_from, lowest_of, lowest_or}
 use Rattle.frame.proofs.lowest_difference.Given as goal
 

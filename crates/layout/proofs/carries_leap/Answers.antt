@@ -5,4 +5,4 @@ use Rattle.layout.proofs.carries_leap.Goals as goal
 
 pub returns : goal.returns
 unfolding carries_leap carries_year
-returns c = sym (c.row_in-row.ensures 0 refl).leap_is
+returns c = sym (c.row_in.ensures 0 refl).leap_is

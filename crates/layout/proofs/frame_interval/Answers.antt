@@ -8,6 +8,6 @@ pub returns : goal.returns
 unfolding interval row_of carries_year
 returns c =
     let f = c.args.format in
-    let same : interval c.args.format ≡ c.row_in-row.result.interval = (c.row_in-row.ensures 0 refl).interval_is in
+    let same : interval c.args.format ≡ c.row_in.result.interval = (c.row_in.ensures 0 refl).interval_is in
     let range = interval-range f in
     (sym same, rw same at range.0, rw same at range.1)

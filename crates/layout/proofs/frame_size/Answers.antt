@@ -8,6 +8,6 @@ pub returns : goal.returns
 unfolding size row_of carries_year
 returns c =
     let f = c.args.format in
-    let same : size c.args.format ≡ c.row_in-row.result.elements = (c.row_in-row.ensures 0 refl).elements_are in
+    let same : size c.args.format ≡ c.row_in.result.elements = (c.row_in.ensures 0 refl).elements_are in
     let range = size-range f in
     (sym same, rw same at range.0, rw same at range.1)

@@ -4,4 +4,4 @@ use Rattle.layout.specs.Letters.{year-known}
 use Rattle.layout.proofs.is_known.Goals as goal
 
 pub returns-then-carries_year : goal.returns-then-carries_year
-returns-then-carries_year c = sym (year-known c.args.format (sym c.carries_year.ensures ∙ c.if-carries_year.true))
+returns-then-carries_year c = c.if-carries_year.true ∙ sym (year-known c.args.format (sym c.carries_year.ensures ∙ c.if-carries_year.true))

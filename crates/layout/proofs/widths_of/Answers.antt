@@ -12,4 +12,4 @@ unfolding run_widths
 returns c =
     let runs = c.args.runs in
     let n : c.loop-run.run ≡ 20 = omega arith in
-    fill_end c.loop-run.widths (λ j. cond (is_carried runs j) (get_or full_widths j 0) 0) 20 c.loop-run.invariant.1 (rw n at c.loop-run.invariant.2)
+    fill_end c.loop-run.widths (λ j. cond (is_carried runs j) (get_or full_widths j 0) 0) 20 c.loop-run.invariant.0 (rw n at c.loop-run.invariant.1)

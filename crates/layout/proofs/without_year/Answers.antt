@@ -11,6 +11,6 @@ pub returns-then-has_year : goal.returns-then-has_year
 unfolding without_year
 returns-then-has_year c = rw (sym c.has_year.ensures ∙ c.if-has_year.true)
 
-pub returns : goal.returns
+pub returns-else-has_year : goal.returns-else-has_year
 unfolding without_year
-returns c = rw (sym c.has_year.ensures ∙ c.if-has_year.false)
+returns-else-has_year c = rw (sym c.has_year.ensures ∙ c.if-has_year.false)

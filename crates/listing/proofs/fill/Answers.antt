@@ -1,7 +1,6 @@
 -- `fill` meets its contract: the lines of the bytes taken stand in the first places.
 use native.Mathlib.Omega.{arith}
 use mathlib.Core.Path.{refl}
-use Prim.Native.Nat.{◌-◌}
 use Rattle.listing.specs.Parts.{listed_start, listed-turn}
 use Rattle.listing.proofs.fill.Goals as goal
 

@@ -1,9 +1,10 @@
--- `are_low` meets its contract: `all` is the test cycle by cycle.
-use Rattle.std.proofs.Common.{eqb, refl, rules}
-use Rattle.std.proofs.lemmas.List.Recursion.{and_is}
-use Rattle.cycles.specs.Elements.{all_low}
+-- `are_low` meets its contract, cycle by cycle.
+use Rattle.std.proofs.Common.{arith}
+use Rattle.manchester_decode.specs.Decoding.{low-all, low-not}
 use Rattle.manchester_decode.proofs.are_low.Goals as goal
 
+pub returns-then-cycle-ne-LOW : goal.returns-then-cycle-ne-LOW
+returns-then-cycle-ne-LOW c = low-not c.args.cycles.now _ (omega arith) c.if-cycle-ne-LOW.true
+
 pub returns : goal.returns
-unfolding all_low
-returns c = and_is all_low (λ x. eqb x 2) refl (λ _ _. refl) c.args.cycles.now 0 _ (search rules) (search rules)
+returns c = low-all c.args.cycles.now (λ k h. c.loop-cycle.invariant k (omega arith))

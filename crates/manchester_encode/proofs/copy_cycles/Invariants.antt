@@ -1,9 +1,5 @@
-use Prim.Native.Nat.{◌-◌, ◌≤◌}
 use Rattle.manchester_encode.specs.Encoding.{Copied}
 use Rattle.manchester_encode.proofs.copy_cycles.Given as goal
 
 abbrev pub invariant-loop-i : goal.invariant-loop-i
-invariant-loop-i l = (l.i ≤ l.count) × Copied l.levels l.from l.initial.cycles l.cycles l.at l.i
-
-abbrev pub decreases-loop-i : goal.decreases-loop-i
-decreases-loop-i l = l.count - l.i
+invariant-loop-i l = Copied l.levels l.from l.initial.cycles l.cycles l.at l.i

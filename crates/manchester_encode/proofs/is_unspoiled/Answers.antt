@@ -1,11 +1,10 @@
 -- `is_unspoiled` meets its contract: the largest so far and what is left decide.
 use native.Mathlib.Omega.{arith}
-use Prim.Native.Nat.{◌-◌}
-use Rattle.manchester_encode.specs.Encoding.{unspoiled-on, unspoiled-end}
+use Rattle.manchester_encode.specs.Encoding.{larger-of, unspoiled-on, unspoiled-end}
 use Rattle.manchester_encode.proofs.is_unspoiled.Goals as goal
 
-pub loop-i-preserved : goal.loop-i-preserved
-loop-i-preserved c = unspoiled-on c.args.frame.now c.loop-i.i c.loop-i.largest c.larger-largest.result (omega arith) c.larger-largest.ensures c.loop-i.invariant
+pub loop-symbol-preserved : goal.loop-symbol-preserved
+loop-symbol-preserved c = unspoiled-on c.args.frame.now c.loop-symbol.symbol-index c.loop-symbol.largest _ c.loop-symbol-test.true (larger-of _ _ _ c.max-largest.ensures) c.loop-symbol.invariant
 
 pub returns : goal.returns
-returns c = unspoiled-end c.args.frame.now c.loop-i.i c.loop-i.largest (omega arith) c.loop-i.invariant
+returns c = unspoiled-end c.args.frame.now c.loop-symbol.symbol-index c.loop-symbol.largest (omega arith) c.loop-symbol.invariant

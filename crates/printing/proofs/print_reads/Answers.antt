@@ -3,11 +3,11 @@ use Rattle.progress.specs.declared.Progress.{Progress}
 use Rattle.printing.specs.Printing.{reads_nothing, reads_more}
 use Rattle.printing.proofs.print_reads.Goals as goal
 
-pub loop-left-init : goal.loop-left-init
-loop-left-init g c = (([], reads_nothing _), λ t. ap (λ (p : Progress). p.ended) c.start-progress.ensures)
+pub loop-init : goal.loop-init
+loop-init g c = (([], reads_nothing _), ap (λ (p : Progress). p.ended) c.start-progress.ensures)
 
-pub loop-left-preserved : goal.loop-left-preserved
-loop-left-preserved g c = (
-  reads_more _ _ (c.loop-left.invariant.1 c.if-more.true) _ c.loop-left.invariant.0 c.print_read-printed.ensures.0,
-  c.print_read-printed.ensures.1,
-)
+pub loop-preserved : goal.loop-preserved
+loop-preserved g c = (reads_more _ _ c.loop.invariant.1 _ c.loop.invariant.0 c.in-Continue.ensures.0, c.in-Continue.ensures.1)
+
+pub returns-in-Break : goal.returns-in-Break
+returns-in-Break g c = rw c.start-progress.ensures at (reads_more _ _ c.loop.invariant.1 _ c.loop.invariant.0 c.in-Break.ensures)

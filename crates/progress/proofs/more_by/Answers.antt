@@ -1,11 +1,7 @@
 -- `more_by` meets its contract: the count and so many more, or the end of its 64 bits.
-use native.Mathlib.Omega.{arith}
-use mathlib.Core.Path.{sym}
-use Rattle.progress.specs.Steps.{more_within, more-beyond}
+use Rattle.std.proofs.Common.{arith}
+use Rattle.progress.specs.Steps.{more_is}
 use Rattle.progress.proofs.more_by.Goals as goal
 
-pub returns-then-more-count : goal.returns-then-more-count
-returns-then-more-count c = sym (more_within _ _ (omega arith))
-
-pub returns-else-more-count : goal.returns-else-more-count
-returns-else-more-count c = sym (more-beyond _ _ (omega arith) (omega arith))
+pub returns : goal.returns
+returns c = more_is _ _ _ (omega arith) c.saturating_add.ensures

@@ -1,13 +1,7 @@
 -- `one_more` meets its contract.
-use borrow.Author.Tests.{lt-ltb, le-ltb}
-use native.Mathlib.Numerals.{add-one}
-use Rattle.progress.specs.Progress.{one_more}
+use Rattle.std.proofs.Common.{arith}
+use Rattle.progress.specs.Steps.{one_more_is}
 use Rattle.progress.proofs.one_more.Goals as goal
 
-pub returns-then-count-lt18446744073709551615 : goal.returns-then-count-lt18446744073709551615
-unfolding one_more
-returns-then-count-lt18446744073709551615 c = rw (lt-ltb _ _ c.if-count-lt18446744073709551615.true) (add-one _)
-
-pub returns-else-count-lt18446744073709551615 : goal.returns-else-count-lt18446744073709551615
-unfolding one_more
-returns-else-count-lt18446744073709551615 c = rw (le-ltb _ _ c.if-count-lt18446744073709551615.false)
+pub returns : goal.returns
+returns c = one_more_is _ _ (omega arith) c.saturating_add.ensures

@@ -1,4 +1,4 @@
-use Prim.Native.Nat.{◌-◌, ◌≤◌}
+use Prim.Native.Nat.{◌-◌}
 use Rattle.register.specs.Receiving.{SymbolsPut}
 use Rattle.register.proofs.put_symbols.Given as goal
 

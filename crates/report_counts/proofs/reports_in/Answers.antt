@@ -4,8 +4,8 @@ use Rattle.report_counts.proofs.reports_in.Goals as goal
 
 pub returns-in-Ok : goal.returns-in-Ok
 unfolding reports_in
-returns-in-Ok c = rw (← c.fresh-made.ensures, c.in-Ok.is, ← c.count_reports.ensures)
+returns-in-Ok c = rw (← c.in-Ok.ensures, ← c.count_reports.ensures)
 
 pub returns-in-Err : goal.returns-in-Err
 unfolding reports_in
-returns-in-Err c = rw (← c.fresh-made.ensures, c.in-Err.is)
+returns-in-Err c = rw (← c.in-Err.ensures)

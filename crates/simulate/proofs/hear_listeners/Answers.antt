@@ -1,5 +1,4 @@
 -- `hear_listeners` meets its contract.
-use Rattle.std.proofs.lemmas.Result.{err_from_is_err_and}
 use Rattle.simulate.specs.Results.{run-result, made-fresh, made-never-refused}
 use mathlib.Core.Path.{sym, ◌∙◌}
 use Rattle.simulate.proofs.hear_listeners.Goals as goal

@@ -18,7 +18,6 @@ use Rattle.timecode.proofs.Laws.Tests.{by-test}
 use Rattle.timecode.proofs.Laws.Times.{only-day, carried-day, carried-small, time-path, on-format, is-on-format, is_carried, year-small, year-none, year-below, one-added, time-small}
 use Rattle.timecode.specs.Layout.{Run, day_carried, seconds, minutes, hours, days, tenths, hundredths_digit, has_seconds, straight_seconds, control, years, time_fields, fields, flatten, runs, second, minute, hour, time_numbers, numbers, field_digits, all_digits, in_run, is_mark, filler, symbol_at, tabulate, encode, number_in, Small, decode}
 use Rattle.timecode.specs.declared.Format.{Format}
-use Rattle.timecode.specs.declared.Reading.{Reading}
 use Rattle.timecode.specs.declared.Time.{Time}
 
 -- ---- each symbol of a written frame is at most 3

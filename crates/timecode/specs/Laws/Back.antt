@@ -1,5 +1,5 @@
 -- The step back against the step: each undoes the other for every format, time, year length and kind that it takes.
-use Rattle.std.specs.Prelude.{◌≡◌, ◌⊎◌, ℕ, ◌-◌, ◌≤◌, ◌<◌}
+use Rattle.std.specs.Prelude.{◌≡◌, ◌⊎◌, ℕ, ◌≤◌, ◌<◌}
 use Rattle.timecode.specs.Formats.{interval, OnFormat}
 use Rattle.timecode.specs.Frames.{length_in, day_end, following, year_of_time_before, same_day_before, last_before, preceding}
 use Rattle.timecode.specs.declared.Format.{Format}

@@ -1,5 +1,5 @@
 -- A window of its lead and m + 1 frames that is a generator's but at some places: while at most m are damaged it confirms no false time, and undamaged it confirms the last frame's.
-use Rattle.std.specs.Prelude.{◌≡◌, false, List, ℕ, ◌+◌, ◌-◌, ◌<◌, ◌≤◌, length, get_or}
+use Rattle.std.specs.Prelude.{◌≡◌, false, List, ℕ, ◌+◌, ◌<◌, ◌≤◌, length, get_or}
 use Rattle.timecode.specs.Formats.{member}
 use Rattle.timecode.specs.Frames.{Sent, elements}
 use Rattle.timecode.specs.Laws.Windows.{long}

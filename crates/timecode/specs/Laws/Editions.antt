@@ -1,6 +1,6 @@
 -- Frames converted forward and back are the same: each conversion is a frame that Write writes, so Read takes it. All but the elements 50 to 58 stay.
 use Rattle.timecode.specs.Answers.{accepted}
-use Rattle.std.specs.Prelude.{◌≡◌, Bool, true, false, cond, not, ◌&&◌, List, [], ◌∷◌, ℕ, ◌-◌, ◌/◌, ◌%◌, ◌≤◌, eqb, take, drop, replicate}
+use Rattle.std.specs.Prelude.{◌≡◌, Bool, true, false, cond, not, ◌&&◌, List, [], ◌∷◌, ℕ, ◌/◌, ◌%◌, ◌≤◌, eqb, take, drop, replicate}
 use Rattle.timecode.specs.Editions.{with_year, time_in_year, nine_bits}
 use Rattle.timecode.specs.Formats.{known, carries_control, carries_year, last_year, days_in}
 use Rattle.timecode.specs.Frames.{written, total_width, read_of}

@@ -1,5 +1,5 @@
 -- There are generators: of every format, from every time that Write takes, with any control words that it takes, of any length; and each goes on by any step.
-use Rattle.std.specs.Prelude.{List, [], ◌∷◌, ℕ, ◌-◌}
+use Rattle.std.specs.Prelude.{List, [], ◌∷◌, ℕ}
 use Rattle.timecode.specs.Frames.{second_added, following, Sent}
 use Rattle.timecode.specs.Laws.Stepping.{length_for}
 use Rattle.timecode.specs.declared.Format.{Format}

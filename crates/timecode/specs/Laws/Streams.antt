@@ -1,5 +1,5 @@
 -- Whole streams of a generator, joined at any element and damaged at some places: what the plain machine with the setting m + 1 answers to each element.
-use Rattle.std.specs.Prelude.{◌≡◌, false, List, ℕ, ◌+◌, ◌-◌, ◌<◌, ◌≤◌}
+use Rattle.std.specs.Prelude.{◌≡◌, false, List, ℕ, ◌+◌, ◌<◌, ◌≤◌}
 use Rattle.std.proofs.Math.ListN.{get_or, length}
 use Rattle.timecode.specs.Formats.{member}
 use Rattle.timecode.specs.Frames.{Sent, elements}

@@ -1,5 +1,5 @@
 -- The classifier's settings: 5, 5, 5 give document 01's symbols, classes of at most 14 percent never meet, a symbol is given exactly where period and width are in its class, and the deviation is within the setting.
-use Rattle.std.specs.Prelude.{◌≡◌, ℕ, ◌+◌, ◌*◌, ◌-◌, ◌≤◌, get_or}
+use Rattle.std.specs.Prelude.{◌≡◌, ℕ, ◌+◌, ◌*◌, ◌≤◌, get_or}
 use Rattle.timecode.specs.Calls.{classes}
 use Rattle.timecode.specs.declared.WidthClass.{WidthClass}
 use Rattle.timecode.specs.declared.WidthSettings.{WidthSettings}

@@ -2,7 +2,7 @@
 use Rattle.timecode.specs.declared.Refusal.{Refusal}
 use Rattle.timecode.specs.Answers.{accepted}
 use Rattle.std.specs.Prelude.{◌≡◌, true, List, Result, Ok, Err}
-use Prim.Native.Nat.{ℕ, suc, ◌+◌, ◌*◌, ◌-◌, ◌<◌, ◌≤◌}
+use Prim.Native.Nat.{ℕ, suc, ◌+◌, ◌*◌, ◌<◌, ◌≤◌}
 use Rattle.timecode.specs.Formats.{size}
 use Rattle.timecode.specs.Frames.{no_time, Follows, read_of}
 use Rattle.timecode.specs.Stream.{lead, opens, frame_in}

@@ -1,5 +1,5 @@
 -- `put_bytes` meets its contract: as much of the text as there is room for is behind the others.
-use Rattle.std.proofs.Common.{arith, min, sym, ◌≡◌, ◌≤◌, ◌+◌, ◌-◌, ◌∙◌, ap, ℕ, List, take, length, ◌++◌}
+use Rattle.std.proofs.Common.{arith, min, sym, ◌≡◌, ◌+◌, ◌-◌, ◌∙◌, ap, ℕ, List, take, length, ◌++◌}
 use Rattle.std.proofs.lemmas.Slice.{take-put_mid}
 use Rattle.std.proofs.lemmas.List.{length-take-le}
 use Rattle.texts.proofs.Pages.{put-behind}
