@@ -1,9 +1,10 @@
 -- What reading and printing leave of the progress. That a read or a write failed stands in no contract of the C library:
 -- these say what a failure leaves, and not that there was one.
-use Rattle.std.specs.Prelude.{◌≡◌, true, false, List, [], ◌∷◌, ◌++◌, ◌⊎◌, ℕ, ◌≤◌, length, take}
+use Rattle.std.specs.Prelude.{◌≡◌, true, false, List, [], ◌++◌, ◌⊎◌, ℕ, zero, suc, ◌≤◌, length, take, min}
 use Rattle.std.proofs.Common.{refl, sym, ap, ◌∙◌, inl, inr, arith, Option, None, Some, ControlFlow, Continue, Break}
 use Rattle.std.proofs.lemmas.Bool.{false≢true}
 use Rattle.std.proofs.Math.Seq.{take-length}
+use Rattle.std.proofs.lemmas.List.{take_min}
 use Rattle.hearing.specs.Bytes.{after_of, after-parts}
 use Rattle.listing.specs.Parts.{reached-start}
 use Rattle.progress.specs.declared.Progress.{Progress}
@@ -25,11 +26,12 @@ abbrev pub Prints : Progress → List ℕ → Printed → Type 0
 Prints p bytes (Continue q) = Reaches p bytes q × (q.ended ≡ false)
 Prints p bytes (Break q) = Reaches p bytes q × (q.ended ≡ true)
 
--- what a read's result leaves: a failure stops the listing, the end of the input leaves the progress, and bytes are printed
-abbrev pub AfterRead : Progress → Option (List ℕ) → Printed → Type 0
-AfterRead p None r = r ≡ Break (stopped p)
-AfterRead p (Some []) r = r ≡ Break p
-AfterRead p (Some (b ∷ bs)) r = Prints p (b ∷ bs) r
+-- what a read's result leaves: a failure stops the listing, the end of the input leaves the progress, and the first bytes, as many as
+-- the read brought, are printed
+abbrev pub AfterRead : Progress → Option ℕ → List ℕ → Printed → Type 0
+AfterRead p None input r = r ≡ Break (stopped p)
+AfterRead p (Some zero) input r = r ≡ Break p
+AfterRead p (Some (suc k)) input r = Prints p (take (suc k) input) r
 
 -- what all reads leave, whatever they bring
 abbrev pub ReadsAll : Progress → Progress → Type 0
@@ -71,18 +73,18 @@ after-bytes : (p : Progress) (bytes : List ℕ) (r : Printed) → Prints p bytes
 after-bytes p bytes (Continue q) (a, n) = ((bytes, a), n)
 after-bytes p bytes (Break q) (a, n) = (bytes, a)
 
-pub after_read : (p : Progress) (got : Option (List ℕ)) (r : Printed) → AfterRead p got r → Reads p r
-after_read p None (Continue q) e = cc
-after_read p None (Break q) e = ([], reads-failed p q cc)
-after_read p (Some []) (Continue q) e = cc
-after_read p (Some []) (Break q) e = let same : q ≡ p = cc in ([], inl (same ∙ reached-start p []))
-after_read p (Some (b ∷ bs)) r a = after-bytes p (b ∷ bs) r a
+pub after_read : (p : Progress) (got : Option ℕ) (input : List ℕ) (r : Printed) → AfterRead p got input r → Reads p r
+after_read p None input (Continue q) e = cc
+after_read p None input (Break q) e = ([], reads-failed p q cc)
+after_read p (Some zero) input (Continue q) e = cc
+after_read p (Some zero) input (Break q) e = let same : q ≡ p = cc in ([], inl (same ∙ reached-start p []))
+after_read p (Some (suc k)) input r a = after-bytes p (take (suc k) input) r a
 
-module _ (p : Progress) (r : Printed) where
-  pub after-read-failed : (got : Option (List ℕ)) → got ≡ None → r ≡ Break (stopped p) → AfterRead p got r
+module _ (p : Progress) (input : List ℕ) (r : Printed) where
+  pub after-read-failed : (got : Option ℕ) → got ≡ None → r ≡ Break (stopped p) → AfterRead p got input r
   after-read-failed None n e = e
-  after-read-failed (Some bytes) n e = cc
+  after-read-failed (Some k) n e = cc
 
-  pub after-read-bytes : (bytes : List ℕ) → (bytes ≡ [] → ⊥) → Prints p bytes r → AfterRead p (Some bytes) r
-  after-read-bytes [] n a = absurd (n refl)
-  after-read-bytes (b ∷ bs) n a = a
+  pub after-read-bytes : (n : ℕ) → (n ≡ 0 → ⊥) → Prints p (take (min n (length input)) input) r → AfterRead p (Some n) input r
+  after-read-bytes zero n a = absurd (n refl)
+  after-read-bytes (suc k) n a = rw (sym (take_min (suc k) input)) a

@@ -3,14 +3,14 @@
 // or that a call failed.
 #![tactic(auto)]
 
-ghost use Rattle.std.specs.Prelude.{◌≡◌, option_map};
+ghost use Rattle.std.specs.Prelude.{◌≡◌};
 ghost use Rattle.std.proofs.Common.{Break};
 ghost use Rattle.progress.specs.Progress.{running_at};
 ghost use Rattle.printing.specs.Printing.{stopped, Prints, AfterRead, Reads, ReadsAll};
 
 use listing::{begin, finish, list, start};
 use output::{print_refused, write_first};
-use program_io::read_bytes;
+use program_io::read;
 use progress::Progress;
 use recording_head::read_head;
 use std::io::Read;
@@ -52,19 +52,20 @@ fn print_part(rt: &HostRuntime, progress: Progress, bytes: &[u8], out: &mut [u8;
     }
 }
 
-// Prints by what one read gave: that it failed, the end of the input, or the bytes that it brought.
+// Prints by what one read gave: that it failed, the end of the input, or how many bytes it brought.
 fn print_result(
     rt: &HostRuntime,
     progress: Progress,
-    got: Option<&[u8]>,
+    got: Option<usize>,
+    input: &[u8],
     out: &mut [u8; 65536],
 ) -> Printed
-    ensures { AfterRead progress (option_map (λ bytes. bytes.now) got.entry) result }
+    ensures { AfterRead progress got input.now result }
 {
     match got {
         None => stop(progress),
-        Some([]) => ControlFlow::Break(progress),
-        Some(bytes) => print_part(rt, progress, bytes, out),
+        Some(0) => ControlFlow::Break(progress),
+        Some(n) => print_part(rt, progress, &input[..n.min(input.len())], out),
     }
 }
 
@@ -77,8 +78,8 @@ fn print_read<R: Read>(
     ensures { Reads progress result }
 {
     let mut bytes = [0u8; 65536];
-    let got = read_bytes(rt, input, &mut bytes);
-    print_result(rt, progress, got, out)
+    let got = read(rt, input, &mut bytes);
+    print_result(rt, progress, got, &bytes, out)
 }
 
 // A proved loop has to end, and nothing says that the input does: the reads are counted up to a number that no run reaches.

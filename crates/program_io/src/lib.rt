@@ -89,6 +89,19 @@ pub fn write(rt: &HostRuntime, bytes: &[u8]) -> bool {
     }
 }
 
+// How many bytes one read brings, none at the input's end; or nothing where it fails, and standard error says why.
+pub fn read<R: Read>(rt: &HostRuntime, input: &mut R, bytes: &mut [u8]) -> Option<usize>
+    ensures { IfSome result (λ n. n ≤ length bytes.new) }
+{
+    match input.read(bytes) {
+        Ok(n) => Some(n),
+        Err(error) => {
+            fail(rt, b"input", error);
+            None
+        }
+    }
+}
+
 // The bytes that one read brings, none at the input's end; or nothing where it fails, and standard error says why.
 pub fn read_bytes<'a, R: Read>(
     rt: &HostRuntime,
@@ -97,13 +110,8 @@ pub fn read_bytes<'a, R: Read>(
 ) -> Option<&'a [u8]>
     ensures { IfSome result (λ got. length got.now ≤ length bytes.old) }
 {
-    match input.read(bytes) {
-        Ok(n) => Some(&bytes[..n]),
-        Err(error) => {
-            fail(rt, b"input", error);
-            None
-        }
-    }
+    let n = read(rt, input, bytes)?;
+    Some(&bytes[..n])
 }
 
 // Reads until the bytes are full, the input ends or a read fails; how many there are.

@@ -3,4 +3,4 @@ use Rattle.printing.specs.Printing.{after_read}
 use Rattle.printing.proofs.print_read.Goals as goal
 
 pub returns : goal.returns
-returns g c = after_read _ _ _ c.print_result.ensures
+returns g c = after_read _ _ _ _ c.print_result.ensures
