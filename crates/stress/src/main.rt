@@ -2,12 +2,15 @@
 // checksum over its reports. The expected lines are from an independent plain version of the rules in another language.
 #![tactic(auto)]
 
+ghost use Rattle.std.specs.Prelude.{◌≡◌};
+ghost use Rattle.stream.specs.Feeding.{feed_of};
+
 use clock::step;
 use frame::write;
 use layout::{frame_interval, frame_size};
 use program_io::{print, print_number};
 use register::Register;
-use stream::{Reader, feed_in_place};
+use stream::{Fed, Reader, feed_in_place};
 use timecode::{Answer, Format, MARK, ONE, SPOILED, Time, ZERO};
 
 // The letter and the expression of each format.
@@ -65,6 +68,18 @@ fn with_report(sum: u64, elements: u64, time: Time, control: u64) -> u64 {
     folded(sum, control)
 }
 
+// Feeds one symbol in place, as the recorder has it: to a reader of its own, which is given on with the answer.
+fn feed_one(reader: Reader, symbol: u8) -> Fed
+    ensures { result ≡ feed_of reader symbol }
+{
+    let mut own = reader;
+    let answer = feed_in_place(&mut own, symbol);
+    Fed {
+        reader: own,
+        answer,
+    }
+}
+
 // The reader, and what it has answered so far.
 #[derive(Clone, Copy)]
 struct Tally {
@@ -95,10 +110,10 @@ impl Tally {
         }
     }
 
-    // Feeds one symbol in place, as the recorder has it.
     fn receive(&mut self, symbol: u8) {
-        let answer = feed_in_place(&mut self.reader, symbol);
-        match answer {
+        let fed = feed_one(self.reader, symbol);
+        self.reader = fed.reader;
+        match fed.answer {
             Answer::Quiet => self.elements = self.elements.wrapping_add(1),
             Answer::Report { time, control } => {
                 self.elements = self.elements.wrapping_add(1);
