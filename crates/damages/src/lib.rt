@@ -9,7 +9,7 @@ use arguments::decimal_in;
 use timecode::{MARK, ONE, SPOILED, ZERO};
 
 // How many damages a run has at most.
-const MOST: usize = 16_384;
+pub const MOST: usize = 16_384;
 
 // 2^33: what a random number is divided by, since its high bits are the better ones.
 const HIGH: u64 = 8_589_934_592;
@@ -24,7 +24,7 @@ pub struct Damages {
 }
 
 impl Damages {
-    fn none() -> Self {
+    pub fn none() -> Self {
         Damages {
             numbers: [0; MOST],
             symbols: [0; MOST],
@@ -78,14 +78,13 @@ fn damage_in(line: &[u8]) -> Option<(u64, u8)> {
     }
 }
 
-// The damages of a text; nothing where a line is malformed or there are too many.
-pub fn damages_in(text: &[u8]) -> Option<Damages> {
-    let mut damages = Damages::none();
+// Adds the damages of a text; nothing where a line is malformed or there are too many. The lists are lent, since they are long.
+pub fn damages_in(text: &[u8], damages: &mut Damages) -> Option<()> {
     for line in text.split_inclusive(|byte| *byte == b'\n') {
         let (number, symbol) = damage_in(line.strip_suffix(b"\n").unwrap_or(line))?;
         damages.add(number, symbol)?;
     }
-    Some(damages)
+    Some(())
 }
 
 // Random numbers that follow from a seed.
@@ -114,18 +113,17 @@ impl Random {
     }
 }
 
-// Random symbols, each of the four as often, in the place of about one element in `times`; nothing where there are too many, or `times` is 0.
-pub fn scattered(elements: u64, times: u64, seed: u64) -> Option<Damages> {
+// Adds random symbols, each of the four as often, in the place of about one element in `times`; nothing where there are too many, or `times` is 0.
+pub fn scattered(elements: u64, times: u64, seed: u64, damages: &mut Damages) -> Option<()> {
     if times == 0 {
         return None;
     }
     let mut random = Random::from_seed(seed);
-    let mut damages = Damages::none();
     for number in 1..=elements {
         if random.draw() % times == 0 {
             let symbol = (random.draw() % 4) as u8;
             damages.add(number, symbol)?;
         }
     }
-    Some(damages)
+    Some(())
 }

@@ -96,31 +96,32 @@ fn print_table(rt: &HostRuntime, request: Request, damages: &Damages) {
 }
 
 // Damages from standard input. Where it fills the buffer, more may follow, and there is no room for so many lines.
-fn damages_read(rt: &HostRuntime) -> Option<Damages> {
+fn damages_read(rt: &HostRuntime, damages: &mut Damages) -> Option<()> {
     let mut text = [0u8; 65536];
     let n = read_full(&mut rt.stdin(), &mut text);
     if n == text.len() {
         return None;
     }
-    damages_in(&text[..n])
+    damages_in(&text[..n], damages)
 }
 
-fn damages_scattered(rt: &HostRuntime, request: Request) -> Option<Damages> {
+fn damages_scattered(rt: &HostRuntime, request: Request, damages: &mut Damages) -> Option<()> {
     let times = number_argument(rt, 7)?;
     let seed = number_argument(rt, 8)?;
     let elements = u64::from(request.frames) * frame_size(request.format) as u64;
-    scattered(elements, times, seed)
+    scattered(elements, times, seed, damages)
 }
 
 // Nothing where the arguments or the damages are malformed.
 fn try_settings(rt: &HostRuntime) -> Option<()> {
     let count = argument_count(rt);
     let request = asked_for(rt, count)?;
-    let damages = match count {
-        0..=7 => damages_read(rt)?,
-        9 => damages_scattered(rt, request)?,
+    let mut damages = Damages::none();
+    match count {
+        0..=7 => damages_read(rt, &mut damages)?,
+        9 => damages_scattered(rt, request, &mut damages)?,
         _ => return None,
-    };
+    }
     print_table(rt, request, &damages);
     Some(())
 }
