@@ -55,8 +55,15 @@ fn hundredths_in(clock: &[u8; 11]) -> Option<u32> {
     Some(((hour * 60 + minute) * 60 + second) * 100 + hundredth)
 }
 
-// The report of a line without its newline. Every part is read, and then the line that they make is compared.
-pub fn report_in(text: &[u8]) -> Option<Report> {
+// A line's first number, and a report with that year and what else the line says.
+#[derive(Clone, Copy, PartialEq, Eq)]
+pub struct LineRead {
+    pub number: u64,
+    pub report: Report,
+}
+
+// The report of a line without its newline; nothing for any other line. Every part is read, and then the line that they make is compared.
+pub fn report_in(text: &[u8]) -> Option<LineRead> {
     let (first, behind) = text.split_last_chunk::<BEHIND>()?;
     let number = decimal_in(first)?;
     let report = Report {
@@ -71,7 +78,7 @@ pub fn report_in(text: &[u8]) -> Option<Report> {
     let mut line = [0u8; 64];
     let filled = report_line(&mut line, number, report.time, report.control);
     if filled == text.len() + 1 && line.starts_with(text) {
-        Some(report)
+        Some(LineRead { number, report })
     } else {
         None
     }

@@ -16,17 +16,18 @@ fn next_byte<R: Read>(rt: &HostRuntime, input: &mut R) -> Result<Option<u8>, Rea
     Ok(got.first().copied())
 }
 
-// The input's first three bytes, fewer where it ends: they are put into the lent ones.
+// The input's first three bytes, fewer where it ends or no more are lent: they are put into the lent ones.
 pub fn read_head<'a, R: Read>(
     rt: &HostRuntime,
     input: &mut R,
-    head: &'a mut [u8; 3],
+    head: &'a mut [u8],
 ) -> Result<&'a [u8], ReadFailed> {
-    for i in 0..3 {
+    let most = head.len().min(3);
+    for i in 0..most {
         let Some(byte) = next_byte(rt, input)? else {
             return Ok(&head[..i]);
         };
         head[i] = byte;
     }
-    Ok(head)
+    Ok(&head[..most])
 }

@@ -112,7 +112,7 @@ impl<'a> Making<'a> {
         let read = report_in(self.line.as_slice());
         self.line.clear();
         match read {
-            Some(report) => self.add_report(self.dated(report)),
+            Some(line) => self.add_report(self.dated(line.report)),
             None => {
                 self.tell_other();
                 None
