@@ -6,11 +6,11 @@ use Rattle.std.proofs.Math.Seq.{take-length}
 use Rattle.timecode.proofs.Laws.Tests.{by-test}
 use Rattle.arguments.specs.Numbers.{digit_of, are_digit_bytes, value_from, last, limited, number_of}
 
-limited-small : (v : ℕ) → v ≤ last → v ≡ limited v
+pub limited-small : (v : ℕ) → v ≤ last → v ≡ limited v
 unfolding limited
 limited-small v h = rw (le-leb v last h)
 
-limited-large : (v : ℕ) → last < v → last ≡ limited v
+pub limited-large : (v : ℕ) → last < v → last ≡ limited v
 unfolding limited
 limited-large v h = rw (lt-leb v last h)
 

@@ -218,10 +218,10 @@ all_set M frame cycles i at h a l e =
 
 -- ---- no symbol above 2
 
-larger-second : (a b : ℕ) → a < b → leb b 2 ≡ (leb a 2 && leb b 2)
+pub larger-second : (a b : ℕ) → a < b → leb b 2 ≡ (leb a 2 && leb b 2)
 larger-second a b h = by-test (leb b 2) (λ y. let le = leb-true b 2 y in rw (y, le-leb a 2 (omega arith))) (λ n. by-test (leb a 2) (λ y. rw (n, y)) (λ m. rw (n, m)))
 
-larger-first : (a b : ℕ) → b ≤ a → leb a 2 ≡ (leb a 2 && leb b 2)
+pub larger-first : (a b : ℕ) → b ≤ a → leb a 2 ≡ (leb a 2 && leb b 2)
 larger-first a b h = by-test (leb a 2) (λ y. let le = leb-true a 2 y in rw (y, le-leb b 2 (omega arith))) (λ n. rw n)
 
 pub larger-of : (a b m : ℕ) → m ≡ max a b → leb m 2 ≡ (leb a 2 && leb b 2)
