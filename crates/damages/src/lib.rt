@@ -2,10 +2,11 @@
 // They come from a text with a line for each, or are scattered over the run by a seed.
 #![tactic(auto)]
 
-ghost use Rattle.std.specs.Prelude.{◌≡◌, ◌≤◌, length};
+ghost use Rattle.std.specs.Prelude.{◌≡◌, ◌≤◌, ℕ, List, [], length, take};
 ghost use Rattle.characters.specs.ByteSymbols.{symbol_of_byte};
 
 use arguments::decimal_in;
+use std::marker::Model;
 use timecode::{MARK, ONE, SPOILED, ZERO};
 
 // How many damages a run has at most.
@@ -14,17 +15,26 @@ pub const MOST: usize = 16_384;
 // 2^33: what a random number is divided by, since its high bits are the better ones.
 const HIGH: u64 = 8_589_934_592;
 
-// Numbers and symbols stand in two lists, since a simulation takes them so.
+// Numbers and symbols stand in two lists, since a simulation takes them so: two of one length, in which a contract sees what is filled.
 #[derive(Drop)]
 pub struct Damages {
     numbers: [u64; MOST],
     symbols: [u8; MOST],
     count: usize,
-    ghost within: { count ≤ 16384 },
+}
+
+impl Model for Damages {
+    ghost Value = { List ℕ × List ℕ };
+
+    ghost view = { λ d. (take d.count d.numbers, take d.count d.symbols) };
+
+    ghost invariant = { λ d. d.count ≤ 16384 };
 }
 
 impl Damages {
-    pub fn none() -> Self {
+    pub fn none() -> Self
+        ensures { result ≡ ([], []) }
+    {
         Damages {
             numbers: [0; MOST],
             symbols: [0; MOST],
@@ -44,13 +54,13 @@ impl Damages {
     }
 
     pub fn numbers(&self) -> &[u64]
-        ensures { length result.now ≤ 16384 }
+        ensures { (result.now ≡ self.now.0) × (length result.now ≤ 16384) }
     {
         &self.numbers[..self.count]
     }
 
     pub fn symbols(&self) -> &[u8]
-        ensures { length result.now ≤ 16384 }
+        ensures { (result.now ≡ self.now.1) × (length result.now ≡ length self.now.0) }
     {
         &self.symbols[..self.count]
     }
