@@ -6,8 +6,8 @@ mod making;
 mod printing;
 
 use arguments::decimal_in;
-use making::Making;
-use printing::Printing;
+use making::make_log;
+use printing::print_log;
 use program_io::{argument_as, argument_count, tell};
 use version::print_version;
 
@@ -42,8 +42,8 @@ fn main(rt: HostRuntime) {
         return;
     }
     match asked_for(&rt) {
-        Some(Asked::Print) => Printing::new(&rt).print(),
-        Some(Asked::Make(year)) => Making::new(&rt, year).make(),
+        Some(Asked::Print) => print_log(&rt),
+        Some(Asked::Make(year)) => make_log(&rt, year),
         None => tell(
             &rt,
             b"usage: timelog < LOG, or timelog make [YEAR] < LINES > LOG\n",

@@ -14,12 +14,12 @@ use timecode::{Refusal, Time};
 // The year of all reports, or none where each has its own; the open line, and how many lines were before it; and the
 // output, with the next place in it and the last report put in.
 #[derive(Drop)]
-pub struct Making<'a> {
+struct Making<'a> {
     rt: &'a HostRuntime,
     year: Option<u8>,
     line: ArrayVec<u8, 64>,
     lines: u64,
-    out: [u8; 65536],
+    out: &'a mut [u8; 65536],
     place: usize,
     last: Report,
 }
@@ -30,13 +30,13 @@ fn is_last(line: &[u8]) -> bool {
 }
 
 impl<'a> Making<'a> {
-    pub fn new(rt: &'a HostRuntime, year: Option<u8>) -> Self {
+    fn new(rt: &'a HostRuntime, year: Option<u8>, out: &'a mut [u8; 65536]) -> Self {
         Making {
             rt,
             year,
             line: ArrayVec::new(),
             lines: 0,
-            out: [0; 65536],
+            out,
             place: 0,
             last: no_report(),
         }
@@ -78,10 +78,12 @@ impl<'a> Making<'a> {
 
     // Where the output has no room for the record, what is in it is written first, and the record then fits at its start.
     fn add_from_start(&mut self, report: Report) -> Option<()> {
-        if !write_first(self.rt, &mut self.out, self.place) {
+        let place = self.place;
+        if !write_first(self.rt, self.out, place) {
             return None;
         }
-        let written = write_report(&mut self.out, 0, self.last, report);
+        let last = self.last;
+        let written = write_report(self.out, 0, last, report);
         match written {
             Ok(Some(next)) => self.put_in(next, report),
             Ok(None) => None,
@@ -93,7 +95,9 @@ impl<'a> Making<'a> {
     }
 
     fn add_report(&mut self, report: Report) -> Option<()> {
-        let written = write_report(&mut self.out, self.place, self.last, report);
+        let place = self.place;
+        let last = self.last;
+        let written = write_report(self.out, place, last, report);
         match written {
             Ok(Some(next)) => self.put_in(next, report),
             Ok(None) => self.add_from_start(report),
@@ -144,15 +148,18 @@ impl<'a> Making<'a> {
         }
         Some(())
     }
+}
 
-    pub fn make(mut self) {
-        // A proved loop has to end: the reads are counted up to a number that no run reaches.
-        for _ in 0..u64::MAX {
-            if self.make_read().is_none() {
-                break;
-            }
+// The output is lent to the struct: one that holds it is moved, and takes its room on the stack twice.
+pub fn make_log(rt: &HostRuntime, year: Option<u8>) {
+    let mut out = [0; 65536];
+    let mut making = Making::new(rt, year, &mut out);
+    // A proved loop has to end: the reads are counted up to a number that no run reaches.
+    for _ in 0..u64::MAX {
+        if making.make_read().is_none() {
+            break;
         }
-        let place = self.place;
-        write_first(self.rt, &mut self.out, place);
     }
+    let place = making.place;
+    write_first(rt, making.out, place);
 }

@@ -1,11 +1,11 @@
 // The log on standard input printed: its bytes are held in a buffer and read on whenever the next record may not be whole.
 // A method gives nothing where no more is to be printed.
-ghost use Rattle.std.specs.Prelude.{◌≤◌};
+ghost use Rattle.std.specs.Prelude.{◌≤◌, length};
 
 use arrayvec::ArrayVec;
 use log_lines::{log_line, no_report};
 use log_read::read_report;
-use program_io::{print, print_number, read_bytes, write};
+use program_io::{print, print_number, read, write};
 use refusals::number_of;
 use report_log::{Record, Report};
 use std::num::wrapping_add_u64;
@@ -19,23 +19,23 @@ const LONGEST_LINE: usize = 64;
 // The bytes of the log that are held, how many they are, the place among them, and how many stood before them; the lines
 // that are not yet written; and the last report and how many there were.
 #[derive(Drop)]
-pub struct Printing<'a> {
+struct Printing<'a> {
     rt: &'a HostRuntime,
-    log: [u8; 65536],
+    log: &'a mut [u8],
     held: usize,
     place: usize,
     gone: u64,
     out: ArrayVec<u8, 65536>,
     last: Report,
     reports: u64,
-    ghost within: { (place ≤ held) × (held ≤ 65536) },
+    ghost within: { (place ≤ held) × (held ≤ length log.now) },
 }
 
 impl<'a> Printing<'a> {
-    pub fn new(rt: &'a HostRuntime) -> Self {
+    fn new(rt: &'a HostRuntime, log: &'a mut [u8]) -> Self {
         Printing {
             rt,
-            log: [0; 65536],
+            log,
             held: 0,
             place: 0,
             gone: 0,
@@ -139,9 +139,10 @@ impl<'a> Printing<'a> {
 
     // Lists what one read brought.
     fn print_read(&mut self) -> Option<()> {
-        let got = read_bytes(self.rt, &mut self.rt.stdin(), &mut self.log[self.held..]).map(
-            |bytes| bytes.len(),
-        );
+        let rt = self.rt;
+        let held = self.held;
+        let log = &mut *self.log;
+        let got = read(rt, &mut rt.stdin(), &mut log[held..]);
         let Some(count) = got else {
             self.write_lines();
             return None;
@@ -155,13 +156,16 @@ impl<'a> Printing<'a> {
         self.move_rest();
         Some(())
     }
+}
 
-    pub fn print(mut self) {
-        // A proved loop has to end: the reads are counted up to a number that no run reaches.
-        for _ in 0..u64::MAX {
-            if self.print_read().is_none() {
-                break;
-            }
+// The buffer is lent to the struct: one that holds it is moved, and takes its room on the stack twice.
+pub fn print_log(rt: &HostRuntime) {
+    let mut log = [0; 65536];
+    let mut printing = Printing::new(rt, &mut log);
+    // A proved loop has to end: the reads are counted up to a number that no run reaches.
+    for _ in 0..u64::MAX {
+        if printing.print_read().is_none() {
+            break;
         }
     }
 }
