@@ -60,7 +60,7 @@ impl Damages {
     }
 
     pub fn symbols(&self) -> &[u8]
-        ensures { (result.now ≡ self.now.1) × (length result.now ≡ length self.now.0) }
+        ensures { (result.now ≡ self.now.1) × (length result.now ≡ length self.now.0) × (length result.now ≤ 16384) }
     {
         &self.symbols[..self.count]
     }
