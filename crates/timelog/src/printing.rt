@@ -1,6 +1,6 @@
 // The log on standard input printed: its bytes are held in a buffer and read on whenever the next record may not be whole.
 // A method gives nothing where no more is to be printed.
-ghost use Rattle.std.specs.Prelude.{◌≤◌, length};
+ghost use Rattle.std.specs.Prelude.{◌≡◌, ◌≤◌, length};
 
 use arrayvec::ArrayVec;
 use log_lines::{log_line, no_report};
@@ -28,11 +28,11 @@ struct Printing<'a> {
     out: ArrayVec<u8, 65536>,
     last: Report,
     reports: u64,
-    ghost within: { (place ≤ held) × (held ≤ length log.now) },
+    ghost within: { (place ≤ held) × (held ≤ length log.now) × (length log.now ≡ 65536) },
 }
 
 impl<'a> Printing<'a> {
-    fn new(rt: &'a HostRuntime, log: &'a mut [u8]) -> Self {
+    fn new(rt: &'a HostRuntime, log: &'a mut [u8; 65536]) -> Self {
         Printing {
             rt,
             log,
